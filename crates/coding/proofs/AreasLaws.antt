@@ -1,0 +1,158 @@
+-- Laws of columns written into areas.
+use mathlib.Core.Path.{_≡_, refl, sym, ap, _∙_}
+use mathlib.Core.List.{List}
+use Prim.Native.Nat.{ℕ, zero, suc, _+_, _-_, _*_, _/_, _%_, _<_, _≤_}
+use native.Mathlib.Nat.{not-suc-le-zero, mul-le-mul-right, mul-add-div-right, div-add-mod', mod-lt, add-zero, zero-add, div-eq-of-lt}
+use native.Mathlib.Decide.{decLt, ℕ-discrete}
+use native.Mathlib.Omega.{arith}
+use lib.ListN.{length, getD}
+use lib.Seq.{paste, length-paste, ext-getD}
+use Rattle.coding.specs.Areas.{Columns}
+use Rattle.coding.proofs.BytesLaws.{stride, paste-in, paste-before, paste-after}
+
+pub columns-none : (F j m : ℕ) (v : ℕ → ℕ → ℕ) (t : List ℕ) → Columns 0 F j m v t t
+columns-none F j m v t =
+    record { same = refl; inside = λ i l h. absurd (not-suc-le-zero h); outside = λ q h. refl }
+
+pub columns-empty : (n F j : ℕ) (v : ℕ → ℕ → ℕ) (t : List ℕ) → Columns n F j 0 v t t
+columns-empty n F j v t =
+    record { same = refl; inside = λ i l hi h. absurd (not-suc-le-zero h); outside = λ q h. refl }
+
+-- areas before another one end where it starts
+below-area : (i i′ F : ℕ) → i < i′ → i * F + F ≤ i′ * F
+below-area i i′ F h =
+    let b : i + 1 ≤ i′ = omega arith in omega (arith, stride i F, mul-le-mul-right F b)
+
+module _ (n F j m : ℕ) (v : ℕ → ℕ → ℕ) (t u : List ℕ) (c : Columns n F j m v t u) (fits : j + m ≤ F) where
+  -- the next area is still as it was
+  pub columns-kept : (l : ℕ) → l < m → getD u (n * F + (j + l)) 0 ≡ getD t (n * F + (j + l)) 0
+  columns-kept l h = c .outside (n * F + (j + l)) (λ i l′ hi hl e. omega (arith, below-area i n F hi))
+
+  -- one area more
+  pub columns-more : (s : List ℕ) → m ≤ length s → n * F + j + m ≤ length t → ((l : ℕ) → l < m → getD s l 0 ≡ v n l)
+      → Columns (n + 1) F j m v t (paste u (n * F + j) s m)
+  columns-more s hs ht hv =
+      let hu : n * F + j + m ≤ length u = rw (c .same) ht in
+      let at = n * F + j in
+      record {
+        same = length-paste u at s m hu hs ∙ c .same;
+        inside = λ i l hi hl. go-in i l hl hu (decLt i n) (omega arith);
+        outside = λ q h. go-out q hu h (decLt q at) (decLt q (at + m));
+      }
+    where
+      go-in : (i l : ℕ) → l < m → n * F + j + m ≤ length u → Dec (i < n) → i ≤ n → getD (paste u (n * F + j) s m) (i * F + (j + l)) 0 ≡ v i l
+      go-in i l hl hu (yes h) hi =
+          paste-before u (n * F + j) s m 0 hu hs (i * F + (j + l)) (omega (arith, below-area i n F h)) ∙ c .inside i l h hl
+      go-in i l hl hu (no h) hi =
+          let e : i ≡ n = omega arith in
+          let f : n * F + (j + l) ≡ n * F + j + l = omega arith in rw (e, f) (paste-in u (n * F + j) s m 0 hu hs l hl ∙ hv l hl)
+
+      go-out : (q : ℕ) → n * F + j + m ≤ length u
+          → ((i l : ℕ) → i < n + 1 → l < m → q ≡ i * F + (j + l) → ⊥)
+          → Dec (q < n * F + j) → Dec (q < n * F + j + m) → getD (paste u (n * F + j) s m) q 0 ≡ getD t q 0
+      go-out q hu h (yes a) b =
+          paste-before u (n * F + j) s m 0 hu hs q a ∙ c .outside q (λ i l hi hl. h i l (omega arith) hl)
+      go-out q hu h (no a) (yes b) =
+          absurd (h n (q - (n * F + j)) (omega arith) (omega arith) (omega arith))
+      go-out q hu h (no a) (no b) =
+          paste-after u (n * F + j) s m 0 hu hs q (omega arith) ∙ c .outside q (λ i l hi hl. h i l (omega arith) hl)
+
+-- the same columns written again
+pub columns-again : (n F j m : ℕ) (v w : ℕ → ℕ → ℕ) (r t u : List ℕ) → Columns n F j m v r t → Columns n F j m w t u → Columns n F j m w r u
+columns-again n F j m v w r t u a b =
+    record {
+      same = b .same ∙ a .same;
+      inside = b .inside;
+      outside = λ q h. b .outside q h ∙ a .outside q h;
+    }
+
+pub columns-stay : (n F j m : ℕ) (v : ℕ → ℕ → ℕ) (t u : List ℕ) → Columns n F j m v t u → Columns n F j m v u u
+columns-stay n F j m v t u c = record { same = refl; inside = c .inside; outside = λ q h. refl }
+
+-- columns that follow those written
+pub columns-join : (n F j m : ℕ) (v w : ℕ → ℕ → ℕ) (r t u : List ℕ) → j + m ≤ F → ((i l : ℕ) → w i l ≡ v i (j + l))
+    → Columns n F 0 j v r t → Columns n F j m w t u → Columns n F 0 (j + m) v r u
+columns-join n F j m v w r t u fits e a b =
+    record {
+      same = b .same ∙ a .same;
+      inside = λ i l hi hl. go-in i l hi hl (decLt l j);
+      outside = λ q h.
+          b .outside q (λ i l hi hl z. h i (j + l) hi (omega arith) (omega arith))
+          ∙ a .outside q (λ i l hi hl z. h i l hi (omega arith) z);
+    }
+  where
+    apart : (i l i′ l′ : ℕ) → l < j → l′ < m → Dec (i < i′) → Dec (i′ < i) → i * F + (0 + l) ≡ i′ * F + (j + l′) → ⊥
+    apart i l i′ l′ hl hl′ (yes p) q z = omega (arith, below-area i i′ F p)
+    apart i l i′ l′ hl hl′ (no p) (yes q) z = omega (arith, below-area i′ i F q)
+    apart i l i′ l′ hl hl′ (no p) (no q) z =
+        let s : i ≡ i′ = omega arith in
+        let y : i * F + (0 + l) ≡ i * F + (j + l′) = z ∙ ap (λ (x : ℕ). x * F + (j + l′)) (sym s) in omega arith
+
+    go-in : (i l : ℕ) → i < n → l < j + m → Dec (l < j) → getD u (i * F + (0 + l)) 0 ≡ v i l
+    go-in i l hi hl (yes h) =
+        b .outside (i * F + (0 + l)) (λ i′ l′ hi′ hl′. apart i l i′ l′ h hl′ (decLt i i′) (decLt i′ i)) ∙ a .inside i l hi h
+    go-in i l hi hl (no h) =
+        let z : i * F + (0 + l) ≡ i * F + (j + (l - j)) = omega arith in
+        let y : j + (l - j) ≡ l = omega arith in
+        ap (λ (x : ℕ). getD u x 0) z ∙ b .inside i (l - j) hi (omega arith) ∙ e i (l - j) ∙ ap (v i) y
+
+-- the columns fix the list
+pub columns-unique : (n F m : ℕ) (v : ℕ → ℕ → ℕ) (t u w : List ℕ) → 0 < F → m ≤ F → Columns n F 0 m v t u → Columns n F 0 m v t w → u ≡ w
+columns-unique n F m v t u w pos fits a b =
+    ext-getD 0 u w (a .same ∙ sym (b .same)) (λ q h. go q (decLt (q / F) n) (decLt (q % F) m))
+  where
+    place : (q : ℕ) → q ≡ q / F * F + (0 + q % F)
+    place q = omega (arith, div-add-mod' q F)
+
+    -- the area of a place is its quotient
+    area : (i l q : ℕ) → l < m → q ≡ i * F + (0 + l) → q / F ≡ i
+    area i l q h z =
+        let y : q ≡ i * F + l = omega arith in
+        let s : l < F = omega arith in rw y (mul-add-div-right pos i l ∙ ap (λ (x : ℕ). i + x) (div-eq-of-lt s) ∙ add-zero i)
+
+    go : (q : ℕ) → Dec (q / F < n) → Dec (q % F < m) → getD u q 0 ≡ getD w q 0
+    go q (yes hi) (yes hl) =
+        ap (λ (x : ℕ). getD u x 0) (place q) ∙ a .inside (q / F) (q % F) hi hl
+        ∙ sym (ap (λ (x : ℕ). getD w x 0) (place q) ∙ b .inside (q / F) (q % F) hi hl)
+    go q (yes hi) (no hl) = rest (λ i l hi′ hl′ z. let y : q / F ≡ i = area i l q hl′ z in let x : q ≡ q / F * F + (0 + q % F) = place q in let p : q ≡ q / F * F + (0 + l) = z ∙ ap (λ (x : ℕ). x * F + (0 + l)) (sym y) in omega arith)
+      where
+        rest : ((i l : ℕ) → i < n → l < m → q ≡ i * F + (0 + l) → ⊥) → getD u q 0 ≡ getD w q 0
+        rest h = a .outside q h ∙ sym (b .outside q h)
+    go q (no hi) hl = rest (λ i l hi′ hl′ z. let y : q / F ≡ i = area i l q hl′ z in omega arith)
+      where
+        rest : ((i l : ℕ) → i < n → l < m → q ≡ i * F + (0 + l) → ⊥) → getD u q 0 ≡ getD w q 0
+        rest h = a .outside q h ∙ sym (b .outside q h)
+
+-- a loop over the areas: those below i are written, and the next place is area i's
+pub record Walk (n F j m : ℕ) (v : ℕ → ℕ → ℕ) (t u : List ℕ) (at i : ℕ) : Type 0 where
+  pub within : i ≤ n
+  pub place : at ≡ i * F + j
+  pub columns : Columns i F j m v t u
+
+pub walk-none : (n F j m : ℕ) (v : ℕ → ℕ → ℕ) (t : List ℕ) → Walk n F j m v t t j 0
+walk-none n F j m v t = record { within = omega arith; place = omega arith; columns = columns-none F j m v t }
+
+module _ (n F j m : ℕ) (v : ℕ → ℕ → ℕ) (t u : List ℕ) (at i : ℕ) (fits : j + m ≤ F) (room : n * F ≤ length t) (w : Walk n F j m v t u at i) where
+  pub walk-fits : i < n → at + F ≤ length t + j
+  walk-fits h = let p : at ≡ i * F + j = w .place in omega (arith, below-area i n F h)
+
+  pub walk-room : i < n → at + m ≤ length u
+  walk-room h = let e : length u ≡ length t = w .columns .same in omega (arith, walk-fits h)
+
+  pub walk-kept : (l : ℕ) → l < m → getD u (at + l) 0 ≡ getD t (i * F + (j + l)) 0
+  walk-kept l h =
+      let p : at ≡ i * F + j = w .place in
+      let e : at + l ≡ i * F + (j + l) = omega arith in
+      ap (λ (x : ℕ). getD u x 0) e ∙ columns-kept i F j m v t u (w .columns) fits l h
+
+  pub walk-more : i < n → (s : List ℕ) → m ≤ length s → ((l : ℕ) → l < m → getD s l 0 ≡ v i l) → Walk n F j m v t (paste u at s m) (at + F) (i + 1)
+  walk-more h s hs hv =
+      let p : at ≡ i * F + j = w .place in
+      record {
+        within = omega arith;
+        place = omega (arith, stride i F);
+        columns = rw p (columns-more i F j m v t u (w .columns) fits s hs (omega (arith, walk-fits h)) hv);
+      }
+
+  pub walk-all : n ≤ i → Columns n F j m v t u
+  walk-all h = let e : i ≡ n = omega (arith, w .within) in rw e at (w .columns)

@@ -1,0 +1,31 @@
+-- A test that antt computes at each number below n, and what it tells.
+use mathlib.Core.Path.{_≡_, subst, sym}
+use mathlib.Core.Bool.{Bool, true, false}
+use Prim.Native.Nat.{ℕ, zero, suc, _<_}
+use native.Mathlib.Decide.{ℕ-discrete}
+use native.Mathlib.Omega.{arith}
+use lib.Dec.{T}
+
+abbrev pub both : Bool → Bool → Bool
+both true b = b
+both false b = false
+
+pub both-left : (a b : Bool) → T (both a b) → T a
+both-left true b t = tt
+both-left false b t = t
+
+pub both-right : (a b : Bool) → T (both a b) → T b
+both-right true b t = t
+both-right false b t = absurd t
+
+abbrev pub allBelow : ℕ → (ℕ → Bool) → Bool
+allBelow zero f = true
+allBelow (suc n) f = both (f n) (allBelow n f)
+
+pub each-below : (n : ℕ) (f : ℕ → Bool) → T (allBelow n f) → (i : ℕ) → i < n → T (f i)
+each-below zero f t i h = absurd (omega arith)
+each-below (suc n) f t i h = go (each-below n f (both-right (f n) (allBelow n f) t) i) (ℕ-discrete i n)
+  where
+    go : (i < n → T (f i)) → Dec (i ≡ n) → T (f i)
+    go below (yes e) = subst (λ (m : ℕ). T (f m)) (sym e) (both-left (f n) (allBelow n f) t)
+    go below (no e) = below (omega arith)

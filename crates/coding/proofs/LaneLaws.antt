@@ -1,0 +1,69 @@
+-- The laws behind the functions on sixteen lanes.
+use mathlib.Core.Path.{_≡_, refl, sym, ap, _∙_}
+use mathlib.Core.List.{List}
+use Prim.Native.Nat.{ℕ, zero, suc, _+_, _*_, _/_, _%_, _≤_, _<_}
+use native.Mathlib.Decide.{ℕ-discrete, decLt}
+use native.Mathlib.Omega.{arith}
+use lib.Dec.{T, eqb, eqb→eq}
+use lib.ListN.{length, getD, set, replicate, List·getD-eq-default}
+use lib.Seq.{getD-set-same, getD-set-other}
+use Rattle.coding.specs.Field.{_⊕_, product}
+use Rattle.coding.proofs.Cases.{allBelow, each-below}
+use Rattle.coding.proofs.FieldLaws.{product-xor, product-assoc, product-zero, product-one, xor-assoc}
+
+pub zero-lane : (n k : ℕ) → getD (replicate {A = ℕ} n 0) k 0 ≡ 0
+zero-lane zero k = refl
+zero-lane (suc n) zero = refl
+zero-lane (suc n) (suc k) = zero-lane n k
+
+-- one more lane is filled
+pub lane-more : (f : ℕ → ℕ) (r : List ℕ) (i x : ℕ) → i < length r → x ≡ f i → ((k : ℕ) → k < i → getD r k 0 ≡ f k)
+    → (k : ℕ) → k < i + 1 → getD (set r i x) k 0 ≡ f k
+lane-more f r i x h e below k l = go (ℕ-discrete k i)
+  where
+    go : Dec (k ≡ i) → getD (set r i x) k 0 ≡ f k
+    go (yes q) = rw q (getD-set-same r i x 0 h ∙ e)
+    go (no q) = getD-set-other r i k x 0 q ∙ below k (omega arith)
+
+-- all lanes are filled, and past them both sides are 0
+pub lanes-filled : (f : ℕ → ℕ) (r : List ℕ) (n : ℕ) → length r ≡ n → ((k : ℕ) → n ≤ k → f k ≡ 0)
+    → ((k : ℕ) → k < n → getD r k 0 ≡ f k) → (k : ℕ) → getD r k 0 ≡ f k
+lanes-filled f r n e past below k = go (decLt k n)
+  where
+    go : Dec (k < n) → getD r k 0 ≡ f k
+    go (yes h) = below k h
+    go (no h) = List·getD-eq-default r 0 (omega arith) ∙ sym (past k (omega arith))
+
+twice-test : T (allBelow 256 (λ x. eqb (x % 128 * 2 ⊕ x / 128 * 29) (product x 2)))
+unfolding product
+twice-test = tt
+
+pub twice-rule : (x : ℕ) → x < 256 → x % 128 * 2 ⊕ x / 128 * 29 ≡ product x 2
+twice-rule x h =
+    eqb→eq (x % 128 * 2 ⊕ x / 128 * 29) (product x 2)
+    (each-below 256 (λ x. eqb (x % 128 * 2 ⊕ x / 128 * 29) (product x 2)) twice-test x h)
+
+halves-test : T (allBelow 256 (λ m. eqb (m % 2 ⊕ product 2 (m / 2)) m))
+unfolding product
+halves-test = tt
+
+-- a turn of the product by the bits of the factor m: its lowest bit, and twice the element by half the factor
+pub halved : (t m : ℕ) → m < 256 → product t (m % 2) ⊕ product (product t 2) (m / 2) ≡ product t m
+halved t m h =
+    ap (λ (x : ℕ). product t (m % 2) ⊕ x) (product-assoc t 2 (m / 2))
+    ∙ sym (product-xor t (m % 2) (product 2 (m / 2)))
+    ∙ ap (product t)
+    (eqb→eq (m % 2 ⊕ product 2 (m / 2)) m (each-below 256 (λ m. eqb (m % 2 ⊕ product 2 (m / 2)) m) halves-test m h))
+
+pub turn-odd : (s t m p : ℕ) → t < 256 → m < 256 → m % 2 ≡ 1 → s ⊕ product t m ≡ p → (s ⊕ t) ⊕ product (product t 2) (m / 2) ≡ p
+turn-odd s t m p ht hm b e =
+    xor-assoc s t (product (product t 2) (m / 2))
+    ∙ ap (λ (x : ℕ). s ⊕ x)
+    (ap (λ (x : ℕ). x ⊕ product (product t 2) (m / 2)) (sym (product-one t ht) ∙ ap (product t) (sym b)) ∙ halved t m hm)
+    ∙ e
+
+pub turn-even : (s t m p : ℕ) → m < 256 → m % 2 ≡ 0 → s ⊕ product t m ≡ p → s ⊕ product (product t 2) (m / 2) ≡ p
+turn-even s t m p hm b e =
+    ap (λ (x : ℕ). s ⊕ x)
+    (ap (λ (x : ℕ). x ⊕ product (product t 2) (m / 2)) (sym (product-zero t) ∙ ap (product t) (sym b)) ∙ halved t m hm)
+    ∙ e

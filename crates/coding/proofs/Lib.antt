@@ -1,0 +1,12 @@
+pub mod BytesLaws
+pub mod Cases
+pub mod XorLaws
+pub mod TableLaws
+pub mod FieldLaws
+pub mod LaneLaws
+pub mod PolynomialLaws
+pub mod GridLaws
+pub mod MeasureLaws
+pub mod FrameLaws
+pub mod AreasLaws
+pub mod SplitLaws

@@ -1,0 +1,170 @@
+-- Laws of splitting: the rows of a block are Horner's rule, and the pieces written so are the specification's.
+use mathlib.Core.Path.{_≡_, refl, sym, ap, ap₂, _∙_}
+use mathlib.Core.Bool.{true, false}
+use mathlib.Core.List.{List, [], _∷_}
+use Prim.Native.Nat.{ℕ, zero, suc, _+_, _-_, _*_, _<_, _≤_}
+use native.Mathlib.Nat.{add-mul, add-zero, suc-mul, le-of-eq}
+use native.Mathlib.Numerals.{add-one}
+use native.Mathlib.Decide.{decLt}
+use native.Mathlib.Omega.{arith}
+use borrow.Author.Tests.{lt-ltb, le-ltb}
+use lib.Bits.{xor-zero-r, xor-comm}
+use lib.ListN.{length, getD, drop, List·getD-eq-default}
+use lib.Seq.{paste, drop-cons, drop-length}
+use Rattle.coding.specs.Field.{_⊕_, product, power, sum}
+use Rattle.coding.specs.Polynomial.{value}
+use Rattle.coding.specs.Bytes.{Bytes, tabulate}
+use Rattle.coding.specs.Pieces.{proper, columns, frame, pieceByte, piece}
+use Rattle.coding.specs.Frame.{frameByte}
+use Rattle.coding.specs.Areas.{Columns}
+use Rattle.coding.specs.Answer.{Outcome}
+use Rattle.coding.specs.Split.{SplitEnd, written, split}
+use Rattle.coding.proofs.BytesLaws.{length-tabulate, getD-tabulate, stride}
+use Rattle.coding.proofs.FieldLaws.{zero-product}
+use Rattle.coding.proofs.PolynomialLaws.{sum-same, value-powers}
+use Rattle.coding.proofs.FrameLaws.{frame-at, frame-bytes}
+use Rattle.coding.proofs.AreasLaws.{columns-none, columns-more, columns-again, columns-join, columns-unique}
+
+-- column c of the frame
+pub column : ℕ → List ℕ → ℕ → List ℕ
+column k page c = tabulate k (λ r. frameByte page (c * k + r))
+
+pub length-column : (k : ℕ) (page : List ℕ) (c : ℕ) → length (column k page c) ≡ k
+unfolding column
+length-column k page c = length-tabulate k (λ r. frameByte page (c * k + r))
+
+pub getD-column : (k : ℕ) (page : List ℕ) (c r : ℕ) → r < k → getD (column k page c) r 0 ≡ frameByte page (c * k + r)
+unfolding column
+getD-column k page c r h = getD-tabulate k (λ r. frameByte page (c * k + r)) r 0 h
+
+pub column-bytes : (k : ℕ) (page : List ℕ) (c : ℕ) → Bytes page → Bytes (column k page c)
+column-bytes k page c b i = go (decLt i k)
+  where
+    go : Dec (i < k) → getD (column k page c) i 0 < 256
+    go (yes h) = rw (getD-column k page c i h) (frame-bytes page b (c * k + i))
+    go (no h) =
+        let e : getD (column k page c) i 0 ≡ 0 = List·getD-eq-default (column k page c) 0 (rw (length-column k page c) (omega arith)) in
+        omega arith
+
+-- the value at point i + 1 of the rows from r on
+pub rows : ℕ → List ℕ → ℕ → ℕ → ℕ → ℕ → ℕ
+rows k page j r i l = value (drop r (column k page (j + l))) (i + 1)
+
+rows-step : (k : ℕ) (page : List ℕ) (j r i l : ℕ) → r < k
+    → rows k page j r i l ≡ frameByte page ((j + l) * k + r) ⊕ product (rows k page j (r + 1) i l) (i + 1)
+unfolding rows value
+rows-step k page j r i l h =
+    let s : r < length (column k page (j + l)) = rw (length-column k page (j + l)) h in
+    ap (λ (p : List ℕ). value p (i + 1)) (drop-cons (column k page (j + l)) r 0 s)
+    ∙ ap₂ (λ (a : ℕ) (n : ℕ). a ⊕ product (value (drop n (column k page (j + l))) (i + 1)) (i + 1))
+    (getD-column k page (j + l) r h) (sym (add-one r))
+
+rows-none : (k : ℕ) (page : List ℕ) (j i l : ℕ) → rows k page j k i l ≡ 0
+unfolding rows value
+rows-none k page j i l =
+    ap (λ (n : ℕ). value (drop n (column k page (j + l))) (i + 1)) (sym (length-column k page (j + l)))
+    ∙ ap (λ (p : List ℕ). value p (i + 1)) (drop-length (column k page (j + l)))
+
+columns-ext : (n F j m : ℕ) (v w : ℕ → ℕ → ℕ) (t u : List ℕ) → ((i l : ℕ) → i < n → l < m → v i l ≡ w i l) → Columns n F j m v t u → Columns n F j m w t u
+columns-ext n F j m v w t u e c =
+    record { same = c .same; inside = λ i l hi hl. c .inside i l hi hl ∙ e i l hi hl; outside = c .outside }
+
+-- the lanes of row r of the block at column j
+abbrev pub lanes : ℕ → List ℕ → ℕ → ℕ → List ℕ
+lanes k page j r = tabulate 16 (λ l. frameByte page (j * k + r + l * k))
+
+lanes-at : (k : ℕ) (page : List ℕ) (j r l : ℕ) → l < 16 → getD (lanes k page j r) l 0 ≡ frameByte page ((j + l) * k + r)
+lanes-at k page j r l h =
+    let e : j * k + r + l * k ≡ (j + l) * k + r = omega (arith, add-mul j l k) in
+    getD-tabulate 16 (λ l. frameByte page (j * k + r + l * k)) l 0 h ∙ ap (frameByte page) e
+
+-- the highest row alone
+pub block-start : (n F k : ℕ) (page : List ℕ) (j m : ℕ) (row t u : List ℕ) → m ≤ 16 → 1 ≤ k → row ≡ lanes k page j (k - 1)
+    → Columns n F j m (λ i l. getD row l 0) t u → Columns n F j m (rows k page j (k - 1)) t u
+block-start n F k page j m row t u hm hk e c =
+    columns-ext n F j m (λ i l. getD row l 0) (rows k page j (k - 1)) t u
+    (λ i l hi hl.
+    let z : k - 1 + 1 ≡ k = omega arith in
+    ap (λ (v : List ℕ). getD v l 0) e
+    ∙ lanes-at k page j (k - 1) l (omega arith)
+    ∙ sym
+    (rows-step k page j (k - 1) i l (omega arith)
+    ∙ ap (λ (x : ℕ). frameByte page ((j + l) * k + (k - 1)) ⊕ product x (i + 1))
+    (ap (λ (x : ℕ). rows k page j x i l) z ∙ rows-none k page j i l)
+    ∙ ap (λ (x : ℕ). frameByte page ((j + l) * k + (k - 1)) ⊕ x) (zero-product (i + 1))
+    ∙ xor-zero-r (frameByte page ((j + l) * k + (k - 1)))))
+    c
+
+-- one row more
+pub block-more : (n F k : ℕ) (page : List ℕ) (j m r : ℕ) (row t u w : List ℕ) → m ≤ 16 → r < k → row ≡ lanes k page j r
+    → Columns n F j m (rows k page j (r + 1)) t u
+    → Columns n F j m (λ i l. product (getD u (i * F + (j + l)) 0) (i + 1) ⊕ getD row l 0) u w
+    → Columns n F j m (rows k page j r) t w
+block-more n F k page j m r row t u w hm hr e a b =
+    columns-again n F j m (rows k page j (r + 1)) (rows k page j r) t u w a
+    (columns-ext n F j m (λ i l. product (getD u (i * F + (j + l)) 0) (i + 1) ⊕ getD row l 0) (rows k page j r) u w
+    (λ i l hi hl.
+    ap₂ (λ (x : ℕ) (y : ℕ). product x (i + 1) ⊕ y) (a .inside i l hi hl)
+    (ap (λ (v : List ℕ). getD v l 0) e ∙ lanes-at k page j r l (omega arith))
+    ∙ xor-comm (product (rows k page j (r + 1) i l) (i + 1)) (frameByte page ((j + l) * k + r))
+    ∙ sym (rows-step k page j r i l hr))
+    b)
+
+-- the value of a column is the byte of a piece
+pub column-value : (k : ℕ) (page : List ℕ) (x c : ℕ) → Bytes page → value (column k page c) x ≡ pieceByte k (frame k page) x c
+unfolding pieceByte
+column-value k page x c b =
+    value-powers (column k page c) x (column-bytes k page c b)
+    ∙ ap (λ (n : ℕ). sum n (λ r. product (getD (column k page c) r 0) (power x r))) (length-column k page c)
+    ∙ sum-same k (λ r. product (getD (column k page c) r 0) (power x r)) (λ r. product (getD (frame k page) (c * k + r) 0) (power x r))
+    (λ r h. ap (λ (v : ℕ). product v (power x r)) (getD-column k page c r h ∙ sym (frame-at k page (c * k + r))))
+
+-- all the rows
+pub block-all : (n F k : ℕ) (page : List ℕ) (j m : ℕ) (t u : List ℕ) → Bytes page → Columns n F j m (rows k page j 0) t u
+    → Columns n F j m (λ i l. pieceByte k (frame k page) (i + 1) (j + l)) t u
+unfolding rows
+block-all n F k page j m t u b c =
+    columns-ext n F j m (rows k page j 0) (λ i l. pieceByte k (frame k page) (i + 1) (j + l)) t u
+    (λ i l hi hl. column-value k page (i + 1) (j + l) b) c
+
+-- the room that splitting leaves, by its columns
+pub written-columns : (k F : ℕ) (page room : List ℕ) (n : ℕ) → columns k (length page) ≤ F → n * F ≤ length room
+    → Columns n F 0 (columns k (length page)) (λ i l. pieceByte k (frame k page) (i + 1) l) room (written k F page room n)
+unfolding written piece
+written-columns k F page room zero h r = columns-none F 0 (columns k (length page)) (λ i l. pieceByte k (frame k page) (i + 1) l) room
+written-columns k F page room (suc n) h r =
+    let L = columns k (length page) in
+    let v : ℕ → ℕ → ℕ = λ i l. pieceByte k (frame k page) (i + 1) l in
+    let s : suc n * F ≡ n * F + F = suc-mul n F in
+    let z : n * F + 0 ≡ n * F = add-zero (n * F) in
+    let q : n * F ≤ length room = omega arith in
+    rw (← add-one n, ← z)
+    (columns-more n F 0 L v room (written k F page room n) (written-columns k F page room n h q) (omega arith)
+    (piece k page (n + 1)) (le-of-eq (sym (length-tabulate L (pieceByte k (frame k page) (n + 1))))) (omega arith)
+    (λ l b. getD-tabulate L (pieceByte k (frame k page) (n + 1)) l 0 b))
+
+pub written-unique : (k F : ℕ) (page room : List ℕ) (n : ℕ) (u : List ℕ) → 1 ≤ F → columns k (length page) ≤ F → n * F ≤ length room
+    → Columns n F 0 (columns k (length page)) (λ i l. pieceByte k (frame k page) (i + 1) l) room u → u ≡ written k F page room n
+written-unique k F page room n u f h r c =
+    columns-unique n F (columns k (length page)) (λ i l. pieceByte k (frame k page) (i + 1) l) room u (written k F page room n) f h c
+    (written-columns k F page room n h r)
+
+-- the answers, one for each way out
+module _ (n k F : ℕ) (page room : List ℕ) where
+  pub split-measures : proper n k F ≡ false → split n k F page room ≡ record { outcome = Outcome.refuses 1; room = room }
+  unfolding split
+  split-measures e = simp e
+
+  pub split-short : proper n k F ≡ true → length room < n * F → split n k F page room ≡ record { outcome = Outcome.refuses 2; room = room }
+  unfolding split
+  split-short e h = simp (e, lt-ltb (length room) (n * F) h)
+
+  pub split-long : proper n k F ≡ true → n * F ≤ length room → k * F - 4 < length page
+      → split n k F page room ≡ record { outcome = Outcome.refuses 6; room = room }
+  unfolding split
+  split-long e h l = simp (e, le-ltb (length room) (n * F) h, lt-ltb (k * F - 4) (length page) l)
+
+  pub split-done : proper n k F ≡ true → n * F ≤ length room → length page ≤ k * F - 4
+      → split n k F page room ≡ record { outcome = Outcome.gives (columns k (length page)); room = written k F page room n }
+  unfolding split
+  split-done e h l = simp (e, le-ltb (length room) (n * F) h, le-ltb (k * F - 4) (length page) l)

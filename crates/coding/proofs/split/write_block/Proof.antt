@@ -1,0 +1,120 @@
+-- The rows from r on stand in the sums.
+use mathlib.Core.Path.{_≡_, _∙_}
+use Prim.Native.Nat.{ℕ, _+_, _-_, _*_, _<_, _≤_}
+use native.Mathlib.Nat.{mul-le-mul}
+use native.Mathlib.Omega.{arith}
+use lib.ListN.{length}
+use Rattle.coding.specs.Areas.{Columns}
+use Rattle.coding.proofs.AreasLaws.{columns-stay, columns-again}
+use Rattle.coding.proofs.SplitLaws.{rows, lanes, block-start, block-more, block-all}
+use Rattle.coding.proofs.split.write_block.Statement.{statement}
+use Rattle.coding.proofs.split.write_block.Tie as tie
+use Rattle.coding.proofs.split.write_block.Reads as reads
+use Rattle.coding.proofs.split.write_block.Lts as lts
+use Rattle.coding.proofs.frame.gather.Reads as gather-reads
+use Rattle.coding.proofs.split.add_row.Reads as add-row-reads
+use Rattle.coding.proofs.split.start_row.Reads as start-row-reads
+
+abbrev Inv-loop : tie.InvT-loop
+Inv-loop n k f j m page room₀ r₀ room r = (r < k) × Columns n f j m (rows k page j r) room₀ room
+
+abbrev μ-loop : tie.MeasureT-loop
+μ-loop n k f j m page room₀ r₀ room r = r
+
+sub-r : tie.Need-sub-r Inv-loop μ-loop
+sub-r c = omega arith
+
+mul-gather : tie.Need-mul-gather Inv-loop μ-loop
+mul-gather c =
+    let hj : c .before .before .args .j ≤ 4096 = omega arith in
+    let hk : c .before .before .args .k ≤ 16 = omega arith in
+    omega (arith, mul-le-mul hj hk)
+
+add-gather : tie.Need-add-gather Inv-loop μ-loop
+add-gather c =
+    let hj : c .before .before .args .j ≤ 4096 = omega arith in
+    let hk : c .before .before .args .k ≤ 16 = omega arith in
+    omega (arith, mul-le-mul hj hk)
+
+gather-requires : tie.Need-gather-requires Inv-loop μ-loop
+gather-requires c κs =
+    let hj : c .before .before .args .j ≤ 4096 = omega arith in
+    let hk : c .before .before .args .k ≤ 16 = omega arith in
+    omega (arith, mul-le-mul hj hk)
+
+start-row-requires : tie.Need-start-row-requires Inv-loop μ-loop
+start-row-requires c κs = omega arith
+
+loop-holds : tie.Need-loop-holds Inv-loop μ-loop
+loop-holds c = (
+  omega arith,
+  columns-stay _ _ _ _ _ _ _
+      (block-start _ _ _ (c .before .before .before .before .before .before .before .args .page .now) _ _ _ _ _ (c .before .before .before .before .before .before .before .pre .1) (c .before .before .before .before .before .before .before .pre .5) (c .before .before .before .before .gather .ensures)
+      (c .before .before .start-row .ensures)),
+)
+
+sub-r-2 : tie.Need-sub-r-2 Inv-loop μ-loop
+sub-r-2 c = omega arith
+
+mul-gather-2 : tie.Need-mul-gather-2 Inv-loop μ-loop
+mul-gather-2 c =
+    let hj : c .before .before .before .before .before .before .before .before .before .args .j ≤ 4096 = omega arith in
+    let hk : c .before .before .before .before .before .before .before .before .before .args .k ≤ 16 = omega arith in
+    omega (arith, mul-le-mul hj hk)
+
+add-gather-2 : tie.Need-add-gather-2 Inv-loop μ-loop
+add-gather-2 c =
+    let hj : c .before .before .before .before .before .before .before .before .before .args .j ≤ 4096 = omega arith in
+    let hk : c .before .before .before .before .before .before .before .before .before .args .k ≤ 16 = omega arith in
+    omega (arith, mul-le-mul hj hk)
+
+gather-requires-2 : tie.Need-gather-requires-2 Inv-loop μ-loop
+gather-requires-2 c κs =
+    let hj : c .before .before .before .before .before .before .before .before .before .args .j ≤ 4096 = omega arith in
+    let hk : c .before .before .before .before .before .before .before .before .before .args .k ≤ 16 = omega arith in
+    omega (arith, mul-le-mul hj hk)
+
+add-row-requires : tie.Need-add-row-requires Inv-loop μ-loop
+add-row-requires c κs = omega (arith, c .before .before .before .loop .inv .1 .same)
+
+loop-less : tie.Need-loop-less Inv-loop μ-loop
+loop-less c = omega arith
+
+loop-again : tie.Need-loop-again Inv-loop μ-loop
+loop-again c =
+    let z : c .before .before .before .before .before .before .loop .r - 1 + 1 ≡ c .before .before .before .before .before .before .loop .r = omega arith in (
+      omega arith,
+      block-more _ _ _ (c .before .before .before .before .before .before .before .before .before .before .before .before .before .before .args .page .now) _ _ _ _ _ _ _ (c .before .before .before .before .before .before .before .before .before .before .before .before .before .before .pre .1) (omega arith) (c .before .before .before .before .gather2 .ensures)
+          (rw z (c .before .before .before .before .before .before .loop .inv .1)) (c .before .before .add-row .ensures),
+    )
+
+same-length : tie.Need-same-length Inv-loop μ-loop
+same-length c = c .before .loop .inv .1 .same ∙ c .before .before .before .before .start-row .ensures .same
+
+returns : tie.Need-returns Inv-loop μ-loop
+returns c =
+    let z : c .before .loop .r ≡ 0 = omega arith in
+    block-all _ _ _ (c .before .before .before .before .before .before .before .before .before .args .page .now) _ _ _ _ (λ i. c .before .before .before .before .before .before .before .before .shared-slice-known .given i .fits)
+    (columns-again _ _ _ _ _ _ _ _ _ (c .before .before .before .before .start-row .ensures) (rw z at (c .before .loop .inv .1)))
+
+pub write-block-spec : {M : Type 1} → statement M
+write-block-spec =
+    tie.close
+    (tie.spec
+    Inv-loop
+    μ-loop
+    sub-r
+    mul-gather
+    add-gather
+    gather-requires
+    start-row-requires
+    loop-holds
+    sub-r-2
+    mul-gather-2
+    add-gather-2
+    gather-requires-2
+    add-row-requires
+    loop-less
+    loop-again
+    same-length
+    returns)

@@ -1,0 +1,10 @@
+pub mod Field
+pub mod Tables
+pub mod Polynomial
+pub mod Grid
+pub mod Bytes
+pub mod Pieces
+pub mod Frame
+pub mod Answer
+pub mod Areas
+pub mod Split

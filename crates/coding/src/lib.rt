@@ -1,0 +1,8 @@
+pub mod answer;
+mod areas;
+mod field;
+mod frame;
+mod grid;
+mod lanes;
+mod measures;
+pub mod split;

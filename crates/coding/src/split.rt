@@ -1,0 +1,110 @@
+// Splitting a page into pieces, straight from its bytes: no frame is made, and the pieces themselves are the accumulators.
+use crate::answer::Refusal;
+use crate::answer::SplitAnswer;
+use crate::areas::load;
+use crate::areas::store;
+use crate::frame::gather;
+use crate::lanes::add;
+use crate::lanes::scale;
+use crate::measures::piece_length;
+use crate::measures::proper_measures;
+ghost use mathlib.Core.Path.{_≡_};
+ghost use Prim.Native.Nat.{ℕ, _+_, _*_, _<_, _≤_};
+ghost use lib.ListN.{length, getD};
+ghost use lib.Seq.{paste};
+ghost use Rattle.coding.specs.Field.{_⊕_, product};
+ghost use Rattle.coding.specs.Bytes.{tabulate};
+ghost use Rattle.coding.specs.Pieces.{pieceByte, frame};
+ghost use Rattle.coding.specs.Areas.{Columns};
+ghost use Rattle.coding.specs.Answer.{splitOutcome};
+ghost use Rattle.coding.specs.Split.{split as splitEnd};
+
+// The highest row of a block starts every sum.
+fn start_row(n: usize, f: usize, j: usize, m: usize, row: [u8; 16], room: &mut [u8])
+    requires { ⌜ (j + m ≤ f) × (m ≤ 16) × (n ≤ 16) × (f ≤ 4096) × (n * f ≤ length (now room)) ⌝ }
+    ensures { λ _. ⌜ Columns n f j m (λ i l. getD row l 0) (now (room .entry)) (now (room .exit)) ⌝ }
+{
+    let mut at = j;
+    for i in 0..n {
+        store(room, at, m, row);
+        at += f;
+    }
+}
+
+// One turn of Horner's rule at the point x.
+fn turn(x: u8, at: usize, m: usize, row: [u8; 16], room: &mut [u8])
+    requires { ⌜ (at + m ≤ length (now room)) × (m ≤ 16) ⌝ }
+    ensures { λ _. ⌜ now (room .exit) ≡ paste (now (room .entry)) at
+        (tabulate m (λ l. product (getD (now (room .entry)) (at + l) 0) x ⊕ getD row l 0)) m ⌝ }
+{
+    let sums = load(room, at, m);
+    let next = add(scale(sums, x), row);
+    store(room, at, m, next);
+}
+
+// A lower row enters every sum, that of point i + 1 in area i.
+fn add_row(n: usize, f: usize, j: usize, m: usize, row: [u8; 16], room: &mut [u8])
+    requires { ⌜ (j + m ≤ f) × (m ≤ 16) × (n ≤ 16) × (f ≤ 4096) × (n * f ≤ length (now room)) ⌝ }
+    ensures { λ _. ⌜ Columns n f j m (λ i l. product (getD (now (room .entry)) (i * f + (j + l)) 0) (i + 1) ⊕ getD row l 0)
+        (now (room .entry)) (now (room .exit)) ⌝ }
+{
+    let mut at = j;
+    for i in 0..n {
+        turn((i + 1) as u8, at, m, row, room);
+        at += f;
+    }
+}
+
+// The m columns from j on of every piece: row after row, the highest first.
+fn write_block(n: usize, k: usize, f: usize, j: usize, m: usize, page: &[u8], room: &mut [u8])
+    requires { ⌜ (j + m ≤ f) × (m ≤ 16) × (n ≤ 16) × (f ≤ 4096) × (n * f ≤ length (now room)) × (1 ≤ k) × (k ≤ n) ⌝ }
+    ensures { λ _. ⌜ Columns n f j m (λ i l. pieceByte k (frame k (now (page .entry))) (i + 1) (j + l))
+        (now (room .entry)) (now (room .exit)) ⌝ }
+{
+    let mut r = k - 1;
+    start_row(n, f, j, m, gather(page, j * k + r, k), room);
+    while 0 < r {
+        r -= 1;
+        add_row(n, f, j, m, gather(page, j * k + r, k), room);
+    }
+}
+
+// Every piece, 16 columns at a time.
+fn write_pieces(n: usize, k: usize, f: usize, len: usize, page: &[u8], room: &mut [u8])
+    requires { ⌜ (len ≤ f) × (n ≤ 16) × (f ≤ 4096) × (n * f ≤ length (now room)) × (1 ≤ k) × (k ≤ n) ⌝ }
+    ensures { λ _. ⌜ Columns n f 0 len (λ i l. pieceByte k (frame k (now (page .entry))) (i + 1) l)
+        (now (room .entry)) (now (room .exit)) ⌝ }
+{
+    let mut j = 0;
+    while j < len {
+        let m = block(len - j);
+        write_block(n, k, f, j, m, page, room);
+        j += m;
+    }
+}
+
+fn block(left: usize) -> usize
+    requires { ⌜ 0 < left ⌝ }
+    ensures { λ r. ⌜ (0 < r) × (r ≤ 16) × (r ≤ left) ⌝ }
+{
+    if left < 16 { left } else { 16 }
+}
+
+// Splits a page into n pieces, any k of which make it. The room is n areas of f bytes, of which each takes one piece.
+pub fn split(n: usize, k: usize, f: usize, page: &[u8], room: &mut [u8]) -> SplitAnswer
+    ensures { λ r. ⌜ (splitOutcome r ≡ splitEnd n k f (now (page .entry)) (now (room .entry)) .outcome)
+        × (now (room .exit) ≡ splitEnd n k f (now (page .entry)) (now (room .entry)) .room) ⌝ }
+{
+    if !proper_measures(n, k, f) {
+        return SplitAnswer::Refused(Refusal::Measures);
+    }
+    if room.len() < n * f {
+        return SplitAnswer::Refused(Refusal::Short);
+    }
+    if k * f - 4 < page.len() {
+        return SplitAnswer::Refused(Refusal::TooLong);
+    }
+    let len = piece_length(k, page.len());
+    write_pieces(n, k, f, len, page, room);
+    SplitAnswer::Pieces(len)
+}
