@@ -195,7 +195,7 @@ one-product a h = product-comm 1 a ∙ product-one a h
 
 -- powers
 
-power-zero : (a : ℕ) → power a 0 ≡ 1
+pub power-zero : (a : ℕ) → power a 0 ≡ 1
 unfolding power
 power-zero a = refl
 
@@ -242,14 +242,15 @@ unfolding inverse power
 product-inverse a h z =
     product-comm a (power a 254) ∙ ap (λ (x : ℕ). power x 255) (sym (log-rule a h z)) ∙ order-all 255 two-order (log a)
 
+pub inverse-cancels : (a x : ℕ) → a < 256 → x < 256 → (a ≡ 0 → ⊥) → product (inverse a) (product a x) ≡ x
+inverse-cancels a x ha hx z =
+    sym (product-assoc (inverse a) a x)
+    ∙ ap (λ (y : ℕ). product y x) (product-comm (inverse a) a ∙ product-inverse a ha z)
+    ∙ one-product x hx
+
 pub product-nonzero : (a b : ℕ) → a < 256 → b < 256 → (a ≡ 0 → ⊥) → (b ≡ 0 → ⊥) → product a b ≡ 0 → ⊥
 product-nonzero a b ha hb za zb e =
-    zb
-    (sym (one-product b hb)
-    ∙ ap (λ (x : ℕ). product x b) (sym (product-inverse a ha za) ∙ product-comm a (inverse a))
-    ∙ product-assoc (inverse a) a b
-    ∙ ap (product (inverse a)) e
-    ∙ product-zero (inverse a))
+    zb (sym (inverse-cancels a b ha hb za) ∙ ap (product (inverse a)) e ∙ product-zero (inverse a))
 
 pub inverse-byte : (a : ℕ) → inverse a < 256
 unfolding inverse
@@ -257,11 +258,7 @@ inverse-byte a = power-byte a 254
 
 pub inverse-unique : (a x : ℕ) → a < 256 → x < 256 → (a ≡ 0 → ⊥) → product a x ≡ 1 → x ≡ inverse a
 inverse-unique a x ha hx z e =
-    sym (one-product x hx)
-    ∙ ap (λ (y : ℕ). product y x) (sym (product-inverse a ha z) ∙ product-comm a (inverse a))
-    ∙ product-assoc (inverse a) a x
-    ∙ ap (product (inverse a)) e
-    ∙ product-one (inverse a) (inverse-byte a)
+    sym (inverse-cancels a x ha hx z) ∙ ap (product (inverse a)) e ∙ product-one (inverse a) (inverse-byte a)
 
 -- by the tables: an exponent counts modulo 255, a product adds logarithms, an inverse takes one from 255
 

@@ -27,12 +27,12 @@ cases P r c y n = go (ℕ-discrete r c)
     go (yes e) = subst⁻¹ P e y
     go (no q) = n q
 
-split : {A : Type 0} (i c : ℕ) → (i < c → A) → (c ≤ i → A) → A
-split {A} i c f g = go (decLt i c)
+around : (P : ℕ → Type 0) (i c : ℕ) → (i < c → P i) → P c → (c < i → P i) → P i
+around P i c low here high = cases P i c here (λ d. go d (decLt i c))
   where
-    go : Dec (i < c) → A
-    go (yes h) = f h
-    go (no h) = g (omega arith)
+    go : (i ≡ c → ⊥) → Dec (i < c) → P i
+    go d (yes h) = low h
+    go d (no h) = high (omega arith)
 
 identity-same : (r : ℕ) → identity r r ≡ 1
 identity-same r = ap bit (eq-eqb r r refl)
@@ -73,6 +73,10 @@ pub record Nodes (k : ℕ) (nodes : List ℕ) : Type 0 where
   pub room : k ≤ length nodes
   pub bytes : Bytes nodes
   pub distinct : Distinct (take k nodes)
+
+-- the polynomial whose roots are the nodes before node c
+abbrev before : List ℕ → ℕ → List ℕ
+before nodes c = rootsAt (take c nodes)
 
 module _ (k : ℕ) (nodes : List ℕ) where
   abbrev Holds : List ℕ → List ℕ → Type 0
@@ -124,44 +128,58 @@ module _ (k : ℕ) (nodes : List ℕ) where
       }
 
   module _ (ok : Nodes k nodes) where
-    -- were it 0, the polynomial whose roots are the c points before point c would have a further root there
-    pub pivot-nonzero : (c : ℕ) (m : List (List ℕ)) → c < k → Upto c m → entry m c c ≡ 0 → ⊥
-    pivot-nonzero c m l u e =
-        let n : length (take c nodes) ≡ c = length-take-le c nodes (omega arith) in
-        let k′ : length (take k nodes) ≡ k = length-take-le k nodes (ok .room) in
-        let p = rootsAt (take c nodes) in
-        rootsAt-nonzero (take c nodes) (getD nodes c 0) (bytes-take c nodes (ok .bytes)) (ok .bytes c)
-        (λ i h q.
-        ok .distinct i c (omega arith) (omega arith)
-        (getD-take k nodes i 0 (omega arith)
-        ∙ sym (getD-take c nodes i 0 (omega arith))
-        ∙ sym q
-        ∙ sym (getD-take k nodes c 0 l)))
-        (sym (one-product (value p (getD nodes c 0)) (value-byte p (getD nodes c 0) (bytes-rootsAt (take c nodes))))
-        ∙ ap (λ (v : ℕ). product v (value p (getD nodes c 0))) (sym (u .right c c (omega arith) l (omega arith) l ∙ identity-same c))
-        ∙ sym (sum-one k c (λ s. product (entry m c (16 + s)) (value p (getD nodes s 0))) l
-        (λ s h d.
-        split s c
-        (λ v.
-        ap (product (entry m c (16 + s))) (rw (getD-take c nodes s 0 v) at (rootsAt-zero (take c nodes) s (omega arith)))
-        ∙ product-zero (entry m c (16 + s)))
-        (λ v.
-        ap (λ (x : ℕ). product x (value p (getD nodes s 0)))
-        (u .right c s (omega arith) l v h ∙ identity-other c s (λ q. d (sym q)))
-        ∙ zero-product (value p (getD nodes s 0)))))
-        ∙ sym (u .holds p (omega (arith, length-rootsAt (take c nodes))) (bytes-rootsAt (take c nodes)) c l)
-        ∙ sum-zero k (λ t. product (entry m c t) (getD p t 0))
-        (λ t h.
-        cases (λ i. product (entry m c i) (getD p i 0) ≡ 0) t c
-        (ap (λ (x : ℕ). product x (getD p c 0)) e ∙ zero-product (getD p c 0))
-        (λ d.
-        split t c
-        (λ v.
-        ap (λ (x : ℕ). product x (getD p t 0)) (u .left c t l v ∙ identity-other c t (λ q. d (sym q)))
-        ∙ zero-product (getD p t 0))
-        (λ v.
-        ap (product (entry m c t)) (List·getD-eq-default p 0 {n = t} (omega (arith, length-rootsAt (take c nodes))))
-        ∙ product-zero (entry m c t)))))
+    module _ (c : ℕ) (m : List (List ℕ)) (l : c < k) (u : Upto c m) where
+      left-low : (t : ℕ) → t < c → product (entry m c t) (getD (before nodes c) t 0) ≡ 0
+      left-low t v =
+          ap (λ (x : ℕ). product x (getD (before nodes c) t 0)) (u .left c t l v ∙ identity-other c t (λ q. omega arith))
+          ∙ zero-product (getD (before nodes c) t 0)
+
+      left-high : (t : ℕ) → c < t → product (entry m c t) (getD (before nodes c) t 0) ≡ 0
+      left-high t v =
+          let n : length (take c nodes) ≡ c = length-take-le c nodes (omega arith) in
+          ap (product (entry m c t)) (List·getD-eq-default (before nodes c) 0 {n = t} (omega (arith, length-rootsAt (take c nodes))))
+          ∙ product-zero (entry m c t)
+
+      right-low : (s : ℕ) → s < c → product (entry m c (16 + s)) (value (before nodes c) (getD nodes s 0)) ≡ 0
+      right-low s v =
+          let n : length (take c nodes) ≡ c = length-take-le c nodes (omega arith) in
+          ap (product (entry m c (16 + s))) (rw (getD-take c nodes s 0 v) at (rootsAt-zero (take c nodes) s (omega arith)))
+          ∙ product-zero (entry m c (16 + s))
+
+      right-high : (s : ℕ) → s < k → c < s → product (entry m c (16 + s)) (value (before nodes c) (getD nodes s 0)) ≡ 0
+      right-high s h v =
+          ap (λ (x : ℕ). product x (value (before nodes c) (getD nodes s 0)))
+          (u .right c s (omega arith) l (omega arith) h ∙ identity-other c s (λ q. omega arith))
+          ∙ zero-product (value (before nodes c) (getD nodes s 0))
+
+      right-value : weighed k (λ s. entry m c (16 + s)) (λ s. value (before nodes c) (getD nodes s 0)) ≡ value (before nodes c) (getD nodes c 0)
+      right-value =
+          let x = getD nodes c 0 in
+          sum-one k c (λ s. product (entry m c (16 + s)) (value (before nodes c) (getD nodes s 0))) l
+          (λ s h.
+          around (λ i. (i ≡ c → ⊥) → product (entry m c (16 + i)) (value (before nodes c) (getD nodes i 0)) ≡ 0) s c
+          (λ v d. right-low s v) (λ d. absurd (d refl)) (λ v d. right-high s h v))
+          ∙ ap (λ (v : ℕ). product v (value (before nodes c) x)) (u .right c c (omega arith) l (omega arith) l ∙ identity-same c)
+          ∙ one-product (value (before nodes c) x) (value-byte (before nodes c) x (bytes-rootsAt (take c nodes)))
+
+      point-new : (i : ℕ) → i < length (take c nodes) → getD nodes c 0 ≡ getD (take c nodes) i 0 → ⊥
+      point-new i h q =
+          let n : length (take c nodes) ≡ c = length-take-le c nodes (omega arith) in
+          let n′ : length (take k nodes) ≡ k = length-take-le k nodes (ok .room) in
+          ok .distinct i c (omega arith) (omega arith)
+          (getD-take k nodes i 0 (omega arith) ∙ sym (getD-take c nodes i 0 (omega arith)) ∙ sym q ∙ sym (getD-take k nodes c 0 l))
+
+      -- were it 0, the polynomial whose roots are the points before point c would have a further root there
+      pub pivot-nonzero : entry m c c ≡ 0 → ⊥
+      pivot-nonzero e =
+          let n : length (take c nodes) ≡ c = length-take-le c nodes (omega arith) in
+          rootsAt-nonzero (take c nodes) (getD nodes c 0) (bytes-take c nodes (ok .bytes)) (ok .bytes c) point-new
+          (sym right-value
+          ∙ sym (u .holds (before nodes c) (omega (arith, length-rootsAt (take c nodes))) (bytes-rootsAt (take c nodes)) c l)
+          ∙ sum-zero k (λ t. product (entry m c t) (getD (before nodes c) t 0))
+          (λ t h.
+          around (λ i. product (entry m c i) (getD (before nodes c) i 0) ≡ 0) t c (left-low t)
+          (ap (λ (x : ℕ). product x (getD (before nodes c) c 0)) e ∙ zero-product (getD (before nodes c) c 0)) (left-high t)))
 
     module _ (c : ℕ) (m out : List (List ℕ)) (l : c < k) (u : Upto c m) (h : Reduced k c m out) where
       pivot-left : (t : ℕ) → t < suc c → entry out c t ≡ identity c t

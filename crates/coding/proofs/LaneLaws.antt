@@ -1,9 +1,11 @@
 -- The laws behind the functions on sixteen lanes.
-use mathlib.Core.Path.{_≡_, refl, sym, ap, _∙_}
+use mathlib.Core.Path.{_≡_, refl, sym, ap, _∙_, subst}
 use mathlib.Core.List.{List}
-use Prim.Native.Nat.{ℕ, zero, suc, _+_, _*_, _/_, _%_, _≤_, _<_}
+use Prim.Native.Nat.{ℕ, zero, suc, _+_, _-_, _*_, _/_, _%_, _^_, _≤_, _<_}
 use native.Mathlib.Decide.{ℕ-discrete, decLt}
+use native.Mathlib.Nat.{pow-suc}
 use native.Mathlib.Omega.{arith}
+use lib.Bits.{xor-zero-r}
 use lib.Dec.{T, eqb, eqb→eq}
 use lib.ListN.{length, getD, set, replicate, List·getD-eq-default}
 use lib.Seq.{getD-set-same, getD-set-other}
@@ -67,3 +69,13 @@ turn-even s t m p hm b e =
     ap (λ (x : ℕ). s ⊕ x)
     (ap (λ (x : ℕ). x ⊕ product (product t 2) (m / 2)) (sym (product-zero t) ∙ ap (product t) (sym b)) ∙ halved t m hm)
     ∙ e
+
+-- nothing is left of the factor
+pub ended : (s t m p : ℕ) → m ≡ 0 → s ⊕ product t m ≡ p → s ≡ p
+ended s t m p z e = sym (ap (λ (x : ℕ). s ⊕ x) (ap (product t) z ∙ product-zero t) ∙ xor-zero-r s) ∙ e
+
+pub half-below : (m n i : ℕ) → i < n → m < 2 ^ (n - i) → m / 2 < 2 ^ (n - (i + 1))
+half-below m n i l h =
+    let e : n - i ≡ suc (n - (i + 1)) = omega arith in
+    let d : m < 2 ^ (n - (i + 1)) * 2 = subst (λ (x : ℕ). m < x) (ap (λ (k : ℕ). 2 ^ k) e ∙ pow-suc 2 (n - (i + 1))) h in
+    omega arith

@@ -10,3 +10,10 @@ pub mod MeasureLaws
 pub mod FrameLaws
 pub mod AreasLaws
 pub mod SplitLaws
+pub mod NodesLaws
+pub mod OutputLaws
+pub mod JoinLaws
+pub mod PageLaws
+pub mod RoundTripLaws
+pub mod JoinEndLaws
+pub mod Sha256Laws

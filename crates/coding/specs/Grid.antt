@@ -16,6 +16,14 @@ Distinct xs = (i j : ℕ) → i < j → j < length xs → getD xs i 0 ≡ getD x
 abbrev pub entry : List (List ℕ) → ℕ → ℕ → ℕ
 entry m r t = getD (getD m r []) t 0
 
+-- the values at the points, weighed by the entries of row r of the right half, make up coefficient r
+abbrev pub Inverts : ℕ → List ℕ → List (List ℕ) → Type 0
+Inverts k nodes m =
+    (f : ℕ → ℕ) → ((x : ℕ) → f x < 256) → (r : ℕ) → r < k
+    → getD (interpolate (take k nodes) f) r 0 ≡ sum k (λ s. product (entry m r (16 + s)) (f (getD nodes s 0)))
+
+-- ---- the steps of the inversion
+
 abbrev pub bit : Bool → ℕ
 bit true = 1
 bit false = 0
@@ -49,9 +57,3 @@ pub record Cleared (k c r : ℕ) (pivot row out : List ℕ) : Type 0 where
 pub record Reduced (k c : ℕ) (m out : List (List ℕ)) : Type 0 where
   pub pivot : Scaled k (inverse (entry m c c)) (getD m c []) (getD out c [])
   pub rows : (r : ℕ) → r < k → (r ≡ c → ⊥) → Added k (entry m r c) (getD m r []) (getD out c []) (getD out r [])
-
--- the values at the points, weighed by the entries of row r of the right half, make up coefficient r
-abbrev pub Inverts : ℕ → List ℕ → List (List ℕ) → Type 0
-Inverts k nodes m =
-    (f : ℕ → ℕ) → ((x : ℕ) → f x < 256) → (r : ℕ) → r < k
-    → getD (interpolate (take k nodes) f) r 0 ≡ sum k (λ s. product (entry m r (16 + s)) (f (getD nodes s 0)))

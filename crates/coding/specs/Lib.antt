@@ -8,3 +8,7 @@ pub mod Frame
 pub mod Answer
 pub mod Areas
 pub mod Split
+pub mod Nodes
+pub mod Output
+pub mod Join
+pub mod Sha256

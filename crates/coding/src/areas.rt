@@ -66,3 +66,11 @@ pub fn store(room: &mut [u8], at: usize, m: usize, v: [u8; 16])
         store_part(room, at, m, v);
     }
 }
+
+// The columns of the next block.
+pub fn block(left: usize) -> usize
+    requires { ⌜ 0 < left ⌝ }
+    ensures { λ r. ⌜ (0 < r) × (r ≤ 16) × (r ≤ left) ⌝ }
+{
+    if left < 16 { left } else { 16 }
+}

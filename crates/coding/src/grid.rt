@@ -28,7 +28,7 @@ fn powers(x: u8, s: usize, k: usize, exp: &[u8; 255], log: &[u8; 256]) -> [u8; 3
     row
 }
 
-// Row `s` is of the point `s`.
+// Row `s` is of node `s`.
 fn build(nodes: [u8; 16], k: usize, exp: &[u8; 255], log: &[u8; 256]) -> [[u8; 32]; 16]
     requires { ⌜ (k ≤ 16) × (now exp ≡ expTable) × (now log ≡ logTable) ⌝ }
     ensures { λ r. ⌜ ((s : ℕ) → s < k → Powers k (getD nodes s 0) s (getD r s [])) ⌝ }
@@ -132,8 +132,8 @@ fn reduce(m: [[u8; 32]; 16], c: usize, k: usize, exp: &[u8; 255], log: &[u8; 256
     clear_rows(m, pivot, c, k, exp, log)
 }
 
-// The inverse of the grid of the powers of the first `k` nodes, beside the identity. No pivot is 0: it would be the value, at
-// point c, of a polynomial whose c roots are the points before it.
+// The inverse of the grid of the powers of the first `k` nodes, beside the identity. No pivot is 0: else the polynomial whose
+// roots are the nodes before node `c` would have a further root there.
 pub fn invert(nodes: [u8; 16], k: usize) -> [[u8; 32]; 16]
     requires { ⌜ (k ≤ 16) × Distinct (take k nodes) ⌝ }
     ensures { λ r. ⌜ Inverts k nodes r ⌝ }

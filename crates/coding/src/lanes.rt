@@ -31,21 +31,25 @@ pub fn add(v: [u8; 16], w: [u8; 16]) -> [u8; 16]
     r
 }
 
-// The sum of v times 2^i over the bits i of the factor; it ends with the factor's highest bit.
+// The sum of v times 2^i over the bits i of the factor, up to its highest. The loop counts to a number that is known, so that the
+// compiler lays its turns out flat.
 pub fn scale(v: [u8; 16], c: u8) -> [u8; 16]
     ensures { λ r. ⌜ ((l : ℕ) → getD r l 0 ≡ product (getD v l 0) c) ⌝ }
 {
     let mut sum = [0u8; 16];
     let mut term = v;
     let mut rest = c;
-    while rest != 0 {
+    for _ in 0..8usize {
         if rest % 2 == 1 {
             let next = add(sum, term);
             sum = next;
         }
+        rest = rest / 2;
+        if rest == 0 {
+            return sum;
+        }
         let next = double(term);
         term = next;
-        rest = rest / 2;
     }
     sum
 }

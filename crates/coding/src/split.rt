@@ -1,6 +1,7 @@
 // Splitting a page into pieces, straight from its bytes: no frame is made, and the pieces themselves are the accumulators.
 use crate::answer::Refusal;
 use crate::answer::SplitAnswer;
+use crate::areas::block;
 use crate::areas::load;
 use crate::areas::store;
 use crate::frame::gather;
@@ -81,13 +82,6 @@ fn write_pieces(n: usize, k: usize, f: usize, len: usize, page: &[u8], room: &mu
         write_block(n, k, f, j, m, page, room);
         j += m;
     }
-}
-
-fn block(left: usize) -> usize
-    requires { ⌜ 0 < left ⌝ }
-    ensures { λ r. ⌜ (0 < r) × (r ≤ 16) × (r ≤ left) ⌝ }
-{
-    if left < 16 { left } else { 16 }
 }
 
 // Splits a page into n pieces, any k of which make it. The room is n areas of f bytes, of which each takes one piece.

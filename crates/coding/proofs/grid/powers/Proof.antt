@@ -13,7 +13,12 @@ use Rattle.coding.proofs.grid.powers.Statement.{statement}
 use Rattle.coding.proofs.grid.powers.Tie as tie
 
 abbrev Inv-loop : tie.InvT-loop
-Inv-loop x s k exp log row₀ power₀ t₀ row power t = (t ≤ k) × (length row ≡ 32) × (power ≡ pow x t) × ((i : ℕ) → i < t → getD row i 0 ≡ pow x i) × ((i : ℕ) → getD row (16 + i) 0 ≡ 0)
+Inv-loop x s k exp log row₀ power₀ t₀ row power t =
+    (t ≤ k)
+    × (length row ≡ 32)
+    × (power ≡ pow x t)
+    × ((i : ℕ) → i < t → getD row i 0 ≡ pow x i)
+    × ((i : ℕ) → getD row (16 + i) 0 ≡ 0)
 
 abbrev μ-loop : tie.MeasureT-loop
 μ-loop x s k exp log row₀ power₀ t₀ row power t = k - t

@@ -9,7 +9,7 @@ use Rattle.coding.proofs.split.write_pieces.Statement.{statement}
 use Rattle.coding.proofs.split.write_pieces.Tie as tie
 use Rattle.coding.proofs.split.write_pieces.Reads as reads
 use Rattle.coding.proofs.split.write_pieces.Lts as lts
-use Rattle.coding.proofs.split.block.Reads as block-reads
+use Rattle.coding.proofs.areas.block.Reads as block-reads
 use Rattle.coding.proofs.split.write_block.Reads as write-block-reads
 
 abbrev Inv-loop : tie.InvT-loop

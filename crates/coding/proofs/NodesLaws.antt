@@ -1,0 +1,161 @@
+-- Laws of the nodes that a bit map names.
+use mathlib.Core.Path.{_≡_, refl, sym, ap, _∙_}
+use mathlib.Core.Bool.{Bool, true, false, cond, _&&_, true≢false}
+use mathlib.Core.List.{List, [], _∷_, _++_, append-nil}
+use Prim.Native.Nat.{ℕ, zero, suc, _+_, _-_, _*_, _/_, _%_, _^_, _<_, _≤_}
+use native.Mathlib.Nat.{not-suc-le-zero, div-eq-of-lt, div-lt-iff-lt-mul, one-mul}
+use native.Mathlib.Numerals.{add-one}
+use native.Mathlib.Decide.{decLt}
+use native.Mathlib.Omega.{arith}
+use borrow.Author.Tests.{lt-ltb, le-ltb, lt-leb, le-leb, eq-eqb, ne-eqb}
+use lib.Pow.{pow-pos}
+use lib.Bits.{bitAnd, and-mask}
+use lib.Dec.{leb, ltb, eqb}
+use lib.ListN.{length, getD, take, drop, set, length-append, length-set, List·getD-append}
+use lib.Seq.{take-suc-set, take-take, getD-take, drop-cons, drop-length, getD-append-seam}
+use Rattle.coding.specs.declared.nodes.Nodes.{Nodes}
+use Rattle.coding.specs.Nodes.{all, nodesOf, sound, firstLength, Named}
+
+-- nothing is left of a number below a power once it is shifted by that power
+pub shifted-out : (m n : ℕ) → eqb (m / 2 ^ n) 0 ≡ ltb m (2 ^ n)
+shifted-out m n = go (decLt m (2 ^ n))
+  where
+    go : Dec (m < 2 ^ n) → eqb (m / 2 ^ n) 0 ≡ ltb m (2 ^ n)
+    go (yes h) = eq-eqb (m / 2 ^ n) 0 (div-eq-of-lt h) ∙ sym (lt-ltb m (2 ^ n) h)
+    go (no h) =
+        ne-eqb (m / 2 ^ n) 0
+        (λ e.
+        let b : m / 2 ^ n < 1 = omega arith in
+        let d : m < 1 * 2 ^ n = div-lt-iff-lt-mul (pow-pos n) .0 b in omega arith)
+        ∙ sym (le-ltb m (2 ^ n) (omega arith))
+
+-- one node more
+pub nodes-skip : (map i : ℕ) → eqb (map / 2 ^ i % 2) 1 ≡ false → nodesOf map (i + 1) ≡ nodesOf map i
+unfolding nodesOf
+nodes-skip map i e = rw (add-one i) (simp e (append-nil (nodesOf map i)))
+
+pub nodes-more : (map i : ℕ) → eqb (map / 2 ^ i % 2) 1 ≡ true → nodesOf map (i + 1) ≡ nodesOf map i ++ ((i + 1) ∷ [])
+unfolding nodesOf
+nodes-more map i e = rw (add-one i) (simp e refl)
+
+pub nodes-few : (map i : ℕ) → length (nodesOf map i) ≤ i
+unfolding nodesOf
+nodes-few map zero = omega arith
+nodes-few map (suc i) = go (eqb (map / 2 ^ i % 2) 1) (nodes-few map i)
+  where
+    go : (b : Bool) → length (nodesOf map i) ≤ i → length (nodesOf map i ++ cond b (suc i ∷ []) []) ≤ suc i
+    go true h = rw length-append (omega arith)
+    go false h = rw length-append (omega arith)
+
+pub named-skip : (map i : ℕ) (nodes : Nodes) → Named map i nodes → eqb (map / 2 ^ i % 2) 1 ≡ false → Named map (i + 1) nodes
+named-skip map i nodes h e =
+    record { many = h .many ∙ ap length (sym (nodes-skip map i e)); first = h .first ∙ sym (nodes-skip map i e) }
+
+pub named-more : (map i : ℕ) (nodes : Nodes) → length (nodes .list) ≡ 16 → i < 16 → Named map i nodes → eqb (map / 2 ^ i % 2) 1 ≡ true
+    → Named map (i + 1) (record { list = set (nodes .list) (nodes .count) (i + 1); count = nodes .count + 1 })
+named-more map i nodes l h n e =
+    let c : nodes .count < length (nodes .list) = omega (arith, nodes-few map i, n .many) in
+    record {
+      many = omega (arith, n .many, ap length (nodes-more map i e) ∙ length-append (nodesOf map i) ((i + 1) ∷ []));
+      first = rw add-one
+          (take-suc-set (nodes .list) (nodes .count) (i + 1) c
+          ∙ ap (λ (s : List ℕ). s ++ ((i + 1) ∷ [])) (n .first)
+          ∙ sym (nodes-more map i e));
+    }
+
+-- the nodes are from 1 to n and ascend
+pub nodes-within : (map n s : ℕ) → s < length (nodesOf map n) → (1 ≤ getD (nodesOf map n) s 0) × (getD (nodesOf map n) s 0 ≤ n)
+unfolding nodesOf
+nodes-within map zero s h = absurd (not-suc-le-zero h)
+nodes-within map (suc i) s h = go (eqb (map / 2 ^ i % 2) 1) (nodes-within map i s) h (decLt s (length (nodesOf map i)))
+  where
+    go : (b : Bool) → (s < length (nodesOf map i) → (1 ≤ getD (nodesOf map i) s 0) × (getD (nodesOf map i) s 0 ≤ i))
+        → s < length (nodesOf map i ++ cond b (suc i ∷ []) []) → Dec (s < length (nodesOf map i))
+        → (1 ≤ getD (nodesOf map i ++ cond b (suc i ∷ []) []) s 0) × (getD (nodesOf map i ++ cond b (suc i ∷ []) []) s 0 ≤ suc i)
+    go b ih t (yes l) =
+        let e : getD (nodesOf map i ++ cond b (suc i ∷ []) []) s 0 ≡ getD (nodesOf map i) s 0 =
+        List·getD-append (nodesOf map i) (cond b (suc i ∷ []) []) 0 s l
+        in omega (arith, ih l)
+    go true ih t (no l) =
+        let z : s < length (nodesOf map i) + 1 = rw length-append at t in
+        let y : s ≡ length (nodesOf map i) = omega arith in
+        let e : getD (nodesOf map i ++ (suc i ∷ [])) s 0 ≡ suc i =
+        ap (λ (x : ℕ). getD (nodesOf map i ++ (suc i ∷ [])) x 0) y ∙ getD-append-seam (nodesOf map i) (suc i) [] 0
+        in omega arith
+    go false ih t (no l) = let z : s < length (nodesOf map i) + 0 = rw length-append at t in absurd (omega arith)
+
+pub nodes-ascend : (map n s : ℕ) → suc s < length (nodesOf map n) → getD (nodesOf map n) s 0 < getD (nodesOf map n) (suc s) 0
+unfolding nodesOf
+nodes-ascend map zero s h = absurd (not-suc-le-zero h)
+nodes-ascend map (suc i) s h = go (eqb (map / 2 ^ i % 2) 1) (nodes-ascend map i s) h (decLt (suc s) (length (nodesOf map i)))
+  where
+    go : (b : Bool) → (suc s < length (nodesOf map i) → getD (nodesOf map i) s 0 < getD (nodesOf map i) (suc s) 0)
+        → suc s < length (nodesOf map i ++ cond b (suc i ∷ []) []) → Dec (suc s < length (nodesOf map i))
+        → getD (nodesOf map i ++ cond b (suc i ∷ []) []) s 0 < getD (nodesOf map i ++ cond b (suc i ∷ []) []) (suc s) 0
+    go b ih t (yes l) =
+        let e : getD (nodesOf map i ++ cond b (suc i ∷ []) []) s 0 ≡ getD (nodesOf map i) s 0 =
+        List·getD-append (nodesOf map i) (cond b (suc i ∷ []) []) 0 s (omega arith)
+        in
+        let f : getD (nodesOf map i ++ cond b (suc i ∷ []) []) (suc s) 0 ≡ getD (nodesOf map i) (suc s) 0 =
+        List·getD-append (nodesOf map i) (cond b (suc i ∷ []) []) 0 (suc s) l
+        in omega (arith, ih l)
+    go true ih t (no l) =
+        let z : suc s < length (nodesOf map i) + 1 = rw length-append at t in
+        let y : suc s ≡ length (nodesOf map i) = omega arith in
+        let b : s < length (nodesOf map i) = omega arith in
+        let e : getD (nodesOf map i ++ (suc i ∷ [])) s 0 ≡ getD (nodesOf map i) s 0 = List·getD-append (nodesOf map i) (suc i ∷ []) 0 s b in
+        let f : getD (nodesOf map i ++ (suc i ∷ [])) (suc s) 0 ≡ suc i =
+        ap (λ (x : ℕ). getD (nodesOf map i ++ (suc i ∷ [])) x 0) y ∙ getD-append-seam (nodesOf map i) (suc i) [] 0
+        in omega (arith, nodes-within map i s b)
+    go false ih t (no l) = let z : suc s < length (nodesOf map i) + 0 = rw length-append at t in absurd (omega arith)
+
+-- a test over a list, from a place on
+pub all-step : (f : ℕ → Bool) (xs : List ℕ) (s : ℕ) → s < length xs → all f (drop s xs) ≡ (f (getD xs s 0) && all f (drop (s + 1) xs))
+unfolding all
+all-step f xs s h = rw (add-one s) (ap (all f) (drop-cons xs s 0 h))
+
+pub all-end : (f : ℕ → Bool) (xs : List ℕ) (s : ℕ) → length xs ≡ s → all f (drop s xs) ≡ true
+unfolding all
+all-end f xs s h = rw (← h) (ap (all f) (drop-length xs))
+
+module _ (F : ℕ) (lens xs : List ℕ) (some : 0 < length xs) (len : ℕ) (e : len ≡ getD lens (getD xs 0 0 - 1) 0) where
+  sound-first : sound F lens xs ≡ (leb 1 len && (leb len F && all (λ i. eqb (getD lens (i - 1) 0) len) (drop 1 xs)))
+  unfolding sound all
+  sound-first = rw e (go xs some)
+    where
+      go : (xs : List ℕ) → 0 < length xs
+          → sound F lens xs ≡ (leb 1 (getD lens (getD xs 0 0 - 1) 0) && (leb (getD lens (getD xs 0 0 - 1) 0) F
+          && all (λ i. eqb (getD lens (i - 1) 0) (getD lens (getD xs 0 0 - 1) 0)) (drop 1 xs)))
+      go [] h = absurd (not-suc-le-zero h)
+      go (x ∷ xs) h = refl
+
+  pub sound-low : len < 1 → sound F lens xs ≡ false
+  sound-low h = sound-first ∙ simp (lt-leb 1 len h)
+
+  pub sound-high : 1 ≤ len → F < len → sound F lens xs ≡ false
+  sound-high h l = sound-first ∙ simp (le-leb 1 len h, lt-leb len F l)
+
+  pub sound-rest : 1 ≤ len → len ≤ F → sound F lens xs ≡ all (λ i. eqb (getD lens (i - 1) 0) len) (drop 1 xs)
+  sound-rest h l = sound-first ∙ simp (le-leb 1 len h, le-leb len F l)
+
+pub first-length : (lens xs : List ℕ) → 0 < length xs → firstLength lens xs ≡ getD lens (getD xs 0 0 - 1) 0
+unfolding firstLength
+first-length lens [] h = absurd (not-suc-le-zero h)
+first-length lens (x ∷ xs) h = refl
+
+-- sound pieces have a length from 1 to F
+pub sound-length : (F : ℕ) (lens xs : List ℕ) → 0 < length xs → sound F lens xs ≡ true → (1 ≤ firstLength lens xs) × (firstLength lens xs ≤ F)
+sound-length F lens xs h e = rw (first-length lens xs h) (go (decLt (getD lens (getD xs 0 0 - 1) 0) 1) (decLt F (getD lens (getD xs 0 0 - 1) 0)))
+  where
+    go : Dec (getD lens (getD xs 0 0 - 1) 0 < 1) → Dec (F < getD lens (getD xs 0 0 - 1) 0)
+        → (1 ≤ getD lens (getD xs 0 0 - 1) 0) × (getD lens (getD xs 0 0 - 1) 0 ≤ F)
+    go (yes l) m = absurd (true≢false (sym e ∙ sound-low F lens xs h (getD lens (getD xs 0 0 - 1) 0) refl l))
+    go (no l) (yes m) = absurd (true≢false (sym e ∙ sound-high F lens xs h (getD lens (getD xs 0 0 - 1) 0) refl (omega arith) m))
+    go (no l) (no m) = (omega arith, omega arith)
+
+-- a list of nodes shows the nodes
+pub listed-at : (map n : ℕ) (nodes : Nodes) → Named map n nodes → (s : ℕ) → s < nodes .count → getD (nodes .list) s 0 ≡ getD (nodesOf map n) s 0
+listed-at map n nodes h s l = sym (getD-take (nodes .count) (nodes .list) s 0 l) ∙ ap (λ (t : List ℕ). getD t s 0) (h .first)
+
+pub listed-take : (map n : ℕ) (nodes : Nodes) → Named map n nodes → (k : ℕ) → k ≤ nodes .count → take k (nodes .list) ≡ take k (nodesOf map n)
+listed-take map n nodes h k l = sym (take-take k (nodes .count) (nodes .list) l) ∙ ap (take k) (h .first)

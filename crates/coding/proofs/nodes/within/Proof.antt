@@ -1,0 +1,18 @@
+use borrow.Author.Needs.{needs}
+use Rattle.coding.proofs.NodesLaws.{shifted-out}
+use Rattle.coding.proofs.nodes.within.Statement.{statement}
+use Rattle.coding.proofs.nodes.within.Tie as tie
+use Rattle.coding.proofs.nodes.within.Reads as reads
+use Rattle.coding.proofs.nodes.within.Lts as lts
+
+cast-result : tie.Need-cast-result
+cast-result c = search needs
+
+shr-result : tie.Need-shr-result
+shr-result c = search needs
+
+returns : tie.Need-returns
+returns c = shifted-out (c .args .map) (c .args .n)
+
+pub within-spec : {M : Type 1} → statement M
+within-spec = tie.close (tie.spec cast-result shr-result returns)

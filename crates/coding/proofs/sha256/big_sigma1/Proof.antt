@@ -1,0 +1,18 @@
+use borrow.Author.Needs.{needs}
+use Rattle.coding.proofs.sha256.big_sigma1.Statement.{statement}
+use Rattle.coding.proofs.sha256.big_sigma1.Tie as tie
+
+rotr-requires : tie.Need-rotr-requires
+rotr-requires c κs = search needs
+
+rotr-requires-2 : tie.Need-rotr-requires-2
+rotr-requires-2 c κs = search needs
+
+rotr-requires-3 : tie.Need-rotr-requires-3
+rotr-requires-3 c κs = search needs
+
+returns : tie.Need-returns
+returns c = cc
+
+pub big-sigma1-spec : {M : Type 1} → statement M
+big-sigma1-spec = tie.close (tie.spec rotr-requires rotr-requires-2 rotr-requires-3 returns)
