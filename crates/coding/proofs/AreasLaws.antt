@@ -1,12 +1,12 @@
 -- Laws of columns written into areas.
 use mathlib.Core.Path.{_≡_, refl, sym, ap, _∙_}
-use mathlib.Core.List.{List}
+use mathlib.Core.List.{List, [], _++_, append-nil}
 use Prim.Native.Nat.{ℕ, zero, suc, _+_, _-_, _*_, _/_, _%_, _<_, _≤_}
-use native.Mathlib.Nat.{not-suc-le-zero, mul-le-mul-right, mul-add-div-right, div-add-mod', mod-lt, add-zero, zero-add, div-eq-of-lt}
+use native.Mathlib.Nat.{not-suc-le-zero, add-mul, mul-le-mul-right, mul-add-div-right, div-add-mod', mod-lt, add-zero, zero-add, div-eq-of-lt}
 use native.Mathlib.Decide.{decLt, ℕ-discrete}
 use native.Mathlib.Omega.{arith}
-use lib.ListN.{length, getD}
-use lib.Seq.{paste, length-paste, ext-getD}
+use lib.ListN.{length, getD, take, drop, length-append, length-drop, drop-of-length-le, List·getD-append}
+use lib.Seq.{paste, length-paste, length-take-le, take-all, getD-take, getD-drop, getD-append-add, ext-getD}
 use Rattle.coding.specs.Areas.{Columns}
 use Rattle.coding.proofs.BytesLaws.{stride, paste-in, paste-before, paste-after}
 
@@ -123,6 +123,48 @@ columns-unique n F m v t u w pos fits a b =
         rest : ((i l : ℕ) → i < n → l < m → q ≡ i * F + (0 + l) → ⊥) → getD u q 0 ≡ getD w q 0
         rest h = a .outside q h ∙ sym (b .outside q h)
 
+-- areas that follow those written, in the rest of the list
+pub columns-areas : (a c F m : ℕ) (v w : ℕ → ℕ → ℕ) (t u p : List ℕ) → m ≤ F → a * F ≤ length u → ((i l : ℕ) → w i l ≡ v (a + i) l)
+    → Columns a F 0 m v t u → Columns c F 0 m w (drop (a * F) u) p → Columns (a + c) F 0 m v t (take (a * F) u ++ p)
+columns-areas a c F m v w t u p fits r e x y =
+    let n : length (take (a * F) u) ≡ a * F = length-take-le (a * F) u r in
+    record {
+      same = length-append (take (a * F) u) p ∙ omega (arith, x .same, y .same, length-drop (a * F) u);
+      inside = λ i l hi hl. go-in i l hi hl n (decLt i a);
+      outside = λ q h. go-out q h n (decLt q (a * F));
+    }
+  where
+    low : (q : ℕ) → length (take (a * F) u) ≡ a * F → q < a * F → getD (take (a * F) u ++ p) q 0 ≡ getD u q 0
+    low q n h = List·getD-append (take (a * F) u) p 0 q (rw n h) ∙ getD-take (a * F) u q 0 h
+
+    high : (q : ℕ) → length (take (a * F) u) ≡ a * F → getD (take (a * F) u ++ p) (a * F + q) 0 ≡ getD p q 0
+    high q n = ap (λ (z : ℕ). getD (take (a * F) u ++ p) (z + q) 0) (sym n) ∙ getD-append-add (take (a * F) u) p q 0
+
+    go-in : (i l : ℕ) → i < a + c → l < m → length (take (a * F) u) ≡ a * F → Dec (i < a) → getD (take (a * F) u ++ p) (i * F + (0 + l)) 0 ≡ v i l
+    go-in i l hi hl n (yes h) = low (i * F + (0 + l)) n (omega (arith, below-area i a F h)) ∙ x .inside i l h hl
+    go-in i l hi hl n (no h) =
+        let d : i ≡ a + (i - a) = omega arith in
+        let z : i * F + (0 + l) ≡ a * F + ((i - a) * F + (0 + l)) =
+        ap (λ (k : ℕ). k * F + (0 + l)) d ∙ omega (arith, add-mul a (i - a) F)
+        in
+        ap (λ (k : ℕ). getD (take (a * F) u ++ p) k 0) z
+        ∙ high ((i - a) * F + (0 + l)) n
+        ∙ y .inside (i - a) l (omega arith) hl
+        ∙ e (i - a) l
+        ∙ ap (λ (k : ℕ). v k l) (sym d)
+
+    go-out : (q : ℕ) → ((i l : ℕ) → i < a + c → l < m → q ≡ i * F + (0 + l) → ⊥) → length (take (a * F) u) ≡ a * F → Dec (q < a * F)
+        → getD (take (a * F) u ++ p) q 0 ≡ getD t q 0
+    go-out q h n (yes b) = low q n b ∙ x .outside q (λ i l hi hl. h i l (omega arith) hl)
+    go-out q h n (no b) =
+        let d : q ≡ a * F + (q - a * F) = omega arith in
+        ap (λ (k : ℕ). getD (take (a * F) u ++ p) k 0) d
+        ∙ high (q - a * F) n
+        ∙ y .outside (q - a * F) (λ i l hi hl z. h (a + i) l (omega arith) hl (omega (arith, add-mul a i F)))
+        ∙ getD-drop (a * F) u (q - a * F) 0
+        ∙ ap (λ (k : ℕ). getD u k 0) (sym d)
+        ∙ x .outside q (λ i l hi hl. h i l (omega arith) hl)
+
 -- a loop over the areas: those below i are written, and the next place is area i's
 pub record Walk (n F j m : ℕ) (v : ℕ → ℕ → ℕ) (t u : List ℕ) (at i : ℕ) : Type 0 where
   pub within : i ≤ n
@@ -156,3 +198,13 @@ module _ (n F j m : ℕ) (v : ℕ → ℕ → ℕ) (t u : List ℕ) (at i : ℕ)
 
   pub walk-all : n ≤ i → Columns n F j m v t u
   walk-all h = let e : i ≡ n = omega (arith, w .within) in rw e at (w .columns)
+
+-- the same, of a part lent from a place to the end
+pub columns-rest : (a c F m : ℕ) (v w : ℕ → ℕ → ℕ) (t u p : List ℕ) → m ≤ F → a * F ≤ length u → ((i l : ℕ) → w i l ≡ v (a + i) l)
+    → Columns a F 0 m v t u → Columns c F 0 m w (take (length u - a * F) (drop (a * F) u)) p
+    → Columns (a + c) F 0 m v t (take (a * F) u ++ (p ++ drop (length u - a * F) (drop (a * F) u)))
+columns-rest a c F m v w t u p fits r e x y =
+    let s : length (drop (a * F) u) ≡ length u - a * F = length-drop (a * F) u in
+    let d : take (length u - a * F) (drop (a * F) u) ≡ drop (a * F) u = take-all (length u - a * F) (drop (a * F) u) (omega arith) in
+    let z : drop (length u - a * F) (drop (a * F) u) ≡ [] = drop-of-length-le (drop (a * F) u) {i = length u - a * F} (omega arith) in
+    rw z (rw (append-nil p) (columns-areas a c F m v w t u p fits r e x (rw d at y)))

@@ -57,7 +57,7 @@ named-more map i nodes l h n e =
     let c : nodes .count < length (nodes .list) = omega (arith, nodes-few map i, n .many) in
     record {
       many = omega (arith, n .many, ap length (nodes-more map i e) ∙ length-append (nodesOf map i) ((i + 1) ∷ []));
-      first = rw add-one
+      first = rw (add-one (nodes .count))
           (take-suc-set (nodes .list) (nodes .count) (i + 1) c
           ∙ ap (λ (s : List ℕ). s ++ ((i + 1) ∷ [])) (n .first)
           ∙ sym (nodes-more map i e));

@@ -19,11 +19,25 @@ use Rattle.coding.specs.Frame.{frameByte}
 use Rattle.coding.specs.Areas.{Columns}
 use Rattle.coding.specs.Answer.{Outcome}
 use Rattle.coding.specs.Split.{SplitEnd, written, split}
-use Rattle.coding.proofs.BytesLaws.{length-tabulate, getD-tabulate, stride}
+use Rattle.coding.proofs.BytesLaws.{length-tabulate, getD-tabulate, paste-ext}
 use Rattle.coding.proofs.FieldLaws.{zero-product}
 use Rattle.coding.proofs.PolynomialLaws.{sum-same, value-powers}
 use Rattle.coding.proofs.FrameLaws.{frame-at, frame-bytes}
 use Rattle.coding.proofs.AreasLaws.{columns-none, columns-more, columns-again, columns-join, columns-unique}
+
+-- a turn of Horner's rule, from what its four steps give
+pub turned : (t : List ℕ) (at m x : ℕ) (row loaded scaled next u : List ℕ) → m ≤ 16 → length next ≡ 16
+    → ((l : ℕ) → l < m → getD loaded l 0 ≡ getD t (at + l) 0) → ((l : ℕ) → getD scaled l 0 ≡ product (getD loaded l 0) x)
+    → ((l : ℕ) → getD next l 0 ≡ getD scaled l 0 ⊕ getD row l 0) → u ≡ paste t at next m
+    → u ≡ paste t at (tabulate m (λ l. product (getD t (at + l) 0) x ⊕ getD row l 0)) m
+turned t at m x row loaded scaled next u hm hn a b c e =
+    let f : ℕ → ℕ = λ l. product (getD t (at + l) 0) x ⊕ getD row l 0 in
+    e
+    ∙ paste-ext t at next (tabulate m f) m (omega arith) (le-of-eq (sym (length-tabulate m f)))
+    (λ l h.
+    c l
+    ∙ ap (λ (v : ℕ). v ⊕ getD row l 0) (b l ∙ ap (λ (v : ℕ). product v x) (a l h))
+    ∙ sym (getD-tabulate m f l 0 h))
 
 -- column c of the frame
 pub column : ℕ → List ℕ → ℕ → List ℕ
@@ -46,26 +60,26 @@ column-bytes k page c b i = go (decLt i k)
         let e : getD (column k page c) i 0 ≡ 0 = List·getD-eq-default (column k page c) 0 (rw (length-column k page c) (omega arith)) in
         omega arith
 
--- the value at point i + 1 of the rows from r on
-pub rows : ℕ → List ℕ → ℕ → ℕ → ℕ → ℕ → ℕ
-rows k page j r i l = value (drop r (column k page (j + l))) (i + 1)
+-- the value at point first + i + 1 of the rows from r on
+pub rows : ℕ → ℕ → List ℕ → ℕ → ℕ → ℕ → ℕ → ℕ
+rows first k page j r i l = value (drop r (column k page (j + l))) (first + i + 1)
 
-rows-step : (k : ℕ) (page : List ℕ) (j r i l : ℕ) → r < k
-    → rows k page j r i l ≡ frameByte page ((j + l) * k + r) ⊕ product (rows k page j (r + 1) i l) (i + 1)
+rows-step : (first k : ℕ) (page : List ℕ) (j r i l : ℕ) → r < k
+    → rows first k page j r i l ≡ frameByte page ((j + l) * k + r) ⊕ product (rows first k page j (r + 1) i l) (first + i + 1)
 unfolding rows value
-rows-step k page j r i l h =
+rows-step first k page j r i l h =
     let s : r < length (column k page (j + l)) = rw (length-column k page (j + l)) h in
-    ap (λ (p : List ℕ). value p (i + 1)) (drop-cons (column k page (j + l)) r 0 s)
-    ∙ ap₂ (λ (a : ℕ) (n : ℕ). a ⊕ product (value (drop n (column k page (j + l))) (i + 1)) (i + 1))
+    ap (λ (p : List ℕ). value p (first + i + 1)) (drop-cons (column k page (j + l)) r 0 s)
+    ∙ ap₂ (λ (a : ℕ) (n : ℕ). a ⊕ product (value (drop n (column k page (j + l))) (first + i + 1)) (first + i + 1))
     (getD-column k page (j + l) r h) (sym (add-one r))
 
-rows-none : (k : ℕ) (page : List ℕ) (j i l : ℕ) → rows k page j k i l ≡ 0
+rows-none : (first k : ℕ) (page : List ℕ) (j i l : ℕ) → rows first k page j k i l ≡ 0
 unfolding rows value
-rows-none k page j i l =
-    ap (λ (n : ℕ). value (drop n (column k page (j + l))) (i + 1)) (sym (length-column k page (j + l)))
-    ∙ ap (λ (p : List ℕ). value p (i + 1)) (drop-length (column k page (j + l)))
+rows-none first k page j i l =
+    ap (λ (n : ℕ). value (drop n (column k page (j + l))) (first + i + 1)) (sym (length-column k page (j + l)))
+    ∙ ap (λ (p : List ℕ). value p (first + i + 1)) (drop-length (column k page (j + l)))
 
-columns-ext : (n F j m : ℕ) (v w : ℕ → ℕ → ℕ) (t u : List ℕ) → ((i l : ℕ) → i < n → l < m → v i l ≡ w i l) → Columns n F j m v t u → Columns n F j m w t u
+pub columns-ext : (n F j m : ℕ) (v w : ℕ → ℕ → ℕ) (t u : List ℕ) → ((i l : ℕ) → i < n → l < m → v i l ≡ w i l) → Columns n F j m v t u → Columns n F j m w t u
 columns-ext n F j m v w t u e c =
     record { same = c .same; inside = λ i l hi hl. c .inside i l hi hl ∙ e i l hi hl; outside = c .outside }
 
@@ -79,35 +93,35 @@ lanes-at k page j r l h =
     getD-tabulate 16 (λ l. frameByte page (j * k + r + l * k)) l 0 h ∙ ap (frameByte page) e
 
 -- the highest row alone
-pub block-start : (n F k : ℕ) (page : List ℕ) (j m : ℕ) (row t u : List ℕ) → m ≤ 16 → 1 ≤ k → row ≡ lanes k page j (k - 1)
-    → Columns n F j m (λ i l. getD row l 0) t u → Columns n F j m (rows k page j (k - 1)) t u
-block-start n F k page j m row t u hm hk e c =
-    columns-ext n F j m (λ i l. getD row l 0) (rows k page j (k - 1)) t u
+pub block-start : (first n F k : ℕ) (page : List ℕ) (j m : ℕ) (row t u : List ℕ) → m ≤ 16 → 1 ≤ k → row ≡ lanes k page j (k - 1)
+    → Columns n F j m (λ i l. getD row l 0) t u → Columns n F j m (rows first k page j (k - 1)) t u
+block-start first n F k page j m row t u hm hk e c =
+    columns-ext n F j m (λ i l. getD row l 0) (rows first k page j (k - 1)) t u
     (λ i l hi hl.
     let z : k - 1 + 1 ≡ k = omega arith in
     ap (λ (v : List ℕ). getD v l 0) e
     ∙ lanes-at k page j (k - 1) l (omega arith)
     ∙ sym
-    (rows-step k page j (k - 1) i l (omega arith)
-    ∙ ap (λ (x : ℕ). frameByte page ((j + l) * k + (k - 1)) ⊕ product x (i + 1))
-    (ap (λ (x : ℕ). rows k page j x i l) z ∙ rows-none k page j i l)
-    ∙ ap (λ (x : ℕ). frameByte page ((j + l) * k + (k - 1)) ⊕ x) (zero-product (i + 1))
+    (rows-step first k page j (k - 1) i l (omega arith)
+    ∙ ap (λ (x : ℕ). frameByte page ((j + l) * k + (k - 1)) ⊕ product x (first + i + 1))
+    (ap (λ (x : ℕ). rows first k page j x i l) z ∙ rows-none first k page j i l)
+    ∙ ap (λ (x : ℕ). frameByte page ((j + l) * k + (k - 1)) ⊕ x) (zero-product (first + i + 1))
     ∙ xor-zero-r (frameByte page ((j + l) * k + (k - 1)))))
     c
 
 -- one row more
-pub block-more : (n F k : ℕ) (page : List ℕ) (j m r : ℕ) (row t u w : List ℕ) → m ≤ 16 → r < k → row ≡ lanes k page j r
-    → Columns n F j m (rows k page j (r + 1)) t u
-    → Columns n F j m (λ i l. product (getD u (i * F + (j + l)) 0) (i + 1) ⊕ getD row l 0) u w
-    → Columns n F j m (rows k page j r) t w
-block-more n F k page j m r row t u w hm hr e a b =
-    columns-again n F j m (rows k page j (r + 1)) (rows k page j r) t u w a
-    (columns-ext n F j m (λ i l. product (getD u (i * F + (j + l)) 0) (i + 1) ⊕ getD row l 0) (rows k page j r) u w
+pub block-more : (first n F k : ℕ) (page : List ℕ) (j m r : ℕ) (row t u w : List ℕ) → m ≤ 16 → r < k → row ≡ lanes k page j r
+    → Columns n F j m (rows first k page j (r + 1)) t u
+    → Columns n F j m (λ i l. product (getD u (i * F + (j + l)) 0) (first + i + 1) ⊕ getD row l 0) u w
+    → Columns n F j m (rows first k page j r) t w
+block-more first n F k page j m r row t u w hm hr e a b =
+    columns-again n F j m (rows first k page j (r + 1)) (rows first k page j r) t u w a
+    (columns-ext n F j m (λ i l. product (getD u (i * F + (j + l)) 0) (first + i + 1) ⊕ getD row l 0) (rows first k page j r) u w
     (λ i l hi hl.
-    ap₂ (λ (x : ℕ) (y : ℕ). product x (i + 1) ⊕ y) (a .inside i l hi hl)
+    ap₂ (λ (x : ℕ) (y : ℕ). product x (first + i + 1) ⊕ y) (a .inside i l hi hl)
     (ap (λ (v : List ℕ). getD v l 0) e ∙ lanes-at k page j r l (omega arith))
-    ∙ xor-comm (product (rows k page j (r + 1) i l) (i + 1)) (frameByte page ((j + l) * k + r))
-    ∙ sym (rows-step k page j r i l hr))
+    ∙ xor-comm (product (rows first k page j (r + 1) i l) (first + i + 1)) (frameByte page ((j + l) * k + r))
+    ∙ sym (rows-step first k page j r i l hr))
     b)
 
 -- the value of a column is the byte of a piece
@@ -120,12 +134,12 @@ column-value k page x c b =
     (λ r h. ap (λ (v : ℕ). product v (power x r)) (getD-column k page c r h ∙ sym (frame-at k page (c * k + r))))
 
 -- all the rows
-pub block-all : (n F k : ℕ) (page : List ℕ) (j m : ℕ) (t u : List ℕ) → Bytes page → Columns n F j m (rows k page j 0) t u
-    → Columns n F j m (λ i l. pieceByte k (frame k page) (i + 1) (j + l)) t u
+pub block-all : (first n F k : ℕ) (page : List ℕ) (j m : ℕ) (t u : List ℕ) → Bytes page → Columns n F j m (rows first k page j 0) t u
+    → Columns n F j m (λ i l. pieceByte k (frame k page) (first + i + 1) (j + l)) t u
 unfolding rows
-block-all n F k page j m t u b c =
-    columns-ext n F j m (rows k page j 0) (λ i l. pieceByte k (frame k page) (i + 1) (j + l)) t u
-    (λ i l hi hl. column-value k page (i + 1) (j + l) b) c
+block-all first n F k page j m t u b c =
+    columns-ext n F j m (rows first k page j 0) (λ i l. pieceByte k (frame k page) (first + i + 1) (j + l)) t u
+    (λ i l hi hl. column-value k page (first + i + 1) (j + l) b) c
 
 -- the room that splitting leaves, by its columns
 pub written-columns : (k F : ℕ) (page room : List ℕ) (n : ℕ) → columns k (length page) ≤ F → n * F ≤ length room

@@ -5,7 +5,7 @@ ghost use lib.ListN.{length, getD};
 ghost use lib.Seq.{paste};
 
 // The lanes at a place of the room; the count is known, so that this is one load.
-fn load_whole(room: &[u8], at: usize) -> [u8; 16]
+pub fn load_whole(room: &[u8], at: usize) -> [u8; 16]
     requires { ⌜ at + 16 ≤ length (now room) ⌝ }
     ensures { λ r. ⌜ ((l : ℕ) → l < 16 → getD r l 0 ≡ getD (now (room .entry)) (at + l) 0) ⌝ }
 {
@@ -16,7 +16,7 @@ fn load_whole(room: &[u8], at: usize) -> [u8; 16]
     v
 }
 
-fn load_part(room: &[u8], at: usize, m: usize) -> [u8; 16]
+pub fn load_part(room: &[u8], at: usize, m: usize) -> [u8; 16]
     requires { ⌜ (at + m ≤ length (now room)) × (m ≤ 16) ⌝ }
     ensures { λ r. ⌜ ((l : ℕ) → l < m → getD r l 0 ≡ getD (now (room .entry)) (at + l) 0) ⌝ }
 {
@@ -27,18 +27,7 @@ fn load_part(room: &[u8], at: usize, m: usize) -> [u8; 16]
     v
 }
 
-pub fn load(room: &[u8], at: usize, m: usize) -> [u8; 16]
-    requires { ⌜ (at + m ≤ length (now room)) × (m ≤ 16) ⌝ }
-    ensures { λ r. ⌜ ((l : ℕ) → l < m → getD r l 0 ≡ getD (now (room .entry)) (at + l) 0) ⌝ }
-{
-    if m == 16 {
-        load_whole(room, at)
-    } else {
-        load_part(room, at, m)
-    }
-}
-
-fn store_whole(room: &mut [u8], at: usize, v: [u8; 16])
+pub fn store_whole(room: &mut [u8], at: usize, v: [u8; 16])
     requires { ⌜ at + 16 ≤ length (now room) ⌝ }
     ensures { λ _. ⌜ now (room .exit) ≡ paste (now (room .entry)) at v 16 ⌝ }
 {
@@ -47,7 +36,7 @@ fn store_whole(room: &mut [u8], at: usize, v: [u8; 16])
     }
 }
 
-fn store_part(room: &mut [u8], at: usize, m: usize, v: [u8; 16])
+pub fn store_part(room: &mut [u8], at: usize, m: usize, v: [u8; 16])
     requires { ⌜ (at + m ≤ length (now room)) × (m ≤ 16) ⌝ }
     ensures { λ _. ⌜ now (room .exit) ≡ paste (now (room .entry)) at v m ⌝ }
 {

@@ -2,7 +2,8 @@
 use crate::answer::JoinAnswer;
 use crate::answer::Refusal;
 use crate::areas::block;
-use crate::areas::load;
+use crate::areas::load_part;
+use crate::areas::load_whole;
 use crate::grid::invert;
 use crate::lanes::add;
 use crate::lanes::scale;
@@ -24,8 +25,29 @@ ghost use Rattle.coding.specs.Answer.{joinOutcome};
 ghost use Rattle.coding.specs.Nodes.{all};
 ghost use Rattle.coding.specs.Join.{joined, pageOf, pageEnd, Joins, join as joinEnd};
 
-// Row r of the frame in the m columns from j on: the nodes' bytes, weighed.
-fn weigh(
+// Row r of the frame in the 16 columns from j on: the nodes' bytes, weighed. The count is known here, so that a load is one
+// instruction.
+fn weigh_whole(
+    row: [u8; 32],
+    nodes: [u8; 16],
+    k: usize,
+    f: usize,
+    j: usize,
+    room: &[u8],
+) -> [u8; 16]
+    requires { ⌜ (k ≤ 16) × (f ≤ 4096) × (j + 16 ≤ f) × Within (length (now room)) k f nodes ⌝ }
+    ensures { λ v. ⌜ ((l : ℕ) → l < 16 → getD v l 0 ≡ sum k (λ s. product (byteIn f (now (room .entry)) (j + l) (getD nodes s 0)) (getD row (16 + s) 0))) ⌝ }
+{
+    let mut sums = [0u8; 16];
+    for s in 0..k {
+        let at = (nodes[s] as usize - 1) * f + j;
+        let next = add(sums, scale(load_whole(room, at), row[16 + s]));
+        sums = next;
+    }
+    sums
+}
+
+fn weigh_part(
     row: [u8; 32],
     nodes: [u8; 16],
     k: usize,
@@ -40,10 +62,29 @@ fn weigh(
     let mut sums = [0u8; 16];
     for s in 0..k {
         let at = (nodes[s] as usize - 1) * f + j;
-        let next = add(sums, scale(load(room, at, m), row[16 + s]));
+        let next = add(sums, scale(load_part(room, at, m), row[16 + s]));
         sums = next;
     }
     sums
+}
+
+fn weigh(
+    row: [u8; 32],
+    nodes: [u8; 16],
+    k: usize,
+    f: usize,
+    j: usize,
+    m: usize,
+    room: &[u8],
+) -> [u8; 16]
+    requires { ⌜ (k ≤ 16) × (f ≤ 4096) × (m ≤ 16) × (j + m ≤ f) × Within (length (now room)) k f nodes ⌝ }
+    ensures { λ v. ⌜ ((l : ℕ) → l < m → getD v l 0 ≡ sum k (λ s. product (byteIn f (now (room .entry)) (j + l) (getD nodes s 0)) (getD row (16 + s) 0))) ⌝ }
+{
+    if m == 16 {
+        weigh_whole(row, nodes, k, f, j, room)
+    } else {
+        weigh_part(row, nodes, k, f, j, m, room)
+    }
 }
 
 // Row r of the frame, 16 columns at a time.

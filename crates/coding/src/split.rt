@@ -2,8 +2,11 @@
 use crate::answer::Refusal;
 use crate::answer::SplitAnswer;
 use crate::areas::block;
-use crate::areas::load;
+use crate::areas::load_part;
+use crate::areas::load_whole;
 use crate::areas::store;
+use crate::areas::store_part;
+use crate::areas::store_whole;
 use crate::frame::gather;
 use crate::lanes::add;
 use crate::lanes::scale;
@@ -32,56 +35,110 @@ fn start_row(n: usize, f: usize, j: usize, m: usize, row: [u8; 16], room: &mut [
     }
 }
 
-// One turn of Horner's rule at the point x.
+// One turn of Horner's rule at the point x. The count is known here, so that a load and a store are one instruction each.
+fn turn_whole(x: u8, at: usize, row: [u8; 16], room: &mut [u8])
+    requires { ⌜ at + 16 ≤ length (now room) ⌝ }
+    ensures { λ _. ⌜ now (room .exit) ≡ paste (now (room .entry)) at
+        (tabulate 16 (λ l. product (getD (now (room .entry)) (at + l) 0) x ⊕ getD row l 0)) 16 ⌝ }
+{
+    let sums = load_whole(room, at);
+    let next = add(scale(sums, x), row);
+    store_whole(room, at, next);
+}
+
+fn turn_part(x: u8, at: usize, m: usize, row: [u8; 16], room: &mut [u8])
+    requires { ⌜ (at + m ≤ length (now room)) × (m ≤ 16) ⌝ }
+    ensures { λ _. ⌜ now (room .exit) ≡ paste (now (room .entry)) at
+        (tabulate m (λ l. product (getD (now (room .entry)) (at + l) 0) x ⊕ getD row l 0)) m ⌝ }
+{
+    let sums = load_part(room, at, m);
+    let next = add(scale(sums, x), row);
+    store_part(room, at, m, next);
+}
+
 fn turn(x: u8, at: usize, m: usize, row: [u8; 16], room: &mut [u8])
     requires { ⌜ (at + m ≤ length (now room)) × (m ≤ 16) ⌝ }
     ensures { λ _. ⌜ now (room .exit) ≡ paste (now (room .entry)) at
         (tabulate m (λ l. product (getD (now (room .entry)) (at + l) 0) x ⊕ getD row l 0)) m ⌝ }
 {
-    let sums = load(room, at, m);
-    let next = add(scale(sums, x), row);
-    store(room, at, m, next);
+    if m == 16 {
+        turn_whole(x, at, row, room);
+    } else {
+        turn_part(x, at, m, row, room);
+    }
 }
 
-// A lower row enters every sum, that of point i + 1 in area i.
-fn add_row(n: usize, f: usize, j: usize, m: usize, row: [u8; 16], room: &mut [u8])
-    requires { ⌜ (j + m ≤ f) × (m ≤ 16) × (n ≤ 16) × (f ≤ 4096) × (n * f ≤ length (now room)) ⌝ }
-    ensures { λ _. ⌜ Columns n f j m (λ i l. product (getD (now (room .entry)) (i * f + (j + l)) 0) (i + 1) ⊕ getD row l 0)
+// A lower row enters every sum, that of point first + i + 1 in area i.
+fn add_row(first: usize, n: usize, f: usize, j: usize, m: usize, row: [u8; 16], room: &mut [u8])
+    requires { ⌜ (j + m ≤ f) × (m ≤ 16) × (first + n ≤ 16) × (f ≤ 4096) × (n * f ≤ length (now room)) ⌝ }
+    ensures { λ _. ⌜ Columns n f j m (λ i l. product (getD (now (room .entry)) (i * f + (j + l)) 0) (first + i + 1) ⊕ getD row l 0)
         (now (room .entry)) (now (room .exit)) ⌝ }
 {
     let mut at = j;
     for i in 0..n {
-        turn((i + 1) as u8, at, m, row, room);
+        turn((first + i + 1) as u8, at, m, row, room);
         at += f;
     }
 }
 
-// The m columns from j on of every piece: row after row, the highest first.
-fn write_block(n: usize, k: usize, f: usize, j: usize, m: usize, page: &[u8], room: &mut [u8])
-    requires { ⌜ (j + m ≤ f) × (m ≤ 16) × (n ≤ 16) × (f ≤ 4096) × (n * f ≤ length (now room)) × (1 ≤ k) × (k ≤ n) ⌝ }
-    ensures { λ _. ⌜ Columns n f j m (λ i l. pieceByte k (frame k (now (page .entry))) (i + 1) (j + l))
+// The m columns from j on of the pieces from first + 1 on: row after row, the highest first.
+fn write_block(
+    first: usize,
+    n: usize,
+    k: usize,
+    f: usize,
+    j: usize,
+    m: usize,
+    page: &[u8],
+    room: &mut [u8],
+)
+    requires { ⌜ (j + m ≤ f) × (m ≤ 16) × (first + n ≤ 16) × (f ≤ 4096) × (n * f ≤ length (now room)) × (1 ≤ k) × (k ≤ 16) ⌝ }
+    ensures { λ _. ⌜ Columns n f j m (λ i l. pieceByte k (frame k (now (page .entry))) (first + i + 1) (j + l))
         (now (room .entry)) (now (room .exit)) ⌝ }
 {
     let mut r = k - 1;
     start_row(n, f, j, m, gather(page, j * k + r, k), room);
     while 0 < r {
         r -= 1;
-        add_row(n, f, j, m, gather(page, j * k + r, k), room);
+        add_row(first, n, f, j, m, gather(page, j * k + r, k), room);
     }
 }
 
-// Every piece, 16 columns at a time.
-fn write_pieces(n: usize, k: usize, f: usize, len: usize, page: &[u8], room: &mut [u8])
-    requires { ⌜ (len ≤ f) × (n ≤ 16) × (f ≤ 4096) × (n * f ≤ length (now room)) × (1 ≤ k) × (k ≤ n) ⌝ }
-    ensures { λ _. ⌜ Columns n f 0 len (λ i l. pieceByte k (frame k (now (page .entry))) (i + 1) l)
+// The n pieces from first + 1 on, 16 columns at a time.
+fn write_pieces(
+    first: usize,
+    n: usize,
+    k: usize,
+    f: usize,
+    len: usize,
+    page: &[u8],
+    room: &mut [u8],
+)
+    requires { ⌜ (len ≤ f) × (first + n ≤ 16) × (f ≤ 4096) × (n * f ≤ length (now room)) × (1 ≤ k) × (k ≤ 16) ⌝ }
+    ensures { λ _. ⌜ Columns n f 0 len (λ i l. pieceByte k (frame k (now (page .entry))) (first + i + 1) l)
         (now (room .entry)) (now (room .exit)) ⌝ }
 {
     let mut j = 0;
     while j < len {
         let m = block(len - j);
-        write_block(n, k, f, j, m, page, room);
+        write_block(first, n, k, f, j, m, page, room);
         j += m;
     }
+}
+
+// Areas that lie a power of two apart share few places of a cache: eight at a time have room there.
+fn write_areas(n: usize, k: usize, f: usize, len: usize, page: &[u8], room: &mut [u8])
+    requires { ⌜ (len ≤ f) × (n ≤ 16) × (f ≤ 4096) × (n * f ≤ length (now room)) × (1 ≤ k) × (k ≤ 16) ⌝ }
+    ensures { λ _. ⌜ Columns n f 0 len (λ i l. pieceByte k (frame k (now (page .entry))) (i + 1) l)
+        (now (room .entry)) (now (room .exit)) ⌝ }
+{
+    if n <= 8 {
+        write_pieces(0, n, k, f, len, page, room);
+        return;
+    }
+    write_pieces(0, 8, k, f, len, page, room);
+    let rest = 8 * f;
+    write_pieces(8, n - 8, k, f, len, page, &mut room[rest..]);
 }
 
 // Splits a page into n pieces, any k of which make it. The room is n areas of f bytes, of which each takes one piece.
@@ -99,6 +156,6 @@ pub fn split(n: usize, k: usize, f: usize, page: &[u8], room: &mut [u8]) -> Spli
         return SplitAnswer::Refused(Refusal::TooLong);
     }
     let len = piece_length(k, page.len());
-    write_pieces(n, k, f, len, page, room);
+    write_areas(n, k, f, len, page, room);
     SplitAnswer::Pieces(len)
 }

@@ -14,16 +14,19 @@ use Rattle.coding.proofs.split.add_row.Lts as lts
 use Rattle.coding.proofs.split.turn.Reads as turn-reads
 
 abbrev Inv-loop : tie.InvT-loop
-Inv-loop n f j m row room₀ at₀ i₀ room at i = Walk n f j m (λ i l. product (getD room₀ (i * f + (j + l)) 0) (i + 1) ⊕ getD row l 0) room₀ room at i
+Inv-loop first n f j m row room₀ at₀ i₀ room at i = Walk n f j m (λ i l. product (getD room₀ (i * f + (j + l)) 0) (first + i + 1) ⊕ getD row l 0) room₀ room at i
 
 abbrev μ-loop : tie.MeasureT-loop
-μ-loop n f j m row room₀ at₀ i₀ room at i = n - i
+μ-loop first n f j m row room₀ at₀ i₀ room at i = n - i
 
 loop-holds : tie.Need-loop-holds Inv-loop μ-loop
 loop-holds c = walk-none _ _ _ _ _ _
 
 add-turn : tie.Need-add-turn Inv-loop μ-loop
 add-turn c = omega arith
+
+add-turn-2 : tie.Need-add-turn-2 Inv-loop μ-loop
+add-turn-2 c = omega arith
 
 cast-turn : tie.Need-cast-turn Inv-loop μ-loop
 cast-turn c = omega arith
@@ -47,7 +50,7 @@ loop-again c =
     _ (rw length-tabulate (le-refl _))
     (λ l h.
     getD-tabulate (c .before .before .before .before .before .before .before .args .m) _ l 0 h
-    ∙ ap (λ (x : ℕ). product x (c .before .before .before .before .before .loop .i + 1) ⊕ getD (c .before .before .before .before .before .before .before .args .row) l 0)
+    ∙ ap (λ (x : ℕ). product x (c .before .before .before .before .before .before .before .args .first + c .before .before .before .before .before .loop .i + 1) ⊕ getD (c .before .before .before .before .before .before .before .args .row) l 0)
     (walk-kept _ _ _ _ _ _ _ _ _ (c .before .before .before .before .before .before .before .pre .0) (c .before .before .before .before .before .before .before .pre .4) (c .before .before .before .before .before .loop .inv) l h)))
 
 same-length : tie.Need-same-length Inv-loop μ-loop
@@ -64,6 +67,7 @@ add-row-spec =
     μ-loop
     loop-holds
     add-turn
+    add-turn-2
     cast-turn
     turn-requires
     add-at

@@ -13,7 +13,7 @@ use Rattle.coding.proofs.split.split.Reads as reads
 use Rattle.coding.proofs.split.split.Lts as lts
 use Rattle.coding.proofs.measures.piece_length.Reads as piece-length-reads
 use Rattle.coding.proofs.measures.proper_measures.Reads as proper-measures-reads
-use Rattle.coding.proofs.split.write_pieces.Reads as write-pieces-reads
+use Rattle.coding.proofs.split.write_areas.Reads as write-areas-reads
 
 proper-measures-requires : tie.Need-proper-measures-requires
 proper-measures-requires c κs = search needs
@@ -45,11 +45,11 @@ returns-3 c =
 piece-length-requires : tie.Need-piece-length-requires
 piece-length-requires c κs = omega (arith, measures-small _ _ _ (proper-measures _ _ _ (sym (c .before .before .before .proper-measures .ensures) ∙ not-false (c .before .before .before .proper-measures .result) (c .before .before .if1 .left))), proper-measures _ _ _ (sym (c .before .before .before .proper-measures .ensures) ∙ not-false (c .before .before .before .proper-measures .result) (c .before .before .if1 .left)))
 
-write-pieces-requires : tie.Need-write-pieces-requires
-write-pieces-requires c κs =
+write-areas-requires : tie.Need-write-areas-requires
+write-areas-requires c κs =
     let p = proper-measures _ _ _ (sym (c .before .before .before .before .before .proper-measures .ensures) ∙ not-false (c .before .before .before .before .before .proper-measures .result) (c .before .before .before .before .if1 .left)) in
     let l = columns-within _ _ _ (p .parts .0) (p .frame) (c .before .before .if3 .left) in
-    (rw (c .before .piece-length .ensures) l, p .nodes .1, p .longest .1, c .before .before .before .if2 .left, p .parts .0, p .parts .1)
+    (rw (c .before .piece-length .ensures) l, p .nodes .1, p .longest .1, c .before .before .before .if2 .left, p .parts .0, omega (arith, p .parts .1, p .nodes .1))
 
 same-length : tie.Need-same-length
 same-length c = search needs
@@ -61,7 +61,7 @@ returns-4 c =
     let e = split-done _ _ _ (c .before .before .before .before .before .before .before .before .before .before .before .args .page .now) (c .before .before .before .before .before .before .before .before .before .before .before .args .room .now) (sym (c .before .before .before .before .before .before .before .before .proper-measures .ensures) ∙ not-false (c .before .before .before .before .before .before .before .before .proper-measures .result) (c .before .before .before .before .before .before .before .if1 .left)) (c .before .before .before .before .before .before .if2 .left) (c .before .before .before .before .before .if3 .left) in (
       rw (c .before .before .before .before .piece-length .ensures) (sym (ap (λ (s : SplitEnd). s .outcome) e)),
       written-unique _ _ (c .before .before .before .before .before .before .before .before .before .before .before .args .page .now) _ _ _ (p .longest .0) l (c .before .before .before .before .before .before .if2 .left)
-          (rw (c .before .before .before .before .piece-length .ensures) at (c .before .before .write-pieces .ensures))
+          (rw (c .before .before .before .before .piece-length .ensures) at (c .before .before .write-areas .ensures))
           ∙ sym (ap (λ (s : SplitEnd). s .room) e),
     )
 
@@ -77,6 +77,6 @@ split-spec =
     sub-if3
     returns-3
     piece-length-requires
-    write-pieces-requires
+    write-areas-requires
     same-length
     returns-4)

@@ -16,10 +16,10 @@ use Rattle.coding.proofs.split.add_row.Reads as add-row-reads
 use Rattle.coding.proofs.split.start_row.Reads as start-row-reads
 
 abbrev Inv-loop : tie.InvT-loop
-Inv-loop n k f j m page room₀ r₀ room r = (r < k) × Columns n f j m (rows k page j r) room₀ room
+Inv-loop first n k f j m page room₀ r₀ room r = (r < k) × Columns n f j m (rows first k page j r) room₀ room
 
 abbrev μ-loop : tie.MeasureT-loop
-μ-loop n k f j m page room₀ r₀ room r = r
+μ-loop first n k f j m page room₀ r₀ room r = r
 
 sub-r : tie.Need-sub-r Inv-loop μ-loop
 sub-r c = omega arith
@@ -49,7 +49,7 @@ loop-holds : tie.Need-loop-holds Inv-loop μ-loop
 loop-holds c = (
   omega arith,
   columns-stay _ _ _ _ _ _ _
-      (block-start _ _ _ (c .before .before .before .before .before .before .before .args .page .now) _ _ _ _ _ (c .before .before .before .before .before .before .before .pre .1) (c .before .before .before .before .before .before .before .pre .5) (c .before .before .before .before .gather .ensures)
+      (block-start _ _ _ _ (c .before .before .before .before .before .before .before .args .page .now) _ _ _ _ _ (c .before .before .before .before .before .before .before .pre .1) (c .before .before .before .before .before .before .before .pre .5) (c .before .before .before .before .gather .ensures)
       (c .before .before .start-row .ensures)),
 )
 
@@ -84,7 +84,7 @@ loop-again : tie.Need-loop-again Inv-loop μ-loop
 loop-again c =
     let z : c .before .before .before .before .before .before .loop .r - 1 + 1 ≡ c .before .before .before .before .before .before .loop .r = omega arith in (
       omega arith,
-      block-more _ _ _ (c .before .before .before .before .before .before .before .before .before .before .before .before .before .before .args .page .now) _ _ _ _ _ _ _ (c .before .before .before .before .before .before .before .before .before .before .before .before .before .before .pre .1) (omega arith) (c .before .before .before .before .gather2 .ensures)
+      block-more _ _ _ _ (c .before .before .before .before .before .before .before .before .before .before .before .before .before .before .args .page .now) _ _ _ _ _ _ _ (c .before .before .before .before .before .before .before .before .before .before .before .before .before .before .pre .1) (omega arith) (c .before .before .before .before .gather2 .ensures)
           (rw z (c .before .before .before .before .before .before .loop .inv .1)) (c .before .before .add-row .ensures),
     )
 
@@ -94,7 +94,7 @@ same-length c = c .before .loop .inv .1 .same ∙ c .before .before .before .bef
 returns : tie.Need-returns Inv-loop μ-loop
 returns c =
     let z : c .before .loop .r ≡ 0 = omega arith in
-    block-all _ _ _ (c .before .before .before .before .before .before .before .before .before .args .page .now) _ _ _ _ (λ i. c .before .before .before .before .before .before .before .before .shared-slice-known .given i .fits)
+    block-all _ _ _ _ (c .before .before .before .before .before .before .before .before .before .args .page .now) _ _ _ _ (λ i. c .before .before .before .before .before .before .before .before .shared-slice-known .given i .fits)
     (columns-again _ _ _ _ _ _ _ _ _ (c .before .before .before .before .start-row .ensures) (rw z at (c .before .loop .inv .1)))
 
 pub write-block-spec : {M : Type 1} → statement M

@@ -13,10 +13,10 @@ use Rattle.coding.proofs.areas.block.Reads as block-reads
 use Rattle.coding.proofs.split.write_block.Reads as write-block-reads
 
 abbrev Inv-loop : tie.InvT-loop
-Inv-loop n k f len page room₀ j₀ room j = (j ≤ len) × Columns n f 0 j (λ i l. pieceByte k (frame k page) (i + 1) l) room₀ room
+Inv-loop first n k f len page room₀ j₀ room j = (j ≤ len) × Columns n f 0 j (λ i l. pieceByte k (frame k page) (first + i + 1) l) room₀ room
 
 abbrev μ-loop : tie.MeasureT-loop
-μ-loop n k f len page room₀ j₀ room j = len - j
+μ-loop first n k f len page room₀ j₀ room j = len - j
 
 loop-holds : tie.Need-loop-holds Inv-loop μ-loop
 loop-holds c = (omega arith, columns-empty _ _ _ _ _)
