@@ -1,5 +1,6 @@
 -- Laws of columns written into areas.
 use mathlib.Core.Path.{_≡_, refl, sym, ap, _∙_}
+use mathlib.Core.Logic.{_⊎_, inl, inr, ⊎-elim}
 use mathlib.Core.List.{List, [], _++_, append-nil}
 use Prim.Native.Nat.{ℕ, zero, suc, _+_, _-_, _*_, _/_, _%_, _<_, _≤_}
 use native.Mathlib.Nat.{not-suc-le-zero, add-mul, mul-le-mul-right, mul-add-div-right, div-add-mod', mod-lt, add-zero, zero-add, div-eq-of-lt}
@@ -7,6 +8,7 @@ use native.Mathlib.Decide.{decLt, ℕ-discrete}
 use native.Mathlib.Omega.{arith}
 use lib.ListN.{length, getD, take, drop, length-append, length-drop, drop-of-length-le, List·getD-append}
 use lib.Seq.{paste, length-paste, length-take-le, take-all, getD-take, getD-drop, getD-append-add, ext-getD}
+use Rattle.coding.specs.Bytes.{Bytes}
 use Rattle.coding.specs.Areas.{Columns}
 use Rattle.coding.proofs.BytesLaws.{stride, paste-in, paste-before, paste-after}
 
@@ -96,32 +98,48 @@ columns-join n F j m v w r t u fits e a b =
         let y : j + (l - j) ≡ l = omega arith in
         ap (λ (x : ℕ). getD u x 0) z ∙ b .inside i (l - j) hi (omega arith) ∙ e i (l - j) ∙ ap (v i) y
 
--- the columns fix the list
-pub columns-unique : (n F m : ℕ) (v : ℕ → ℕ → ℕ) (t u w : List ℕ) → 0 < F → m ≤ F → Columns n F 0 m v t u → Columns n F 0 m v t w → u ≡ w
-columns-unique n F m v t u w pos fits a b =
-    ext-getD 0 u w (a .same ∙ sym (b .same)) (λ q h. go q (decLt (q / F) n) (decLt (q % F) m))
+-- a place is in one column of one area, or in none
+place : (n F m q : ℕ) → 0 < F → m ≤ F
+    → ((i : ℕ) × (l : ℕ) × (i < n) × (l < m) × (q ≡ i * F + (0 + l))) ⊎ ((i l : ℕ) → i < n → l < m → q ≡ i * F + (0 + l) → ⊥)
+place n F m q pos fits = go (decLt (q / F) n) (decLt (q % F) m)
   where
-    place : (q : ℕ) → q ≡ q / F * F + (0 + q % F)
-    place q = omega (arith, div-add-mod' q F)
+    own : q ≡ q / F * F + (0 + q % F)
+    own = omega (arith, div-add-mod' q F)
 
     -- the area of a place is its quotient
-    area : (i l q : ℕ) → l < m → q ≡ i * F + (0 + l) → q / F ≡ i
-    area i l q h z =
+    area : (i l : ℕ) → l < m → q ≡ i * F + (0 + l) → q / F ≡ i
+    area i l h z =
         let y : q ≡ i * F + l = omega arith in
         let s : l < F = omega arith in rw y (mul-add-div-right pos i l ∙ ap (λ (x : ℕ). i + x) (div-eq-of-lt s) ∙ add-zero i)
 
-    go : (q : ℕ) → Dec (q / F < n) → Dec (q % F < m) → getD u q 0 ≡ getD w q 0
-    go q (yes hi) (yes hl) =
-        ap (λ (x : ℕ). getD u x 0) (place q) ∙ a .inside (q / F) (q % F) hi hl
-        ∙ sym (ap (λ (x : ℕ). getD w x 0) (place q) ∙ b .inside (q / F) (q % F) hi hl)
-    go q (yes hi) (no hl) = rest (λ i l hi′ hl′ z. let y : q / F ≡ i = area i l q hl′ z in let x : q ≡ q / F * F + (0 + q % F) = place q in let p : q ≡ q / F * F + (0 + l) = z ∙ ap (λ (x : ℕ). x * F + (0 + l)) (sym y) in omega arith)
-      where
-        rest : ((i l : ℕ) → i < n → l < m → q ≡ i * F + (0 + l) → ⊥) → getD u q 0 ≡ getD w q 0
-        rest h = a .outside q h ∙ sym (b .outside q h)
-    go q (no hi) hl = rest (λ i l hi′ hl′ z. let y : q / F ≡ i = area i l q hl′ z in omega arith)
-      where
-        rest : ((i l : ℕ) → i < n → l < m → q ≡ i * F + (0 + l) → ⊥) → getD u q 0 ≡ getD w q 0
-        rest h = a .outside q h ∙ sym (b .outside q h)
+    go : Dec (q / F < n) → Dec (q % F < m)
+        → ((i : ℕ) × (l : ℕ) × (i < n) × (l < m) × (q ≡ i * F + (0 + l))) ⊎ ((i l : ℕ) → i < n → l < m → q ≡ i * F + (0 + l) → ⊥)
+    go (yes hi) (yes hl) = inl (q / F, q % F, hi, hl, own)
+    go (yes hi) (no hl) =
+        inr
+        (λ i l hi′ hl′ z.
+        let y : q / F ≡ i = area i l hl′ z in
+        let x : q ≡ q / F * F + (0 + q % F) = own in
+        let p : q ≡ q / F * F + (0 + l) = z ∙ ap (λ (x : ℕ). x * F + (0 + l)) (sym y) in omega arith)
+    go (no hi) hl = inr (λ i l hi′ hl′ z. let y : q / F ≡ i = area i l hl′ z in omega arith)
+
+-- the columns fix the list
+pub columns-unique : (n F m : ℕ) (v : ℕ → ℕ → ℕ) (t u w : List ℕ) → 0 < F → m ≤ F → Columns n F 0 m v t u → Columns n F 0 m v t w → u ≡ w
+columns-unique n F m v t u w pos fits a b =
+    ext-getD 0 u w (a .same ∙ sym (b .same))
+    (λ q h.
+    ⊎-elim
+    (λ x. rw (x .4) (a .inside (x .0) (x .1) (x .2) (x .3) ∙ sym (b .inside (x .0) (x .1) (x .2) (x .3))))
+    (λ x. a .outside q x ∙ sym (b .outside q x))
+    (place n F m q pos fits))
+
+pub columns-bytes : (n F m : ℕ) (v : ℕ → ℕ → ℕ) (t u : List ℕ) → 0 < F → m ≤ F → ((i l : ℕ) → v i l < 256) → Bytes t
+    → Columns n F 0 m v t u → Bytes u
+columns-bytes n F m v t u pos fits hv b c q =
+    ⊎-elim
+    (λ x. rw (x .4) (rw (c .inside (x .0) (x .1) (x .2) (x .3)) (hv (x .0) (x .1))))
+    (λ x. rw (c .outside q x) (b q))
+    (place n F m q pos fits)
 
 -- areas that follow those written, in the rest of the list
 pub columns-areas : (a c F m : ℕ) (v w : ℕ → ℕ → ℕ) (t u p : List ℕ) → m ≤ F → a * F ≤ length u → ((i l : ℕ) → w i l ≡ v (a + i) l)

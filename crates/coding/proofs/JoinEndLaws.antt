@@ -140,7 +140,7 @@ Claim n k F present room lens len j =
     j .outcome ≡ Outcome.gives len → PiecesOf k F room (nodesOf present n) (firstLength lens (nodesOf present n)) (take len (j .out))
 
 module _ (n k F present : ℕ) (room lens out : List ℕ) (b : Bytes room) where
-  joined-page : proper n k F ≡ true → n * F ≤ length room → n ≤ length lens → k * F - 4 ≤ length out → present < 2 ^ n
+  pub joined-page : proper n k F ≡ true → n * F ≤ length room → n ≤ length lens → k * F - 4 ≤ length out → present < 2 ^ n
       → sound F lens (nodesOf present n) ≡ true → k ≤ length (nodesOf present n) → (page : List ℕ) → Bytes page → length page ≤ k * F - 4
       → PiecesOf k F room (nodesOf present n) (firstLength lens (nodesOf present n)) page
       → join n k F present room lens out ≡ record { outcome = Outcome.gives (length page); out = page ++ drop (length page) out }

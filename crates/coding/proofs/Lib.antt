@@ -16,4 +16,6 @@ pub mod JoinLaws
 pub mod PageLaws
 pub mod RoundTripLaws
 pub mod JoinEndLaws
+pub mod RoundTrip
+pub mod EdgeCases
 pub mod Sha256Laws

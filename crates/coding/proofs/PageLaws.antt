@@ -87,7 +87,7 @@ some-eq : {p q : List ℕ} → _≡_ {A = Option (List ℕ)} (some p) (some q) �
 some-eq e = cc
 
 -- a list that passes the test passes it at each place
-all-at : (f : ℕ → Bool) (s : List ℕ) → all f s ≡ true → (i : ℕ) → i < length s → f (getD s i 0) ≡ true
+pub all-at : (f : ℕ → Bool) (s : List ℕ) → all f s ≡ true → (i : ℕ) → i < length s → f (getD s i 0) ≡ true
 unfolding all
 all-at f [] e i h = absurd (not-suc-le-zero h)
 all-at f (x ∷ s) e i h = go i (all-at f s) h (and-true (f x) (all f s) e)
@@ -101,7 +101,7 @@ all-at f (x ∷ s) e i h = go i (all-at f s) h (and-true (f x) (all f s) e)
     go zero ih l p = p .0
     go (suc i) ih l p = ih (p .1) i (omega arith)
 
-all-from : (f : ℕ → Bool) (s : List ℕ) → ((i : ℕ) → i < length s → f (getD s i 0) ≡ true) → all f s ≡ true
+pub all-from : (f : ℕ → Bool) (s : List ℕ) → ((i : ℕ) → i < length s → f (getD s i 0) ≡ true) → all f s ≡ true
 unfolding all
 all-from f [] h = refl
 all-from f (x ∷ s) h = ap (λ (b : Bool). b && all f s) (h 0 (omega arith)) ∙ all-from f s (λ i l. h (suc i) (omega arith))

@@ -44,6 +44,11 @@ unfolding sum
 sum-times zero c f = sym (product-zero c)
 sum-times (suc n) c f = ap (λ (x : ℕ). x ⊕ product c (f n)) (sum-times n c f) ∙ sym (product-xor c (sum n f) (f n))
 
+pub sum-byte : (n : ℕ) (f : ℕ → ℕ) → ((r : ℕ) → f r < 256) → sum n f < 256
+unfolding sum
+sum-byte zero f h = omega arith
+sum-byte (suc n) f h = xor-byte (sum n f) (f n) (sum-byte n f h) (h n)
+
 pub sum-zero : (n : ℕ) (f : ℕ → ℕ) → ((r : ℕ) → r < n → f r ≡ 0) → sum n f ≡ 0
 unfolding sum
 sum-zero zero f h = refl

@@ -12,3 +12,5 @@ pub mod Nodes
 pub mod Output
 pub mod Join
 pub mod Sha256
+pub mod Digest
+pub mod Edges
