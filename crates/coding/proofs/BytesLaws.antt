@@ -1,15 +1,28 @@
 -- Laws of lists of bytes: what is tabulated, filled from the front, spliced.
 use mathlib.Core.Path.{_≡_, refl, sym, ap, _∙_}
 use mathlib.Core.List.{List, [], _∷_, _++_}
-use mathlib.Core.Logic.{_⊎_, inl, inr}
 use Prim.Native.Nat.{ℕ, zero, suc, _+_, _-_, _*_, _<_, _≤_}
 use native.Mathlib.Nat.{add-mul, one-mul, not-suc-le-zero, mul-le-mul-right}
 use native.Mathlib.Numerals.{add-one}
 use native.Mathlib.Decide.{decLt, ℕ-discrete}
 use native.Mathlib.Omega.{arith}
-use lib.ListN.{length, getD, take, drop, set, length-append, length-take, length-drop, length-set, List·getD-append, List·getD-eq-default}
-use lib.Seq.{take-suc-set, take-all, getD-append-add, getD-append-seam, getD-take, getD-drop, ext-getD, length-take-le, paste, length-paste-head, paste-zero, paste-suc, length-paste}
+use lib.ListN.{length, getD, take, drop, set, replicate, length-append, length-set, List·getD-append}
+use lib.Seq.{getD-set-same, getD-set-other, take-suc-set, take-all, getD-append-add, getD-append-seam, getD-take, getD-drop, ext-getD, length-take-le, paste, length-paste-head, paste-zero, paste-suc, length-paste}
 use Rattle.coding.specs.Bytes.{tabulate}
+
+pub zeros-at : (n i : ℕ) → getD (replicate {A = ℕ} n 0) i 0 ≡ 0
+zeros-at zero i = refl
+zeros-at (suc n) zero = refl
+zeros-at (suc n) (suc i) = zeros-at n i
+
+-- what holds of each entry below i, and of the one stored at i, holds below i + 1
+pub stored-more : {A : Type 0} (z : A) (P : ℕ → A → Type 0) (i : ℕ) (xs : List A) (a : A) → i < length xs
+    → ((j : ℕ) → j < i → P j (getD xs j z)) → P i a → (j : ℕ) → j < i + 1 → P j (getD (set xs i a) j z)
+stored-more z P i xs a l all here j h = go (ℕ-discrete j i)
+  where
+    go : Dec (j ≡ i) → P j (getD (set xs i a) j z)
+    go (yes e) = rw e (rw (getD-set-same xs i a z l) here)
+    go (no d) = rw (getD-set-other xs i j a z d) (all j (omega arith))
 
 -- one step of a stride
 pub stride : (l k : ℕ) → (l + 1) * k ≡ l * k + k

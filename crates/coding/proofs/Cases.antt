@@ -1,6 +1,6 @@
--- A test that antt computes at each number below n, and what it tells.
-use mathlib.Core.Path.{_≡_, subst, sym}
-use mathlib.Core.Bool.{Bool, true, false}
+-- Tests: one that antt computes at each number below n, and what it tells; both halves of a conjunction.
+use mathlib.Core.Path.{_≡_, refl, subst, sym}
+use mathlib.Core.Bool.{Bool, true, false, _&&_, false≢true}
 use Prim.Native.Nat.{ℕ, zero, suc, _<_}
 use native.Mathlib.Decide.{ℕ-discrete}
 use native.Mathlib.Omega.{arith}
@@ -29,3 +29,7 @@ each-below (suc n) f t i h = go (each-below n f (both-right (f n) (allBelow n f)
     go : (i < n → T (f i)) → Dec (i ≡ n) → T (f i)
     go below (yes e) = subst (λ (m : ℕ). T (f m)) (sym e) (both-left (f n) (allBelow n f) t)
     go below (no e) = below (omega arith)
+
+pub and-true : (a b : Bool) → (a && b) ≡ true → (a ≡ true) × (b ≡ true)
+and-true true b h = (refl, h)
+and-true false b h = absurd (false≢true h)

@@ -1,15 +1,14 @@
 -- Document 01's edges of this layer hold of the definitions.
-use mathlib.Core.Path.{_≡_, refl, sym, ap, _∙_}
-use mathlib.Core.Bool.{true}
-use mathlib.Core.List.{List, [], _∷_}
+use mathlib.Core.Path.{_≡_, refl, ap, _∙_}
+use mathlib.Core.List.{[], _∷_}
 use Prim.Native.Nat.{ℕ, _-_, _*_, _≤_}
 use native.Mathlib.Omega.{arith}
 use lib.ListN.{length}
-use Rattle.coding.specs.Field.{polyProduct, polyRemainder, product, power, sum}
+use Rattle.coding.specs.Field.{product, power, sum}
 use Rattle.coding.specs.Bytes.{tabulate}
-use Rattle.coding.specs.Pieces.{proper, columns, frame, pieceByte, piece}
+use Rattle.coding.specs.Pieces.{columns, frame, pieceByte, piece}
 use Rattle.coding.specs.Answer.{Outcome}
-use Rattle.coding.specs.Split.{SplitEnd, split}
+use Rattle.coding.specs.Split.{SplitEnd}
 use Rattle.coding.specs.Edges.{Edges}
 use Rattle.coding.proofs.FieldLaws.{zero-product}
 use Rattle.coding.proofs.SplitLaws.{split-long, split-done}

@@ -1,16 +1,16 @@
 -- Laws of the frame: by position, its length, its columns.
-use mathlib.Core.Path.{_≡_, refl, sym, ap, _∙_}
+use mathlib.Core.Path.{_≡_, sym, ap, _∙_}
 use mathlib.Core.List.{List, _++_, append-assoc}
 use Prim.Native.Nat.{ℕ, zero, suc, _+_, _-_, _*_, _/_, _%_, _<_, _≤_}
-use native.Mathlib.Nat.{div-add-mod', mod-lt, mod-lt, div-lt-iff-lt-mul, add-mul, one-mul, mul-comm, mul-add-mod-self-right}
+use native.Mathlib.Nat.{div-add-mod', mod-lt, mod-lt, div-lt-iff-lt-mul, add-mul, one-mul, mul-comm}
 use native.Mathlib.Decide.{decLt}
 use native.Mathlib.Omega.{arith}
-use lib.ListN.{length, getD, replicate, length-append, length-replicate, getD-replicate, List·getD-append, List·getD-eq-default}
+use lib.ListN.{length, getD, replicate, length-append, length-replicate, List·getD-append, List·getD-eq-default}
 use lib.Seq.{getD-append-add}
 use Rattle.coding.specs.Bytes.{Bytes, tabulate, fourBytes}
 use Rattle.coding.specs.Pieces.{columns, frame}
 use Rattle.coding.specs.Frame.{frameByte}
-use Rattle.coding.proofs.BytesLaws.{tabulate-ext}
+use Rattle.coding.proofs.BytesLaws.{zeros-at, tabulate-ext}
 
 -- past the length stands the page
 pub frame-page : (page : List ℕ) (p : ℕ) → frameByte page (4 + p) ≡ getD page p 0
@@ -33,13 +33,6 @@ frame-bytes page b (suc (suc zero)) = mod-lt (length page / 256) (omega arith)
 frame-bytes page b (suc (suc (suc zero))) = mod-lt (length page) (omega arith)
 frame-bytes page b (suc (suc (suc (suc p)))) = b p
 
-zero-at : (n i : ℕ) → getD (replicate {A = ℕ} n 0) i 0 ≡ 0
-zero-at n i = go (decLt i n)
-  where
-    go : Dec (i < n) → getD (replicate {A = ℕ} n 0) i 0 ≡ 0
-    go (yes h) = getD-replicate n i 0 0 h
-    go (no h) = List·getD-eq-default (replicate {A = ℕ} n 0) 0 (rw length-replicate (omega arith))
-
 -- the zeros are what stands past the end anyway
 zeros-end : (s : List ℕ) (n p : ℕ) → getD (s ++ replicate {A = ℕ} n 0) p 0 ≡ getD s p 0
 zeros-end s n p = go (decLt p (length s))
@@ -50,7 +43,7 @@ zeros-end s n p = go (decLt p (length s))
         let e : p ≡ length s + (p - length s) = omega arith in
         ap (λ (x : ℕ). getD (s ++ replicate {A = ℕ} n 0) x 0) e
         ∙ getD-append-add s (replicate {A = ℕ} n 0) (p - length s) 0
-        ∙ zero-at n (p - length s)
+        ∙ zeros-at n (p - length s)
         ∙ sym (List·getD-eq-default s 0 (omega arith))
 
 pub frame-at : (k : ℕ) (page : List ℕ) (p : ℕ) → getD (frame k page) p 0 ≡ frameByte page p

@@ -2,12 +2,12 @@
 -- at the points, weighed by the right half; each step keeps the equations, and the last grid's left half is the identity.
 use mathlib.Core.Path.{_≡_, refl, sym, ap, ap₂, subst, subst⁻¹, _∙_}
 use mathlib.Core.List.{List, []}
-use Prim.Native.Nat.{ℕ, zero, suc, _+_, _<_, _≤_}
+use Prim.Native.Nat.{ℕ, suc, _+_, _<_, _≤_}
 use native.Mathlib.Nat.{not-suc-le-zero}
 use native.Mathlib.Omega.{arith}
 use native.Mathlib.Decide.{ℕ-discrete, decLt}
 use borrow.Author.Tests.{eq-eqb, ne-eqb}
-use lib.ListN.{length, getD, take, set, replicate, length-set, List·getD-eq-default}
+use lib.ListN.{length, getD, take, set, length-set, List·getD-eq-default}
 use lib.Seq.{length-take-le, getD-take, getD-set-same, getD-set-other}
 use lib.Bits.{xor-zero-r, xor-self}
 use Rattle.coding.specs.Field.{_⊕_, product, power, inverse, sum}
@@ -266,12 +266,6 @@ module _ (k : ℕ) (nodes : List ℕ) where
 
 -- ---- the loops that fill lists and rows
 
-pub filled-more : {A : Type 0} (z : A) (P : ℕ → A → Type 0) (i : ℕ) (xs : List A) (a : A) → i < length xs
-    → ((j : ℕ) → j < i → P j (getD xs j z)) → P i a → (j : ℕ) → j < i + 1 → P j (getD (set xs i a) j z)
-filled-more z P i xs a l all here j h =
-    cases (λ n. P n (getD (set xs i a) n z)) j i (rw (getD-set-same xs i a z l) here)
-    (λ d. rw (getD-set-other xs i j a z d) (all j (omega arith)))
-
 pub halves-more : (left right : ℕ → ℕ) (t : ℕ) (row : List ℕ) (a b : ℕ) → t < 16 → length row ≡ 32 → Halves t row left right
     → a ≡ left t → b ≡ right t → Halves (t + 1) (set (set row t a) (16 + t) b) left right
 halves-more left right t row a b l n all ea eb i h =
@@ -286,11 +280,6 @@ halves-more left right t row a b l n all ea eb i h =
           ∙ getD-set-other row t (16 + i) a 0 (λ e. omega arith)
           ∙ all i (omega arith) .1,
     ))
-
-pub zeros : (n i : ℕ) → getD (replicate {A = ℕ} n 0) i 0 ≡ 0
-zeros zero i = refl
-zeros (suc n) zero = refl
-zeros (suc n) (suc i) = zeros n i
 
 pub powers-done : (k x s : ℕ) (row : List ℕ) → k ≤ 16 → s < 16 → length row ≡ 32 → ((t : ℕ) → t < k → getD row t 0 ≡ power x t)
     → ((t : ℕ) → getD row (16 + t) 0 ≡ 0) → Powers k x s (set row (16 + s) 1)

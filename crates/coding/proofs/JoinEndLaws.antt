@@ -1,6 +1,6 @@
 -- Joining's answers, one law for each way out, and what a joined page is.
 use mathlib.Core.Path.{_≡_, refl, sym, ap, _∙_}
-use mathlib.Core.Bool.{Bool, true, false, true≢false}
+use mathlib.Core.Bool.{Bool, true, false}
 use mathlib.Core.List.{List, _++_}
 use mathlib.Core.Option.{Option, some, none}
 use Prim.Native.Nat.{ℕ, _+_, _-_, _*_, _^_, _<_, _≤_}
@@ -12,13 +12,13 @@ use lib.ListN.{length, getD, take, drop, List·getD-eq-default}
 use lib.Seq.{length-take-le, getD-take, take-append-seam}
 use Rattle.coding.specs.Grid.{Distinct}
 use Rattle.coding.specs.Bytes.{Bytes}
-use Rattle.coding.specs.Pieces.{proper, piece}
+use Rattle.coding.specs.Pieces.{proper}
 use Rattle.coding.specs.Answer.{Outcome}
 use Rattle.coding.specs.Nodes.{nodesOf, sound, firstLength}
-use Rattle.coding.specs.Join.{joined, pieceIn, pageOf, JoinEnd, pageEnd, join, PiecesOf, Joins}
+use Rattle.coding.specs.Join.{joined, pageOf, JoinEnd, pageEnd, join, PiecesOf, Joins}
 use Rattle.coding.proofs.PolynomialLaws.{ascending-distinct, bytes-take}
 use Rattle.coding.proofs.MeasureLaws.{Proper, proper-measures, measures-small}
-use Rattle.coding.proofs.NodesLaws.{nodes-few, nodes-within, nodes-ascend, sound-length}
+use Rattle.coding.proofs.NodesLaws.{nodes-within, nodes-ascend, sound-length}
 use Rattle.coding.proofs.JoinLaws.{area-fits}
 use Rattle.coding.proofs.RoundTripLaws.{joined-pieces, pieces-page}
 

@@ -1,13 +1,13 @@
 -- Laws of joining: the joined frame by position, and the page that the output gets.
-use mathlib.Core.Path.{_≡_, refl, sym, ap, ap₂, _∙_}
-use mathlib.Core.List.{List, [], _∷_, _++_}
+use mathlib.Core.Path.{_≡_, sym, ap, ap₂, _∙_}
+use mathlib.Core.List.{List, _++_}
 use mathlib.Core.Logic.{_⊎_, inl, inr}
 use Prim.Native.Nat.{ℕ, zero, suc, _+_, _-_, _*_, _/_, _%_, _<_, _≤_}
 use native.Mathlib.Nat.{not-suc-le-zero, suc-mul, div-add-mod', mod-lt, div-lt-iff-lt-mul, add-mul, mul-le-mul-right}
 use native.Mathlib.Numerals.{add-one}
 use native.Mathlib.Decide.{decLt}
 use native.Mathlib.Omega.{arith}
-use lib.ListN.{length, getD, take, drop, length-append, length-take, length-drop, List·getD-append}
+use lib.ListN.{length, getD, take, drop, length-append, length-drop, List·getD-append}
 use lib.Seq.{getD-append-add, getD-take, getD-drop, ext-getD, length-take-le}
 use Rattle.coding.specs.Field.{_⊕_, product, sum}
 use Rattle.coding.specs.Polynomial.{interpolate}
@@ -17,7 +17,6 @@ use Rattle.coding.specs.Join.{joined}
 use Rattle.coding.proofs.BytesLaws.{stride}
 use Rattle.coding.proofs.FieldLaws.{product-comm}
 use Rattle.coding.proofs.PolynomialLaws.{sum-same, interpolate-length, interpolate-bytes}
-use Rattle.coding.proofs.OutputLaws.{placed-none, placed-then}
 
 pub length-joined : (F : ℕ) (room xs : List ℕ) (n : ℕ) → length (joined F room xs n) ≡ n * length xs
 unfolding joined

@@ -1,31 +1,16 @@
 -- The laws behind the functions on sixteen lanes.
-use mathlib.Core.Path.{_≡_, refl, sym, ap, _∙_, subst}
+use mathlib.Core.Path.{_≡_, sym, ap, _∙_, subst}
 use mathlib.Core.List.{List}
-use Prim.Native.Nat.{ℕ, zero, suc, _+_, _-_, _*_, _/_, _%_, _^_, _≤_, _<_}
-use native.Mathlib.Decide.{ℕ-discrete, decLt}
+use Prim.Native.Nat.{ℕ, suc, _+_, _-_, _*_, _/_, _%_, _^_, _≤_, _<_}
+use native.Mathlib.Decide.{decLt}
 use native.Mathlib.Nat.{pow-suc}
 use native.Mathlib.Omega.{arith}
 use lib.Bits.{xor-zero-r}
 use lib.Dec.{T, eqb, eqb→eq}
-use lib.ListN.{length, getD, set, replicate, List·getD-eq-default}
-use lib.Seq.{getD-set-same, getD-set-other}
+use lib.ListN.{length, getD, List·getD-eq-default}
 use Rattle.coding.specs.Field.{_⊕_, product}
 use Rattle.coding.proofs.Cases.{allBelow, each-below}
 use Rattle.coding.proofs.FieldLaws.{product-xor, product-assoc, product-zero, product-one, xor-assoc}
-
-pub zero-lane : (n k : ℕ) → getD (replicate {A = ℕ} n 0) k 0 ≡ 0
-zero-lane zero k = refl
-zero-lane (suc n) zero = refl
-zero-lane (suc n) (suc k) = zero-lane n k
-
--- one more lane is filled
-pub lane-more : (f : ℕ → ℕ) (r : List ℕ) (i x : ℕ) → i < length r → x ≡ f i → ((k : ℕ) → k < i → getD r k 0 ≡ f k)
-    → (k : ℕ) → k < i + 1 → getD (set r i x) k 0 ≡ f k
-lane-more f r i x h e below k l = go (ℕ-discrete k i)
-  where
-    go : Dec (k ≡ i) → getD (set r i x) k 0 ≡ f k
-    go (yes q) = rw q (getD-set-same r i x 0 h ∙ e)
-    go (no q) = getD-set-other r i k x 0 q ∙ below k (omega arith)
 
 -- all lanes are filled, and past them both sides are 0
 pub lanes-filled : (f : ℕ → ℕ) (r : List ℕ) (n : ℕ) → length r ≡ n → ((k : ℕ) → n ≤ k → f k ≡ 0)

@@ -1,12 +1,13 @@
 -- What proper measures say.
-use mathlib.Core.Path.{_≡_, refl}
-use mathlib.Core.Bool.{Bool, true, false, _&&_, false≢true}
+use mathlib.Core.Path.{_≡_}
+use mathlib.Core.Bool.{true}
 use Prim.Native.Nat.{ℕ, _*_, _≤_}
 use native.Mathlib.Nat.{mul-le-mul}
 use native.Mathlib.Omega.{arith}
 use borrow.Author.Tests.{leb-true}
 use lib.Dec.{leb}
 use Rattle.coding.specs.Pieces.{proper}
+use Rattle.coding.proofs.Cases.{and-true}
 
 pub record Proper (n k F : ℕ) : Type 0 where
   pub nodes : (1 ≤ n) × (n ≤ 16)
@@ -29,10 +30,6 @@ proper-measures n k F e =
       longest = (leb-true 1 F (f .0), leb-true F 4096 (g .0));
       frame = leb-true 4 (k * F) (g .1);
     }
-  where
-    and-true : (a b : Bool) → (a && b) ≡ true → (a ≡ true) × (b ≡ true)
-    and-true true b h = (refl, h)
-    and-true false b h = absurd (false≢true h)
 
 -- every product of two of them is small
 pub measures-small : (n k F : ℕ) → Proper n k F → (n * F ≤ 65536) × (k * F ≤ 65536)

@@ -1,6 +1,6 @@
 -- Laws of the page of a frame: one for each way out, and that a frame's page is the page that it frames.
 use mathlib.Core.Path.{_≡_, refl, sym, ap, _∙_}
-use mathlib.Core.Bool.{Bool, true, false, _&&_, false≢true}
+use mathlib.Core.Bool.{Bool, true, false, _&&_}
 use mathlib.Core.List.{List, [], _∷_, _++_}
 use mathlib.Core.Option.{Option, some, none}
 use Prim.Native.Nat.{ℕ, zero, suc, _+_, _-_, _*_, _/_, _%_, _^_, _<_, _≤_}
@@ -16,6 +16,7 @@ use Rattle.coding.specs.Pieces.{columns, frame}
 use Rattle.coding.specs.Frame.{frameByte}
 use Rattle.coding.specs.Nodes.{all}
 use Rattle.coding.specs.Join.{pageOf}
+use Rattle.coding.proofs.Cases.{and-true}
 use Rattle.coding.proofs.BytesLaws.{stride}
 use Rattle.coding.proofs.FrameLaws.{frame-page, frame-at, columns-hold, length-frame}
 
@@ -92,10 +93,6 @@ unfolding all
 all-at f [] e i h = absurd (not-suc-le-zero h)
 all-at f (x ∷ s) e i h = go i (all-at f s) h (and-true (f x) (all f s) e)
   where
-    and-true : (a b : Bool) → (a && b) ≡ true → (a ≡ true) × (b ≡ true)
-    and-true true b q = (refl, q)
-    and-true false b q = absurd (false≢true q)
-
     go : (i : ℕ) → (all f s ≡ true → (i : ℕ) → i < length s → f (getD s i 0) ≡ true) → i < suc (length s)
         → (f x ≡ true) × (all f s ≡ true) → f (getD (x ∷ s) i 0) ≡ true
     go zero ih l p = p .0

@@ -1,22 +1,22 @@
 -- Round trip: splitting a page and joining any choice of at least k of its pieces gives the page back.
 use mathlib.Core.Path.{_≡_, refl, sym, ap, _∙_}
-use mathlib.Core.Bool.{Bool, true}
+use mathlib.Core.Bool.{true}
 use mathlib.Core.List.{List, _++_}
-use Prim.Native.Nat.{ℕ, zero, suc, _+_, _-_, _*_, _/_, _%_, _^_, _<_, _≤_}
+use Prim.Native.Nat.{ℕ, zero, suc, _+_, _-_, _*_, _^_, _<_, _≤_}
 use native.Mathlib.Nat.{le-refl, zero-add, mul-le-mul-right}
 use native.Mathlib.Omega.{arith}
 use borrow.Author.Tests.{eq-eqb}
 use lib.Dec.{eqb}
 use lib.ListN.{length, getD, drop, replicate, length-replicate, length-drop, getD-replicate}
 use lib.Seq.{ext-getD, getD-drop}
-use Rattle.coding.specs.Field.{product, power, sum}
+use Rattle.coding.specs.Field.{product, power}
 use Rattle.coding.specs.Bytes.{Bytes}
 use Rattle.coding.specs.Pieces.{proper, columns, frame, pieceByte, piece}
 use Rattle.coding.specs.Areas.{Columns}
 use Rattle.coding.specs.Answer.{Outcome}
 use Rattle.coding.specs.Split.{SplitEnd, written, split}
 use Rattle.coding.specs.Nodes.{nodesOf, sound, firstLength}
-use Rattle.coding.specs.Join.{pieceIn, join, JoinEnd}
+use Rattle.coding.specs.Join.{pieceIn, join}
 use Rattle.coding.proofs.MeasureLaws.{Proper, proper-measures}
 use Rattle.coding.proofs.FieldLaws.{product-byte}
 use Rattle.coding.proofs.PolynomialLaws.{sum-byte}
@@ -27,7 +27,7 @@ use Rattle.coding.proofs.NodesLaws.{nodes-within, sound-rest, first-len
 use Rattle.coding.proofs.JoinLaws.{area-fits}
 use Rattle.coding.proofs.PageLaws.{all-from}
 use Rattle.coding.proofs.RoundTripLaws.{length-pieceIn, getD-pieceIn, length-piece, getD-piece}
-use Rattle.coding.proofs.JoinEndLaws.{joins, joined-page}
+use Rattle.coding.proofs.JoinEndLaws.{joined-page}
 
 piece-byte : (k : ℕ) (f : List ℕ) (i j : ℕ) → pieceByte k f i j < 256
 unfolding pieceByte

@@ -1,25 +1,24 @@
 -- What joining gives back: the joined frame has the pieces that were given, and the pieces of a page give its frame.
-use mathlib.Core.Path.{_≡_, refl, sym, ap, ap₂, _∙_}
-use mathlib.Core.List.{List, []}
-use mathlib.Core.Option.{Option, some}
-use Prim.Native.Nat.{ℕ, zero, suc, _+_, _-_, _*_, _/_, _%_, _^_, _<_, _≤_}
+use mathlib.Core.Path.{_≡_, sym, ap, _∙_}
+use mathlib.Core.List.{List}
+use mathlib.Core.Option.{some}
+use Prim.Native.Nat.{ℕ, _+_, _-_, _*_, _/_, _%_, _^_, _<_, _≤_}
 use native.Mathlib.Nat.{mod-lt, div-add-mod', div-lt-iff-lt-mul}
 use native.Mathlib.Omega.{arith}
-use lib.ListN.{length, getD, take, drop, length-drop}
+use lib.ListN.{length, getD, drop, length-drop}
 use lib.Seq.{length-take-le, getD-take, getD-drop, ext-getD}
 use Rattle.coding.specs.Field.{product, power, sum}
-use Rattle.coding.specs.Polynomial.{value, interpolate}
+use Rattle.coding.specs.Polynomial.{interpolate}
 use Rattle.coding.specs.Grid.{Distinct}
 use Rattle.coding.specs.Bytes.{Bytes}
 use Rattle.coding.specs.Pieces.{columns, frame, pieceByte, piece}
-use Rattle.coding.specs.Frame.{frameByte}
 use Rattle.coding.specs.Output.{byteIn}
 use Rattle.coding.specs.Join.{joined, pieceIn, pageOf}
 use Rattle.coding.proofs.BytesLaws.{length-tabulate, getD-tabulate}
 use Rattle.coding.proofs.PolynomialLaws.{sum-same, value-powers, interpolate-length, interpolate-bytes, interpolate-value, interpolate-unique}
 use Rattle.coding.proofs.FrameLaws.{frame-at, columns-hold, length-frame}
 use Rattle.coding.proofs.SplitLaws.{column, length-column, getD-column, column-bytes, column-value}
-use Rattle.coding.proofs.JoinLaws.{length-joined, getD-joined, bytes-joined, area-fits}
+use Rattle.coding.proofs.JoinLaws.{length-joined, getD-joined, bytes-joined}
 use Rattle.coding.proofs.PageLaws.{multiple-unique, page-frame, frame-page-of}
 
 pub length-pieceIn : (F : ℕ) (room : List ℕ) (L i : ℕ) → (i - 1) * F + L ≤ length room → length (pieceIn F room L i) ≡ L

@@ -1,7 +1,7 @@
 -- Laws of splitting: the rows of a block are Horner's rule, and the pieces written so are the specification's.
-use mathlib.Core.Path.{_≡_, refl, sym, ap, ap₂, _∙_}
+use mathlib.Core.Path.{_≡_, sym, ap, ap₂, _∙_}
 use mathlib.Core.Bool.{true, false}
-use mathlib.Core.List.{List, [], _∷_}
+use mathlib.Core.List.{List}
 use Prim.Native.Nat.{ℕ, zero, suc, _+_, _-_, _*_, _<_, _≤_}
 use native.Mathlib.Nat.{add-mul, add-zero, suc-mul, le-of-eq}
 use native.Mathlib.Numerals.{add-one}
@@ -18,12 +18,12 @@ use Rattle.coding.specs.Pieces.{proper, columns, frame, pieceByte, piece
 use Rattle.coding.specs.Frame.{frameByte}
 use Rattle.coding.specs.Areas.{Columns}
 use Rattle.coding.specs.Answer.{Outcome}
-use Rattle.coding.specs.Split.{SplitEnd, written, split}
+use Rattle.coding.specs.Split.{written, split}
 use Rattle.coding.proofs.BytesLaws.{length-tabulate, getD-tabulate, paste-ext}
 use Rattle.coding.proofs.FieldLaws.{zero-product}
 use Rattle.coding.proofs.PolynomialLaws.{sum-same, value-powers}
 use Rattle.coding.proofs.FrameLaws.{frame-at, frame-bytes}
-use Rattle.coding.proofs.AreasLaws.{columns-none, columns-more, columns-again, columns-join, columns-unique}
+use Rattle.coding.proofs.AreasLaws.{columns-none, columns-more, columns-again, columns-unique}
 
 -- a turn of Horner's rule, from what its four steps give
 pub turned : (t : List ℕ) (at m x : ℕ) (row loaded scaled next u : List ℕ) → m ≤ 16 → length next ≡ 16

@@ -3,9 +3,7 @@ use Prim.Native.Nat.{ℕ}
 use Rattle.coding.specs.declared.answer.Refusal.{Refusal}
 use Rattle.coding.specs.declared.answer.Refusal.the-variants.{Measures, Short, Form, TooLong, TooFew}
 use Rattle.coding.specs.declared.answer.SplitAnswer.{SplitAnswer}
-use Rattle.coding.specs.declared.answer.SplitAnswer.the-variants as split
 use Rattle.coding.specs.declared.answer.JoinAnswer.{JoinAnswer}
-use Rattle.coding.specs.declared.answer.JoinAnswer.the-variants as join
 
 pub data Outcome : Type 0 where
   gives : ℕ → Outcome

@@ -1,5 +1,5 @@
 -- Polynomials over the field: lists of coefficients, the lowest first.
-use mathlib.Core.List.{List, [], _∷_, map}
+use mathlib.Core.List.{List, [], _∷_}
 use Prim.Native.Nat.{ℕ}
 use Rattle.coding.specs.Field.{_⊕_, product, inverse}
 

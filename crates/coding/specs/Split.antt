@@ -1,6 +1,6 @@
 -- Splitting: the answer and the room after it.
 use mathlib.Core.List.{List}
-use mathlib.Core.Bool.{Bool, cond}
+use mathlib.Core.Bool.{cond}
 use Prim.Native.Nat.{ℕ, zero, suc, _-_, _*_}
 use lib.ListN.{length}
 use lib.Dec.{ltb}

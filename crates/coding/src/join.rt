@@ -14,13 +14,15 @@ use crate::nodes::sound_lengths;
 use crate::nodes::within;
 use crate::output::scatter;
 ghost use mathlib.Core.Path.{_≡_};
-ghost use Prim.Native.Nat.{ℕ, _+_, _-_, _*_, _≤_, _<_};
+ghost use mathlib.Core.Bool.{true};
+ghost use Prim.Native.Nat.{ℕ, _+_, _-_, _*_, _^_, _≤_, _<_};
 ghost use lib.Dec.{eqb};
 ghost use lib.ListN.{length, getD, take, drop};
 ghost use Rattle.coding.specs.Field.{product, sum};
 ghost use Rattle.coding.specs.Grid.{Inverts, Distinct};
 ghost use Rattle.coding.specs.Bytes.{fromFour};
 ghost use Rattle.coding.specs.Output.{Placed, Stride, Within, Weighs, byteIn};
+ghost use Rattle.coding.specs.Pieces.{proper};
 ghost use Rattle.coding.specs.Answer.{joinOutcome};
 ghost use Rattle.coding.specs.Nodes.{all};
 ghost use Rattle.coding.specs.Join.{joined, pageOf, pageEnd, Joins, join as joinEnd};
@@ -227,6 +229,32 @@ fn join_columns(
     JoinAnswer::Page(len)
 }
 
+// The pieces that are present, once measures, slices and bit map are sound.
+fn join_present(
+    n: usize,
+    k: usize,
+    f: usize,
+    present: u16,
+    room: &[u8],
+    lens: &[u16],
+    out: &mut [u8],
+) -> JoinAnswer
+    requires { ⌜ (proper n k f ≡ true) × (n * f ≤ length (now room)) × (n ≤ length (now lens)) × (k * f - 4 ≤ length (now out)) × (present < 2 ^ n) ⌝ }
+    ensures { λ r. ⌜ (joinOutcome r ≡ joinEnd n k f present (now (room .entry)) (now (lens .entry)) (now (out .entry)) .outcome)
+        × (now (out .exit) ≡ joinEnd n k f present (now (room .entry)) (now (lens .entry)) (now (out .entry)) .out) ⌝ }
+{
+    let nodes = named(present, n);
+    let list = nodes.list;
+    let count = nodes.count;
+    if !sound_lengths(list, count, f, lens) {
+        return JoinAnswer::Refused(Refusal::Form);
+    }
+    if count < k {
+        return JoinAnswer::Refused(Refusal::TooFew);
+    }
+    join_columns(list, k, f, length_of(list, 0, lens), room, out)
+}
+
 // Joins the pieces that a bit map names into their page. The room is n areas of f bytes; entry i - 1 of the lengths is that of
 // the piece in area i.
 pub fn join(
@@ -257,14 +285,5 @@ pub fn join(
     if !within(present, n) {
         return JoinAnswer::Refused(Refusal::Form);
     }
-    let nodes = named(present, n);
-    let list = nodes.list;
-    let count = nodes.count;
-    if !sound_lengths(list, count, f, lens) {
-        return JoinAnswer::Refused(Refusal::Form);
-    }
-    if count < k {
-        return JoinAnswer::Refused(Refusal::TooFew);
-    }
-    join_columns(list, k, f, length_of(list, 0, lens), room, out)
+    join_present(n, k, f, present, room, lens, out)
 }

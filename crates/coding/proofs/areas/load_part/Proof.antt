@@ -6,8 +6,6 @@ use lib.ListN.{getD}
 use Rattle.coding.proofs.BytesLaws.{Lanes, lanes-none, lanes-more, lanes-at}
 use Rattle.coding.proofs.areas.load_part.Statement.{statement}
 use Rattle.coding.proofs.areas.load_part.Tie as tie
-use Rattle.coding.proofs.areas.load_part.Reads as reads
-use Rattle.coding.proofs.areas.load_part.Lts as lts
 
 abbrev Inv-loop : tie.InvT-loop
 Inv-loop room at m v₀ l₀ v l = Lanes (λ i. getD room (at + i) 0) v l × (l ≤ m)

@@ -7,8 +7,6 @@ use lib.ListN.{length}
 use borrow.Author.Needs.{needs}
 use Rattle.coding.proofs.areas.store_part.Statement.{statement}
 use Rattle.coding.proofs.areas.store_part.Tie as tie
-use Rattle.coding.proofs.areas.store_part.Reads as reads
-use Rattle.coding.proofs.areas.store_part.Lts as lts
 
 abbrev Inv-loop : tie.InvT-loop
 Inv-loop room₀ at m v l₀ room l = Pasted room₀ at v m room l

@@ -7,8 +7,6 @@ use lib.ListN.{length}
 use borrow.Author.Needs.{needs}
 use Rattle.coding.proofs.areas.store_whole.Statement.{statement}
 use Rattle.coding.proofs.areas.store_whole.Tie as tie
-use Rattle.coding.proofs.areas.store_whole.Reads as reads
-use Rattle.coding.proofs.areas.store_whole.Lts as lts
 
 abbrev Inv-loop : tie.InvT-loop
 Inv-loop room₀ at v l₀ room l = Pasted room₀ at v 16 room l

@@ -4,51 +4,37 @@ use mathlib.Core.Path.{_≡_}
 use Prim.Native.Nat.{suc, _-_}
 use Rattle.coding.proofs.frame.frame_byte.Statement.{statement}
 use Rattle.coding.proofs.frame.frame_byte.Tie as tie
-use Rattle.coding.proofs.frame.frame_byte.Reads as reads
-use Rattle.coding.proofs.frame.frame_byte.Lts as lts
-use Rattle.coding.proofs.frame.page_byte.Reads as page-byte-reads
 
--- src/frame.rt:14:14
 cast-result : tie.Need-cast-result
 cast-result c = search needs
 
--- src/frame.rt:15:14
 cast-result-2 : tie.Need-cast-result-2
 cast-result-2 c = search needs
 
--- src/frame.rt:16:14
 cast-result-3 : tie.Need-cast-result-3
 cast-result-3 c = search needs
 
--- src/frame.rt:17:14
 cast-result-4 : tie.Need-cast-result-4
 cast-result-4 c = search needs
 
--- src/frame.rt:18:30
 sub-page-byte : tie.Need-sub-page-byte
 sub-page-byte c = search needs
 
--- src/frame.rt:18:14
 page-byte-requires : tie.Need-page-byte-requires
 page-byte-requires c κs = search needs
 
--- src/frame.rt:9:1
 returns : tie.Need-returns
 returns c = rw (c .match .keys1)
 
--- src/frame.rt:9:1
 returns-2 : tie.Need-returns-2
 returns-2 c = rw (c .match .keys2)
 
--- src/frame.rt:9:1
 returns-3 : tie.Need-returns-3
 returns-3 c = rw (c .match .keys3)
 
--- src/frame.rt:9:1
 returns-4 : tie.Need-returns-4
 returns-4 c = rw (c .match .keys4)
 
--- src/frame.rt:9:1
 returns-5 : tie.Need-returns-5
 returns-5 c =
     let q = c .before .before .before .args .p - 4 in

@@ -1,15 +1,11 @@
 -- The first l lanes are filled, and the next byte stands l strides on.
-use mathlib.Core.Path.{_≡_, refl}
+use mathlib.Core.Path.{refl}
 use Prim.Native.Nat.{_-_}
 use native.Mathlib.Omega.{arith}
-use lib.ListN.{getD}
 use Rattle.coding.specs.Frame.{frameByte}
 use Rattle.coding.proofs.BytesLaws.{Strided, strided-none, strided-within, strided-more, strided-all}
 use Rattle.coding.proofs.frame.gather_edge.Statement.{statement}
 use Rattle.coding.proofs.frame.gather_edge.Tie as tie
-use Rattle.coding.proofs.frame.gather_edge.Reads as reads
-use Rattle.coding.proofs.frame.gather_edge.Lts as lts
-use Rattle.coding.proofs.frame.frame_byte.Reads as frame-byte-reads
 
 abbrev Inv-loop : tie.InvT-loop
 Inv-loop page from k v₀ at₀ l₀ v at l = Strided (frameByte page) from k v at l

@@ -3,18 +3,13 @@ use mathlib.Core.Path.{sym}
 use lib.ListN.{List·getD-eq-default}
 use Rattle.coding.proofs.frame.page_byte.Statement.{statement}
 use Rattle.coding.proofs.frame.page_byte.Tie as tie
-use Rattle.coding.proofs.frame.page_byte.Reads as reads
-use Rattle.coding.proofs.frame.page_byte.Lts as lts
 
--- src/frame.rt:26:9
 shared-slice-read-result : tie.Need-shared-slice-read-result
 shared-slice-read-result c = search needs
 
--- src/frame.rt:22:1
 returns : tie.Need-returns
 returns c = search needs
 
--- src/frame.rt:22:1
 returns-2 : tie.Need-returns-2
 returns-2 c = sym (List·getD-eq-default (c .before .args .page .now) 0 (c .if1 .left))
 

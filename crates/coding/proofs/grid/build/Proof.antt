@@ -7,7 +7,7 @@ use native.Mathlib.Omega.{arith}
 use borrow.Author.Needs.{needs}
 use lib.ListN.{length, length-set, getD}
 use Rattle.coding.specs.Grid.{Powers}
-use Rattle.coding.proofs.GridLaws.{filled-more}
+use Rattle.coding.proofs.BytesLaws.{stored-more}
 use Rattle.coding.proofs.grid.build.Statement.{statement}
 use Rattle.coding.proofs.grid.build.Tie as tie
 
@@ -44,7 +44,7 @@ loop-again c =
     let a = c .before .before .before .args in (
       search needs,
       simp length-set (l .inv .1),
-      filled-more [] (λ i row. Powers (a .k) (getD (a .t1) i 0) i row) (l .s) (l .m) (c .powers .result) (omega arith) (l .inv .2) (c .powers .ensures),
+      stored-more [] (λ i row. Powers (a .k) (getD (a .t1) i 0) i row) (l .s) (l .m) (c .powers .result) (omega arith) (l .inv .2) (c .powers .ensures),
     )
 
 returns : tie.Need-returns Inv-loop μ-loop

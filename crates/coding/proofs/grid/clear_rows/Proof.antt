@@ -7,7 +7,7 @@ use native.Mathlib.Omega.{arith}
 use borrow.Author.Needs.{needs}
 use lib.ListN.{length, length-set, getD}
 use Rattle.coding.specs.Grid.{Cleared}
-use Rattle.coding.proofs.GridLaws.{filled-more}
+use Rattle.coding.proofs.BytesLaws.{stored-more}
 use Rattle.coding.proofs.grid.clear_rows.Statement.{statement}
 use Rattle.coding.proofs.grid.clear_rows.Tie as tie
 
@@ -47,7 +47,7 @@ loop-again c =
     let a = c .before .before .before .before .args in (
       search needs,
       simp length-set (l .inv .1),
-      filled-more [] (λ i row. Cleared (a .k) (a .c) i (a .pivot) (getD (a .t1) i []) row) (l .r) (l .out) (c .clear .result) (omega arith)
+      stored-more [] (λ i row. Cleared (a .k) (a .c) i (a .pivot) (getD (a .t1) i []) row) (l .r) (l .out) (c .clear .result) (omega arith)
           (l .inv .2) (c .clear .ensures),
     )
 

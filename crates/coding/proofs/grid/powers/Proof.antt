@@ -8,7 +8,8 @@ use borrow.Author.Needs.{needs}
 use lib.ListN.{length, length-set, getD}
 use lib.Seq.{getD-set-other}
 use Rattle.coding.specs.Field.{product, power as pow}
-use Rattle.coding.proofs.GridLaws.{filled-more, zeros, powers-done}
+use Rattle.coding.proofs.BytesLaws.{zeros-at, stored-more}
+use Rattle.coding.proofs.GridLaws.{powers-done}
 use Rattle.coding.proofs.grid.powers.Statement.{statement}
 use Rattle.coding.proofs.grid.powers.Tie as tie
 
@@ -25,7 +26,7 @@ abbrev μ-loop : tie.MeasureT-loop
 
 loop-holds : tie.Need-loop-holds Inv-loop μ-loop
 unfolding pow
-loop-holds c = (search needs, search needs, refl, λ i h. absurd (not-suc-le-zero h), λ i. zeros 32 (16 + i))
+loop-holds c = (search needs, search needs, refl, λ i h. absurd (not-suc-le-zero h), λ i. zeros-at 32 (16 + i))
 
 array-write-row : tie.Need-array-write-row Inv-loop μ-loop
 array-write-row c = search needs
@@ -47,7 +48,7 @@ loop-again c =
       search needs,
       simp length-set (l .inv .1),
       rw (add-one (l .t)) (c .mul .ensures ∙ ap (λ (v : ℕ). product v x) (l .inv .2)),
-      filled-more 0 (λ i v. v ≡ pow x i) (l .t) (l .row) (l .power) (omega arith) (l .inv .3) (l .inv .2),
+      stored-more 0 (λ i v. v ≡ pow x i) (l .t) (l .row) (l .power) (omega arith) (l .inv .3) (l .inv .2),
       λ i. getD-set-other (l .row) (l .t) (16 + i) (l .power) 0 (λ e. omega arith) ∙ l .inv .4 i,
     )
 

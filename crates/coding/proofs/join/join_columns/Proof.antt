@@ -1,8 +1,8 @@
 use borrow.Author.Needs.{needs}
-use mathlib.Core.Path.{_≡_, refl, sym, ap, _∙_}
+use mathlib.Core.Path.{_≡_, sym, ap, _∙_}
 use mathlib.Core.List.{List, _++_}
 use mathlib.Core.Option.{Option}
-use Prim.Native.Nat.{ℕ, _+_, _-_, _*_, _<_, _≤_}
+use Prim.Native.Nat.{ℕ, _+_, _*_, _<_, _≤_}
 use native.Mathlib.Nat.{mul-le-mul, mul-le-mul-right, mul-comm}
 use native.Mathlib.Omega.{arith}
 use borrow.Author.Tests.{not-true, not-false}
@@ -19,12 +19,6 @@ use Rattle.coding.proofs.JoinLaws.{length-joined, placed-page}
 use Rattle.coding.proofs.PageLaws.{page-short, page-long, page-wide, page-filled, page-found}
 use Rattle.coding.proofs.join.join_columns.Statement.{statement}
 use Rattle.coding.proofs.join.join_columns.Tie as tie
-use Rattle.coding.proofs.join.join_columns.Reads as reads
-use Rattle.coding.proofs.join.join_columns.Lts as lts
-use Rattle.coding.proofs.grid.invert.Reads as invert-reads
-use Rattle.coding.proofs.join.joined_length.Reads as joined-length-reads
-use Rattle.coding.proofs.join.write_page.Reads as write-page-reads
-use Rattle.coding.proofs.join.zero_from.Reads as zero-from-reads
 
 mul-size : tie.Need-mul-size
 mul-size c =

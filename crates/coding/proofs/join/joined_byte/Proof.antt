@@ -1,7 +1,7 @@
 use borrow.Author.Needs.{needs}
 use mathlib.Core.Path.{_≡_, ap, _∙_}
 use mathlib.Core.List.{[]}
-use Prim.Native.Nat.{ℕ, _+_, _-_, _*_, _/_, _%_, _<_, _≤_}
+use Prim.Native.Nat.{ℕ, _+_, _*_, _/_, _%_, _<_}
 use native.Mathlib.Nat.{mod-lt, div-lt-iff-lt-mul, div-add-mod'}
 use native.Mathlib.Omega.{arith}
 use lib.ListN.{length, getD, take}
@@ -10,9 +10,6 @@ use Rattle.coding.specs.Join.{joined}
 use Rattle.coding.proofs.JoinLaws.{weighed}
 use Rattle.coding.proofs.join.joined_byte.Statement.{statement}
 use Rattle.coding.proofs.join.joined_byte.Tie as tie
-use Rattle.coding.proofs.join.joined_byte.Reads as reads
-use Rattle.coding.proofs.join.joined_byte.Lts as lts
-use Rattle.coding.proofs.join.weigh.Reads as weigh-reads
 
 rem-weigh : tie.Need-rem-weigh
 rem-weigh c = search needs

@@ -1,20 +1,14 @@
 -- The first s nodes are weighed.
-use mathlib.Core.Path.{_≡_, refl}
-use mathlib.Core.List.{List}
-use Prim.Native.Nat.{ℕ, _+_, _-_, _*_, _<_, _≤_}
+use mathlib.Core.Path.{_≡_}
+use Prim.Native.Nat.{ℕ, _+_, _-_, _<_, _≤_}
 use native.Mathlib.Omega.{arith}
 use lib.ListN.{length, getD}
 use Rattle.coding.specs.Field.{product, sum}
 use Rattle.coding.specs.Output.{byteIn}
-use Rattle.coding.proofs.LaneLaws.{zero-lane}
+use Rattle.coding.proofs.BytesLaws.{zeros-at}
 use Rattle.coding.proofs.JoinLaws.{area-fits, weighed-more}
 use Rattle.coding.proofs.join.weigh_whole.Statement.{statement}
 use Rattle.coding.proofs.join.weigh_whole.Tie as tie
-use Rattle.coding.proofs.join.weigh_whole.Reads as reads
-use Rattle.coding.proofs.join.weigh_whole.Lts as lts
-use Rattle.coding.proofs.areas.load_whole.Reads as load-whole-reads
-use Rattle.coding.proofs.lanes.add.Reads as add-reads
-use Rattle.coding.proofs.lanes.scale.Reads as scale-reads
 
 abbrev Inv-loop : tie.InvT-loop
 Inv-loop k f j room row nodes sums₀ s₀ sums s = (s ≤ k) × ((l : ℕ) → l < 16 → getD sums l 0 ≡ sum s (λ i. product (byteIn f room (j + l) (getD nodes i 0)) (getD row (16 + i) 0)))
@@ -24,7 +18,7 @@ abbrev μ-loop : tie.MeasureT-loop
 
 loop-holds : tie.Need-loop-holds Inv-loop μ-loop
 unfolding sum
-loop-holds c = (omega arith, λ l h. zero-lane 16 l)
+loop-holds c = (omega arith, λ l h. zeros-at 16 l)
 
 array-read-at : tie.Need-array-read-at Inv-loop μ-loop
 array-read-at c = omega arith

@@ -1,7 +1,6 @@
 -- The rows below r are placed.
 use mathlib.Core.Path.{_≡_}
-use mathlib.Core.Logic.{inl}
-use Prim.Native.Nat.{ℕ, _+_, _-_, _*_, _<_, _≤_}
+use Prim.Native.Nat.{_-_, _≤_}
 use native.Mathlib.Nat.{not-suc-le-zero}
 use native.Mathlib.Omega.{arith}
 use lib.ListN.{getD, take}
@@ -11,9 +10,6 @@ use Rattle.coding.proofs.OutputLaws.{placed-none, placed-then, placed-f
 use Rattle.coding.proofs.JoinLaws.{Rows, rows-more, rows-all}
 use Rattle.coding.proofs.join.write_page.Statement.{statement}
 use Rattle.coding.proofs.join.write_page.Tie as tie
-use Rattle.coding.proofs.join.write_page.Reads as reads
-use Rattle.coding.proofs.join.write_page.Lts as lts
-use Rattle.coding.proofs.join.write_row.Reads as write-row-reads
 
 abbrev Inv-loop : tie.InvT-loop
 Inv-loop nodes k f columns len room out₀ grid r₀ out r = (r ≤ k) × Placed (λ p. getD (joined f room (take k nodes) columns) p 0) len (Rows k columns r) out₀ out

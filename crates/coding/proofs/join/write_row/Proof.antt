@@ -1,7 +1,7 @@
 -- The columns below j are placed.
 use borrow.Author.Needs.{needs}
 use mathlib.Core.Path.{_≡_, ap, _∙_}
-use Prim.Native.Nat.{ℕ, _+_, _-_, _*_, _<_, _≤_}
+use Prim.Native.Nat.{ℕ, _+_, _-_, _*_, _≤_}
 use native.Mathlib.Nat.{mul-le-mul, add-mul, not-suc-le-zero}
 use native.Mathlib.Omega.{arith}
 use lib.ListN.{length, getD, take}
@@ -12,11 +12,6 @@ use Rattle.coding.proofs.OutputLaws.{placed-none, placed-then}
 use Rattle.coding.proofs.JoinLaws.{weighed, stride-join}
 use Rattle.coding.proofs.join.write_row.Statement.{statement}
 use Rattle.coding.proofs.join.write_row.Tie as tie
-use Rattle.coding.proofs.join.write_row.Reads as reads
-use Rattle.coding.proofs.join.write_row.Lts as lts
-use Rattle.coding.proofs.areas.block.Reads as block-reads
-use Rattle.coding.proofs.join.weigh.Reads as weigh-reads
-use Rattle.coding.proofs.output.scatter.Reads as scatter-reads
 
 abbrev Inv-loop : tie.InvT-loop
 Inv-loop row r nodes k f columns len room out₀ j₀ out j = (j ≤ columns) × Placed (λ p. getD (joined f room (take k nodes) columns) p 0) len (Stride r k j) out₀ out

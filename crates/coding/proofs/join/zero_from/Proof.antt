@@ -2,7 +2,7 @@
 use borrow.Author.Needs.{needs}
 use mathlib.Core.Path.{_≡_, refl, sym, ap, _∙_}
 use mathlib.Core.Bool.{Bool, _&&_}
-use Prim.Native.Nat.{ℕ, _+_, _-_, _*_, _<_, _≤_}
+use Prim.Native.Nat.{ℕ, _+_, _-_, _*_, _≤_}
 use native.Mathlib.Nat.{mul-le-mul}
 use native.Mathlib.Omega.{arith}
 use borrow.Author.Tests.{eq-eqb, ne-eqb}
@@ -15,9 +15,6 @@ use Rattle.coding.proofs.NodesLaws.{all-step, all-end}
 use Rattle.coding.proofs.JoinLaws.{length-joined}
 use Rattle.coding.proofs.join.zero_from.Statement.{statement}
 use Rattle.coding.proofs.join.zero_from.Tie as tie
-use Rattle.coding.proofs.join.zero_from.Reads as reads
-use Rattle.coding.proofs.join.zero_from.Lts as lts
-use Rattle.coding.proofs.join.joined_byte.Reads as joined-byte-reads
 
 abbrev Inv-loop : tie.InvT-loop
 Inv-loop grid nodes k f columns from room end p₀ p = (end ≡ columns * k) × (p ≤ end) × (all (λ b. eqb b 0) (drop from (joined f room (take k nodes) columns)) ≡ all (λ b. eqb b 0) (drop p (joined f room (take k nodes) columns)))

@@ -4,7 +4,8 @@ use native.Mathlib.Omega.{arith}
 use borrow.Author.Needs.{needs}
 use lib.ListN.{length, getD, length-set, List·getD-eq-default}
 use Rattle.coding.specs.Field.{_⊕_}
-use Rattle.coding.proofs.LaneLaws.{lane-more, lanes-filled}
+use Rattle.coding.proofs.LaneLaws.{lanes-filled}
+use Rattle.coding.proofs.BytesLaws.{stored-more}
 use Rattle.coding.proofs.lanes.add.Statement.{statement}
 use Rattle.coding.proofs.lanes.add.Tie as tie
 
@@ -41,7 +42,7 @@ loop-again c =
     let x = getD v l 0 ⊕ getD w l 0 in (
       search needs,
       length-set r l x ∙ c .before .loop .inv .1,
-      lane-more (λ k. getD v k 0 ⊕ getD w k 0) r l x (search needs) refl (c .before .loop .inv .2),
+      stored-more 0 (λ k y. y ≡ getD v k 0 ⊕ getD w k 0) l r x (search needs) (c .before .loop .inv .2) refl,
     )
 
 returns : tie.Need-returns Inv-loop μ-loop

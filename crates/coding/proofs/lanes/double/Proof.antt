@@ -5,7 +5,8 @@ use borrow.Author.Needs.{needs}
 use lib.ListN.{length, getD, length-set, List·getD-eq-default}
 use Rattle.coding.specs.Field.{product}
 use Rattle.coding.proofs.FieldLaws.{zero-product}
-use Rattle.coding.proofs.LaneLaws.{lane-more, lanes-filled}
+use Rattle.coding.proofs.LaneLaws.{lanes-filled}
+use Rattle.coding.proofs.BytesLaws.{stored-more}
 use Rattle.coding.proofs.lanes.double.Statement.{statement}
 use Rattle.coding.proofs.lanes.double.Tie as tie
 
@@ -40,7 +41,7 @@ loop-again c =
     let l = c .before .before .loop .l in (
       search needs,
       length-set r l (c .twice .result) ∙ c .before .before .loop .inv .1,
-      lane-more (λ k. product (getD v k 0) 2) r l (c .twice .result) (search needs) (c .twice .ensures) (c .before .before .loop .inv .2),
+      stored-more 0 (λ k y. y ≡ product (getD v k 0) 2) l r (c .twice .result) (search needs) (c .before .before .loop .inv .2) (c .twice .ensures),
     )
 
 returns : tie.Need-returns Inv-loop μ-loop

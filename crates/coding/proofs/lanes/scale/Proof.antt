@@ -9,7 +9,8 @@ use borrow.Author.Needs.{needs}
 use lib.ListN.{getD}
 use Rattle.coding.specs.Field.{_⊕_, product}
 use Rattle.coding.proofs.FieldLaws.{product-byte}
-use Rattle.coding.proofs.LaneLaws.{zero-lane, turn-odd, turn-even, ended, half-below}
+use Rattle.coding.proofs.BytesLaws.{zeros-at}
+use Rattle.coding.proofs.LaneLaws.{turn-odd, turn-even, ended, half-below}
 use Rattle.coding.proofs.lanes.add.Reads as add-reads
 use Rattle.coding.proofs.lanes.double.Reads as double-reads
 use Rattle.coding.proofs.lanes.scale.Lts as lts
@@ -33,7 +34,7 @@ loop-holds c =
       search needs,
       search needs,
       λ k. let b : Fits w8 (getD v k 0) = search needs in b .fits,
-      λ k. ap (λ (x : ℕ). x ⊕ product (getD v k 0) (c .args .c)) (zero-lane 16 k),
+      λ k. ap (λ (x : ℕ). x ⊕ product (getD v k 0) (c .args .c)) (zeros-at 16 k),
     )
 
 add-requires : tie.Need-add-requires Inv-loop μ-loop

@@ -5,17 +5,13 @@ use borrow.Author.Tests.{le-leb, lt-leb}
 use Rattle.coding.specs.Pieces.{proper}
 use Rattle.coding.proofs.measures.proper_measures.Statement.{statement}
 use Rattle.coding.proofs.measures.proper_measures.Tie as tie
-use Rattle.coding.proofs.measures.proper_measures.Reads as reads
-use Rattle.coding.proofs.measures.proper_measures.Lts as lts
 
--- src/measures.rt:11:9
 returns : tie.Need-returns
 unfolding proper
 returns c =
     simp
     (lt-leb _ _ (c .if1 .taken))
 
--- src/measures.rt:14:9
 returns-2 : tie.Need-returns-2
 unfolding proper
 returns-2 c =
@@ -24,7 +20,6 @@ returns-2 c =
       lt-leb _ _ (c .if2 .taken),
     )
 
--- src/measures.rt:17:9
 returns-3 : tie.Need-returns-3
 unfolding proper
 returns-3 c =
@@ -34,7 +29,6 @@ returns-3 c =
       lt-leb _ _ (c .if3 .taken),
     )
 
--- src/measures.rt:20:9
 returns-4 : tie.Need-returns-4
 unfolding proper
 returns-4 c =
@@ -45,7 +39,6 @@ returns-4 c =
       lt-leb _ _ (c .if4 .taken),
     )
 
--- src/measures.rt:23:9
 returns-5 : tie.Need-returns-5
 unfolding proper
 returns-5 c =
@@ -57,7 +50,6 @@ returns-5 c =
       lt-leb _ _ (c .if5 .taken),
     )
 
--- src/measures.rt:26:9
 returns-6 : tie.Need-returns-6
 unfolding proper
 returns-6 c =
@@ -70,7 +62,6 @@ returns-6 c =
       lt-leb _ _ (c .if6 .taken),
     )
 
--- src/measures.rt:28:8
 mul-if7 : tie.Need-mul-if7
 mul-if7 c =
     let k = c .before .before .before .before .before .before .args .k in
@@ -79,7 +70,6 @@ mul-if7 c =
     let hf : f ≤ 4096 = omega arith in
     omega (arith, mul-le-mul hk hf)
 
--- src/measures.rt:29:9
 returns-7 : tie.Need-returns-7
 unfolding proper
 returns-7 c =
@@ -93,7 +83,6 @@ returns-7 c =
       lt-leb _ _ (c .if7 .taken),
     )
 
--- src/measures.rt:7:1
 returns-8 : tie.Need-returns-8
 unfolding proper
 returns-8 c =

@@ -4,8 +4,6 @@ use native.Mathlib.Omega.{arith}
 use lib.ListN.{getD}
 use Rattle.coding.proofs.nodes.length_of.Statement.{statement}
 use Rattle.coding.proofs.nodes.length_of.Tie as tie
-use Rattle.coding.proofs.nodes.length_of.Reads as reads
-use Rattle.coding.proofs.nodes.length_of.Lts as lts
 
 array-read-at : tie.Need-array-read-at
 array-read-at c = search needs

@@ -5,9 +5,6 @@ use native.Mathlib.Omega.{arith}
 use Rattle.coding.specs.Nodes.{nodesOf, Named}
 use Rattle.coding.proofs.nodes.named.Statement.{statement}
 use Rattle.coding.proofs.nodes.named.Tie as tie
-use Rattle.coding.proofs.nodes.named.Reads as reads
-use Rattle.coding.proofs.nodes.named.Lts as lts
-use Rattle.coding.proofs.nodes.with_node.Reads as with-node-reads
 
 abbrev Inv-loop : tie.InvT-loop
 Inv-loop map n nodes₀ i₀ nodes i = (i ≤ n) × Named map i nodes

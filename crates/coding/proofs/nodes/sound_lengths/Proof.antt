@@ -12,9 +12,6 @@ use Rattle.coding.specs.Nodes.{all, sound}
 use Rattle.coding.proofs.NodesLaws.{all-step, all-end, sound-low, sound-high, sound-rest}
 use Rattle.coding.proofs.nodes.sound_lengths.Statement.{statement}
 use Rattle.coding.proofs.nodes.sound_lengths.Tie as tie
-use Rattle.coding.proofs.nodes.sound_lengths.Reads as reads
-use Rattle.coding.proofs.nodes.sound_lengths.Lts as lts
-use Rattle.coding.proofs.nodes.length_of.Reads as length-of-reads
 
 abbrev Inv-loop : tie.InvT-loop
 Inv-loop nodes count f lens first s₀ s = (1 ≤ s) × (s ≤ count) × (all (λ i. eqb (getD lens (i - 1) 0) first) (drop 1 (take count nodes)) ≡ all (λ i. eqb (getD lens (i - 1) 0) first) (drop s (take count nodes)))

@@ -5,8 +5,6 @@ use lib.Bits.{and-mask}
 use lib.Dec.{eqb}
 use Rattle.coding.proofs.nodes.stands.Statement.{statement}
 use Rattle.coding.proofs.nodes.stands.Tie as tie
-use Rattle.coding.proofs.nodes.stands.Reads as reads
-use Rattle.coding.proofs.nodes.stands.Lts as lts
 
 cast-result : tie.Need-cast-result
 cast-result c = search needs

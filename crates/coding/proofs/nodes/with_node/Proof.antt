@@ -1,16 +1,11 @@
 use borrow.Author.Needs.{needs}
 use mathlib.Core.Path.{_≡_, sym, _∙_}
-use Prim.Native.Nat.{_≤_}
 use native.Mathlib.Omega.{arith}
 use borrow.Author.Tests.{not-true, not-false}
 use lib.ListN.{length}
-use Rattle.coding.specs.Nodes.{nodesOf}
 use Rattle.coding.proofs.NodesLaws.{nodes-few, named-skip, named-more}
 use Rattle.coding.proofs.nodes.with_node.Statement.{statement}
 use Rattle.coding.proofs.nodes.with_node.Tie as tie
-use Rattle.coding.proofs.nodes.with_node.Reads as reads
-use Rattle.coding.proofs.nodes.with_node.Lts as lts
-use Rattle.coding.proofs.nodes.stands.Reads as stands-reads
 
 stands-requires : tie.Need-stands-requires
 stands-requires c κs = search needs

@@ -2,8 +2,6 @@ use borrow.Author.Needs.{needs}
 use Rattle.coding.proofs.NodesLaws.{shifted-out}
 use Rattle.coding.proofs.nodes.within.Statement.{statement}
 use Rattle.coding.proofs.nodes.within.Tie as tie
-use Rattle.coding.proofs.nodes.within.Reads as reads
-use Rattle.coding.proofs.nodes.within.Lts as lts
 
 cast-result : tie.Need-cast-result
 cast-result c = search needs

@@ -1,13 +1,10 @@
 use borrow.Author.Needs.{needs}
 use mathlib.Core.Path.{_≡_, ap, _∙_}
-use Prim.Native.Nat.{_+_, _-_, _<_}
+use Prim.Native.Nat.{_+_, _-_}
 use native.Mathlib.Omega.{arith}
-use Rattle.coding.specs.Output.{Placed}
 use Rattle.coding.proofs.OutputLaws.{placed-put}
 use Rattle.coding.proofs.output.put.Statement.{statement}
 use Rattle.coding.proofs.output.put.Tie as tie
-use Rattle.coding.proofs.output.put.Reads as reads
-use Rattle.coding.proofs.output.put.Lts as lts
 
 returns : tie.Need-returns
 returns c = search needs

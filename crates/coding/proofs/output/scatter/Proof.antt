@@ -3,41 +3,29 @@ use mathlib.Core.Path.{_≡_}
 use native.Mathlib.Omega.{arith}
 use Rattle.coding.proofs.output.scatter.Statement.{statement}
 use Rattle.coding.proofs.output.scatter.Tie as tie
-use Rattle.coding.proofs.output.scatter.Reads as reads
-use Rattle.coding.proofs.output.scatter.Lts as lts
-use Rattle.coding.proofs.output.scatter_edge.Reads as scatter-edge-reads
-use Rattle.coding.proofs.output.scatter_inside.Reads as scatter-inside-reads
 
--- src/output.rt:51:27
 mul-if3 : tie.Need-mul-if3
 mul-if3 c = search needs
 
--- src/output.rt:51:16
 add-if3 : tie.Need-add-if3
 add-if3 c = search needs
 
--- src/output.rt:52:17
 scatter-inside-requires : tie.Need-scatter-inside-requires
 scatter-inside-requires c κs = search needs
 
--- src/output.rt:53:17
 same-length : tie.Need-same-length
 same-length c = search needs
 
--- src/output.rt:53:17
 returns : tie.Need-returns
 returns c =
     let e : c .before .before .before .before .before .before .before .before .args .m ≡ 16 = omega arith in rw e (c .before .before .scatter-inside .ensures)
 
--- src/output.rt:57:5
 scatter-edge-requires : tie.Need-scatter-edge-requires
 scatter-edge-requires c κs = search needs
 
--- src/output.rt:45:1
 same-length-2 : tie.Need-same-length-2
 same-length-2 c = search needs
 
--- src/output.rt:45:1
 returns-2 : tie.Need-returns-2
 returns-2 c = search needs
 

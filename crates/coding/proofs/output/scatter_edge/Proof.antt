@@ -1,17 +1,13 @@
 -- The first l lanes are placed.
 use borrow.Author.Needs.{needs}
-use mathlib.Core.Path.{_≡_, sym, ap, _∙_}
-use Prim.Native.Nat.{ℕ, _+_, _-_, _*_, _<_, _≤_}
+use mathlib.Core.Path.{_≡_}
+use Prim.Native.Nat.{_+_, _-_, _*_, _≤_}
 use native.Mathlib.Nat.{mul-le-mul-right}
 use native.Mathlib.Omega.{arith}
-use lib.ListN.{length}
 use Rattle.coding.proofs.BytesLaws.{stride}
 use Rattle.coding.proofs.OutputLaws.{Scatter, scatter-none, scatter-more, scatter-all}
 use Rattle.coding.proofs.output.scatter_edge.Statement.{statement}
 use Rattle.coding.proofs.output.scatter_edge.Tie as tie
-use Rattle.coding.proofs.output.scatter_edge.Reads as reads
-use Rattle.coding.proofs.output.scatter_edge.Lts as lts
-use Rattle.coding.proofs.output.put.Reads as put-reads
 
 abbrev Inv-loop : tie.InvT-loop
 Inv-loop m from k len out₀ v at₀ l₀ out at l = (at ≡ from + l * k) × Scatter v m from k len out₀ out l

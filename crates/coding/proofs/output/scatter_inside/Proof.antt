@@ -1,16 +1,13 @@
 -- The first l lanes are placed.
 use mathlib.Core.Path.{_≡_, sym, ap, _∙_}
-use Prim.Native.Nat.{ℕ, _+_, _-_, _*_, _<_, _≤_}
+use Prim.Native.Nat.{_+_, _-_, _*_, _<_, _≤_}
 use native.Mathlib.Nat.{mul-le-mul-right}
 use native.Mathlib.Omega.{arith}
-use lib.ListN.{length, getD, length-set}
-use Rattle.coding.specs.Output.{Placed}
+use lib.ListN.{getD, length-set}
 use Rattle.coding.proofs.BytesLaws.{stride}
 use Rattle.coding.proofs.OutputLaws.{Scatter, scatter-none, scatter-more, scatter-all, placed-put}
 use Rattle.coding.proofs.output.scatter_inside.Statement.{statement}
 use Rattle.coding.proofs.output.scatter_inside.Tie as tie
-use Rattle.coding.proofs.output.scatter_inside.Reads as reads
-use Rattle.coding.proofs.output.scatter_inside.Lts as lts
 
 abbrev Inv-loop : tie.InvT-loop
 Inv-loop from k len out₀ v at₀ l₀ out at l = (at + 4 ≡ from + l * k) × Scatter v 16 from k len out₀ out l

@@ -8,12 +8,6 @@ use Rattle.coding.proofs.Sha256Laws.{length-padded, digest-law}
 use Rattle.coding.specs.Sha256.{K, H₀}
 use Rattle.coding.proofs.sha256.digest.Statement.{statement}
 use Rattle.coding.proofs.sha256.digest.Tie as tie
-use Rattle.coding.proofs.sha256.digest.Reads as reads
-use Rattle.coding.proofs.sha256.digest.Lts as lts
-use Rattle.coding.proofs.sha256.blocks.Reads as blocks-reads
-use Rattle.coding.proofs.sha256.joined.Reads as joined-reads
-use Rattle.coding.proofs.sha256.last.Reads as last-reads
-use Rattle.coding.proofs.sha256.last_len.Reads as last-len-reads
 
 blocks-requires : tie.Need-blocks-requires
 unfolding K

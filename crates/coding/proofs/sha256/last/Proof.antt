@@ -7,9 +7,6 @@ use Rattle.coding.proofs.Sha256Laws.{length-padded, each-turn}
 use Rattle.coding.specs.Sha256.{_!_, padded}
 use Rattle.coding.proofs.sha256.last.Statement.{statement}
 use Rattle.coding.proofs.sha256.last.Tie as tie
-use Rattle.coding.proofs.sha256.last.Reads as reads
-use Rattle.coding.proofs.sha256.last.Lts as lts
-use Rattle.coding.proofs.sha256.last_byte.Reads as last-byte-reads
 
 abbrev Inv-loop : tie.InvT-loop
 Inv-loop s end b₀ j₀ b j =

@@ -6,9 +6,6 @@ use borrow.Author.Needs.{needs}
 use Rattle.coding.proofs.Sha256Laws.{length-padded, padded-message, padded-one, padded-zero, padded-length}
 use Rattle.coding.proofs.sha256.last_byte.Statement.{statement}
 use Rattle.coding.proofs.sha256.last_byte.Tie as tie
-use Rattle.coding.proofs.sha256.last_byte.Reads as reads
-use Rattle.coding.proofs.sha256.last_byte.Lts as lts
-use Rattle.coding.proofs.sha256.byte.Reads as byte-reads
 
 mul-result : tie.Need-mul-result
 mul-result c = search needs

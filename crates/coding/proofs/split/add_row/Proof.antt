@@ -1,17 +1,14 @@
 -- The areas below i have the row in their sums.
-use mathlib.Core.Path.{_≡_, refl, ap, _∙_}
-use Prim.Native.Nat.{ℕ, _+_, _-_, _*_, _<_, _≤_}
+use mathlib.Core.Path.{ap, _∙_}
+use Prim.Native.Nat.{ℕ, _+_, _-_, _*_}
 use native.Mathlib.Omega.{arith}
-use lib.ListN.{length, getD}
+use lib.ListN.{getD}
 use native.Mathlib.Nat.{le-refl}
 use Rattle.coding.specs.Field.{_⊕_, product}
 use Rattle.coding.proofs.BytesLaws.{length-tabulate, getD-tabulate}
 use Rattle.coding.proofs.AreasLaws.{Walk, walk-none, walk-fits, walk-room, walk-kept, walk-more, walk-all}
 use Rattle.coding.proofs.split.add_row.Statement.{statement}
 use Rattle.coding.proofs.split.add_row.Tie as tie
-use Rattle.coding.proofs.split.add_row.Reads as reads
-use Rattle.coding.proofs.split.add_row.Lts as lts
-use Rattle.coding.proofs.split.turn.Reads as turn-reads
 
 abbrev Inv-loop : tie.InvT-loop
 Inv-loop first n f j m row room₀ at₀ i₀ room at i = Walk n f j m (λ i l. product (getD room₀ (i * f + (j + l)) 0) (first + i + 1) ⊕ getD row l 0) room₀ room at i

@@ -1,6 +1,5 @@
 use borrow.Author.Needs.{needs}
-use mathlib.Core.Path.{_≡_, sym, ap, _∙_}
-use Prim.Native.Nat.{_≤_}
+use mathlib.Core.Path.{sym, ap, _∙_}
 use native.Mathlib.Omega.{arith}
 use borrow.Author.Tests.{not-true, not-false}
 use Rattle.coding.specs.Split.{SplitEnd}
@@ -9,11 +8,6 @@ use Rattle.coding.proofs.FrameLaws.{columns-within}
 use Rattle.coding.proofs.SplitLaws.{split-measures, split-short, split-long, split-done, written-unique}
 use Rattle.coding.proofs.split.split.Statement.{statement}
 use Rattle.coding.proofs.split.split.Tie as tie
-use Rattle.coding.proofs.split.split.Reads as reads
-use Rattle.coding.proofs.split.split.Lts as lts
-use Rattle.coding.proofs.measures.piece_length.Reads as piece-length-reads
-use Rattle.coding.proofs.measures.proper_measures.Reads as proper-measures-reads
-use Rattle.coding.proofs.split.write_areas.Reads as write-areas-reads
 
 proper-measures-requires : tie.Need-proper-measures-requires
 proper-measures-requires c κs = search needs

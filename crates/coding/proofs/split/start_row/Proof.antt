@@ -5,12 +5,9 @@ use Prim.Native.Nat.{_-_, _≤_}
 use native.Mathlib.Omega.{arith}
 use lib.ListN.{length, getD}
 use Rattle.coding.proofs.AreasLaws.{Walk, walk-none, walk-fits, walk-room, walk-more, walk-all}
-use Rattle.coding.proofs.AreasLaws.{Walk, walk-none, walk-fits, walk-room, walk-kept, walk-more, walk-all}
+use Rattle.coding.proofs.AreasLaws.{Walk, walk-none, walk-fits, walk-room, walk-more, walk-all}
 use Rattle.coding.proofs.split.start_row.Statement.{statement}
 use Rattle.coding.proofs.split.start_row.Tie as tie
-use Rattle.coding.proofs.split.start_row.Reads as reads
-use Rattle.coding.proofs.split.start_row.Lts as lts
-use Rattle.coding.proofs.areas.store.Reads as store-reads
 
 abbrev Inv-loop : tie.InvT-loop
 Inv-loop n f j m row room₀ at₀ i₀ room at i = Walk n f j m (λ i l. getD row l 0) room₀ room at i

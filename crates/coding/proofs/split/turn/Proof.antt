@@ -3,10 +3,6 @@ use mathlib.Core.Path.{_≡_}
 use native.Mathlib.Omega.{arith}
 use Rattle.coding.proofs.split.turn.Statement.{statement}
 use Rattle.coding.proofs.split.turn.Tie as tie
-use Rattle.coding.proofs.split.turn.Reads as reads
-use Rattle.coding.proofs.split.turn.Lts as lts
-use Rattle.coding.proofs.split.turn_part.Reads as turn-part-reads
-use Rattle.coding.proofs.split.turn_whole.Reads as turn-whole-reads
 
 turn-whole-requires : tie.Need-turn-whole-requires
 turn-whole-requires c κs = search needs

@@ -5,12 +5,6 @@ use lib.ListN.{length}
 use Rattle.coding.proofs.SplitLaws.{turned}
 use Rattle.coding.proofs.split.turn_part.Statement.{statement}
 use Rattle.coding.proofs.split.turn_part.Tie as tie
-use Rattle.coding.proofs.split.turn_part.Reads as reads
-use Rattle.coding.proofs.split.turn_part.Lts as lts
-use Rattle.coding.proofs.areas.load_part.Reads as load-part-reads
-use Rattle.coding.proofs.areas.store_part.Reads as store-part-reads
-use Rattle.coding.proofs.lanes.add.Reads as add-reads
-use Rattle.coding.proofs.lanes.scale.Reads as scale-reads
 
 load-part-requires : tie.Need-load-part-requires
 load-part-requires c κs = search needs

@@ -5,12 +5,6 @@ use lib.ListN.{length}
 use Rattle.coding.proofs.SplitLaws.{turned}
 use Rattle.coding.proofs.split.turn_whole.Statement.{statement}
 use Rattle.coding.proofs.split.turn_whole.Tie as tie
-use Rattle.coding.proofs.split.turn_whole.Reads as reads
-use Rattle.coding.proofs.split.turn_whole.Lts as lts
-use Rattle.coding.proofs.areas.load_whole.Reads as load-whole-reads
-use Rattle.coding.proofs.areas.store_whole.Reads as store-whole-reads
-use Rattle.coding.proofs.lanes.add.Reads as add-reads
-use Rattle.coding.proofs.lanes.scale.Reads as scale-reads
 
 load-whole-requires : tie.Need-load-whole-requires
 load-whole-requires c κs = search needs

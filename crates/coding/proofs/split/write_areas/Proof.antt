@@ -1,18 +1,15 @@
 use borrow.Author.Needs.{needs}
 use mathlib.Core.Path.{_≡_, refl, ap, _∙_}
-use Prim.Native.Nat.{ℕ, _+_, _-_, _*_, _<_, _≤_}
+use Prim.Native.Nat.{ℕ, _+_, _-_, _*_, _≤_}
 use native.Mathlib.Nat.{zero-add, add-mul, mul-le-mul-right}
 use native.Mathlib.Omega.{arith}
-use lib.ListN.{length, take, drop, length-drop}
+use lib.ListN.{length, drop, length-drop}
 use lib.Seq.{length-take-le}
 use Rattle.coding.specs.Pieces.{pieceByte, frame}
 use Rattle.coding.proofs.AreasLaws.{columns-rest}
 use Rattle.coding.proofs.SplitLaws.{columns-ext}
 use Rattle.coding.proofs.split.write_areas.Statement.{statement}
 use Rattle.coding.proofs.split.write_areas.Tie as tie
-use Rattle.coding.proofs.split.write_areas.Reads as reads
-use Rattle.coding.proofs.split.write_areas.Lts as lts
-use Rattle.coding.proofs.split.write_pieces.Reads as write-pieces-reads
 
 write-pieces-requires : tie.Need-write-pieces-requires
 write-pieces-requires c κs = search needs

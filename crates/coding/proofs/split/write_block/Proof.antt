@@ -1,19 +1,13 @@
 -- The rows from r on stand in the sums.
 use mathlib.Core.Path.{_≡_, _∙_}
-use Prim.Native.Nat.{ℕ, _+_, _-_, _*_, _<_, _≤_}
+use Prim.Native.Nat.{_+_, _-_, _<_, _≤_}
 use native.Mathlib.Nat.{mul-le-mul}
 use native.Mathlib.Omega.{arith}
-use lib.ListN.{length}
 use Rattle.coding.specs.Areas.{Columns}
 use Rattle.coding.proofs.AreasLaws.{columns-stay, columns-again}
-use Rattle.coding.proofs.SplitLaws.{rows, lanes, block-start, block-more, block-all}
+use Rattle.coding.proofs.SplitLaws.{rows, block-start, block-more, block-all}
 use Rattle.coding.proofs.split.write_block.Statement.{statement}
 use Rattle.coding.proofs.split.write_block.Tie as tie
-use Rattle.coding.proofs.split.write_block.Reads as reads
-use Rattle.coding.proofs.split.write_block.Lts as lts
-use Rattle.coding.proofs.frame.gather.Reads as gather-reads
-use Rattle.coding.proofs.split.add_row.Reads as add-row-reads
-use Rattle.coding.proofs.split.start_row.Reads as start-row-reads
 
 abbrev Inv-loop : tie.InvT-loop
 Inv-loop first n k f j m page room₀ r₀ room r = (r < k) × Columns n f j m (rows first k page j r) room₀ room

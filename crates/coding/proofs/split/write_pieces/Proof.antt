@@ -1,16 +1,12 @@
 -- The columns below j stand in every area.
-use mathlib.Core.Path.{_≡_, refl, _∙_}
-use Prim.Native.Nat.{ℕ, _+_, _-_, _*_, _<_, _≤_}
+use mathlib.Core.Path.{_≡_, refl}
+use Prim.Native.Nat.{_+_, _-_, _≤_}
 use native.Mathlib.Omega.{arith}
 use Rattle.coding.specs.Pieces.{pieceByte, frame}
 use Rattle.coding.specs.Areas.{Columns}
 use Rattle.coding.proofs.AreasLaws.{columns-empty, columns-join}
 use Rattle.coding.proofs.split.write_pieces.Statement.{statement}
 use Rattle.coding.proofs.split.write_pieces.Tie as tie
-use Rattle.coding.proofs.split.write_pieces.Reads as reads
-use Rattle.coding.proofs.split.write_pieces.Lts as lts
-use Rattle.coding.proofs.areas.block.Reads as block-reads
-use Rattle.coding.proofs.split.write_block.Reads as write-block-reads
 
 abbrev Inv-loop : tie.InvT-loop
 Inv-loop first n k f len page room₀ j₀ room j = (j ≤ len) × Columns n f 0 j (λ i l. pieceByte k (frame k page) (first + i + 1) l) room₀ room
