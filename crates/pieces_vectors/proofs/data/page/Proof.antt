@@ -1,0 +1,64 @@
+-- A store keeps the length of the slice.
+use Prim.Native.Nat.{_≤_, _-_}
+use mathlib.Core.Path.{_≡_}
+use lib.ListN.{length}
+use borrow.Author.Needs.{needs}
+use Rattle.pieces_vectors.proofs.data.page.Statement.{statement}
+use Rattle.pieces_vectors.proofs.data.page.Tie as tie
+
+abbrev Inv-loop : tie.InvT-loop
+Inv-loop s₀ i₀ s i = (i ≤ length s₀) × (length s ≡ length s₀)
+
+abbrev μ-loop : tie.MeasureT-loop
+μ-loop s₀ i₀ s i = length s₀ - i
+
+loop-holds : tie.Need-loop-holds Inv-loop μ-loop
+loop-holds c = search needs
+
+mul-s : tie.Need-mul-s Inv-loop μ-loop
+mul-s c = search needs
+
+add-s : tie.Need-add-s Inv-loop μ-loop
+add-s c = search needs
+
+add-s-2 : tie.Need-add-s-2 Inv-loop μ-loop
+add-s-2 c = search needs
+
+cast-s : tie.Need-cast-s Inv-loop μ-loop
+cast-s c = search needs
+
+slice-write-s : tie.Need-slice-write-s Inv-loop μ-loop
+slice-write-s c = search needs
+
+add-i : tie.Need-add-i Inv-loop μ-loop
+add-i c = search needs
+
+loop-less : tie.Need-loop-less Inv-loop μ-loop
+loop-less c = search needs
+
+loop-again : tie.Need-loop-again Inv-loop μ-loop
+loop-again c = search needs
+
+same-length : tie.Need-same-length Inv-loop μ-loop
+same-length c = search needs
+
+returns : tie.Need-returns Inv-loop μ-loop
+returns c = search needs
+
+pub page-spec : {M : Type 1} → statement M
+page-spec =
+    tie.close
+    (tie.spec
+    Inv-loop
+    μ-loop
+    loop-holds
+    mul-s
+    add-s
+    add-s-2
+    cast-s
+    slice-write-s
+    add-i
+    loop-less
+    loop-again
+    same-length
+    returns)

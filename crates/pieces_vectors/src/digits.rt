@@ -1,0 +1,46 @@
+// Calls of which a line has only a digit: the refusal's number, or 0. The checksum of what was lent goes on from call to call.
+use crate::data;
+use crate::print;
+use coding::answer::JoinAnswer;
+use coding::answer::SplitAnswer;
+use coding::join::join;
+use coding::split::split;
+
+fn chained(h: usize, s: &[u8]) -> usize {
+    (h % 4294967296 * 31 + data::checksum(s) % 4294967296) % 4294967296
+}
+
+fn of_split(a: SplitAnswer) -> usize {
+    match a {
+        SplitAnswer::Pieces(_) => 0,
+        SplitAnswer::Refused(r) => print::document_number(r),
+    }
+}
+
+pub fn split_digit(n: usize, k: usize, f: usize, page: &[u8], room: &mut [u8], h: usize) -> usize {
+    data::poison(room);
+    print::digit(of_split(split(n, k, f, page, room)));
+    chained(h, room)
+}
+
+fn of_join(a: JoinAnswer) -> usize {
+    match a {
+        JoinAnswer::Page(_) => 0,
+        JoinAnswer::Refused(r) => print::document_number(r),
+    }
+}
+
+pub fn join_digit(
+    n: usize,
+    k: usize,
+    f: usize,
+    map: u16,
+    room: &[u8],
+    lens: &[u16],
+    out: &mut [u8],
+    h: usize,
+) -> usize {
+    data::poison(out);
+    print::digit(of_join(join(n, k, f, map, room, lens, out)));
+    chained(h, out)
+}
