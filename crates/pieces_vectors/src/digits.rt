@@ -5,6 +5,7 @@ use coding::answer::JoinAnswer;
 use coding::answer::SplitAnswer;
 use coding::join::join;
 use coding::split::split;
+ghost use Prim.Native.Nat.{_≤_};
 
 fn chained(h: usize, s: &[u8]) -> usize {
     (h % 4294967296 * 31 + data::checksum(s) % 4294967296) % 4294967296
@@ -17,10 +18,19 @@ fn of_split(a: SplitAnswer) -> usize {
     }
 }
 
-pub fn split_digit(n: usize, k: usize, f: usize, page: &[u8], room: &mut [u8], h: usize) -> usize {
+fn split_digit(n: usize, k: usize, f: usize, page: &[u8], room: &mut [u8], h: usize) -> usize {
     data::poison(room);
     print::digit(of_split(split(n, k, f, page, room)));
     chained(h, room)
+}
+
+pub fn split_of(n: usize, k: usize, f: usize, len: usize, size: usize, h: usize) -> usize
+    requires { ⌜ (len ≤ 4100) × (size ≤ 4100) ⌝ }
+{
+    let mut page = [0u8; 4100];
+    data::page(&mut page);
+    let mut room = [0u8; 4100];
+    split_digit(n, k, f, &page[0..len], &mut room[0..size], h)
 }
 
 fn of_join(a: JoinAnswer) -> usize {

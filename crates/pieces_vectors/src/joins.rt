@@ -41,38 +41,42 @@ fn page(len: usize, out: &[u8]) {
     }
 }
 
-// The length of the pieces, and 0 where there are none.
-pub fn piece_length(a: SplitAnswer) -> usize {
+fn piece_length(a: SplitAnswer) -> usize {
     match a {
         SplitAnswer::Pieces(len) => len,
         SplitAnswer::Refused(_) => 0,
     }
 }
 
-// A page is split, and only the pieces that are to be used stay whole.
-fn rejoin(n: usize, k: usize, f: usize, map: u16, page: &[u8], room: &mut [u8], out: &mut [u8])
-    requires { ⌜ (n ≤ 16) × (0 < f) ⌝ }
+// The room gets the pieces of a page; their length, or 0 where there are none.
+pub fn pieces(n: usize, k: usize, f: usize, len: usize, room: &mut [u8]) -> usize
+    requires { ⌜ len ≤ 4100 ⌝ }
 {
+    let mut page = [0u8; 4100];
+    data::page(&mut page);
     data::poison(room);
-    let a = split(n, k, f, page, room);
-    data::spoil(n, k, f, map, room);
-    let lens = data::lengths(map, piece_length(a));
-    show(n, k, f, map, room, &lens[0..n], out);
+    piece_length(split(n, k, f, &page[0..len], room))
+}
+
+// Only the pieces that are to be used stay whole.
+fn rejoin(n: usize, k: usize, len: usize, map: u16, room: &mut [u8], out: &mut [u8])
+    requires { ⌜ (n ≤ 16) × (len ≤ 4100) ⌝ }
+{
+    let lens = data::lengths(map, pieces(n, k, 40, len, room));
+    data::spoil(n, k, 40, map, room);
+    show(n, k, 40, map, room, &lens[0..n], out);
 }
 
 fn of_map(n: usize, k: usize, len: usize, map: u16)
-    requires { ⌜ (n ≤ 16) × (1 ≤ k) × (k ≤ 16) × (len ≤ 640) ⌝ }
+    requires { ⌜ (n ≤ 16) × (1 ≤ k) × (k ≤ 16) × (len ≤ 4100) ⌝ }
 {
-    let mut page = [0u8; 640];
-    data::page(&mut page);
     let mut room = [0u8; 640];
     let mut out = [0u8; 640];
     rejoin(
         n,
         k,
-        40,
+        len,
         map,
-        &page[0..len],
         &mut room[0..n * 40],
         &mut out[0..k * 40 - 4],
     );
@@ -104,7 +108,7 @@ fn each(n: usize, k: usize, maps: &[u16])
     }
 }
 
-pub fn maps() {
+pub fn enough() {
     each(7, 4, &[0x0F, 0x78, 0x55, 0x36, 0x6B, 0x7F, 0x47]);
     each(
         16,
@@ -113,45 +117,76 @@ pub fn maps() {
     );
     each(16, 16, &[0xFFFF]);
     each(1, 1, &[0x0001]);
-    // too few, and nodes that are not there
+}
+
+// Too few nodes, or one that is not there.
+pub fn not_enough() {
     each(7, 4, &[0x07, 0x80, 0x8F, 0xFF0F]);
     each(16, 8, &[0x8000, 0x7F00]);
     each(16, 16, &[0x7FFF, 0xFFFE]);
     each(1, 1, &[0x0000, 0x8000]);
 }
 
-// Every length, from the k highest nodes.
-fn code(n: usize, k: usize, map: u16)
-    requires { ⌜ (n ≤ 16) × (1 ≤ k) × (k ≤ 16) ⌝ }
+fn ones(i: usize) -> u32
+    requires { ⌜ i ≤ 16 ⌝ }
+{
+    65535u32 >> (16 - i)
+}
+
+// The k highest of n nodes.
+fn highest(n: usize, k: usize) -> u16
+    requires { ⌜ (n ≤ 16) × (k ≤ n) ⌝ }
+{
+    ((ones(n) ^ ones(n - k)) % 65536) as u16
+}
+
+fn code(n: usize, k: usize)
+    requires { ⌜ (n ≤ 16) × (1 ≤ k) × (k ≤ n) ⌝ }
 {
     let mut i = 0;
     while i < 14 {
-        of_map(n, k, length(k, i), map);
+        of_map(n, k, length(k, i), highest(n, k));
         i += 1;
     }
 }
 
+// Pages of every length.
 pub fn codes() {
-    code(1, 1, 0x0001);
-    code(3, 1, 0x0004);
-    code(3, 2, 0x0006);
-    code(4, 2, 0x000C);
-    code(5, 3, 0x001C);
-    code(7, 4, 0x0078);
-    code(16, 8, 0xFF00);
-    code(16, 16, 0xFFFF);
+    code(1, 1);
+    code(3, 1);
+    code(3, 2);
+    code(4, 2);
+    code(5, 3);
+    code(7, 4);
+    code(16, 8);
+    code(16, 16);
+}
+
+fn if_proper(n: usize, k: usize)
+    requires { ⌜ (n ≤ 16) × (1 ≤ k) ⌝ }
+{
+    if k <= n {
+        of_map(n, k, 29, highest(n, k));
+    }
+}
+
+// Every n and k.
+pub fn every_code() {
+    let mut i = 0;
+    while i < 256 {
+        if_proper(i / 16 + 1, i % 16 + 1);
+        i += 1;
+    }
 }
 
 // One byte of the room is changed.
 fn flip(n: usize, k: usize, f: usize, len: usize, map: u16, at: usize)
-    requires { ⌜ (len ≤ 20) × (at < 20) ⌝ }
+    requires { ⌜ (len ≤ 4100) × (at < 20) ⌝ }
 {
-    let mut page = [0u8; 20];
-    data::page(&mut page);
     let mut room = [0u8; 20];
-    let a = split(n, k, f, &page[0..len], &mut room);
+    let size = pieces(n, k, f, len, &mut room);
     room[at] = room[at] ^ 0x5A;
-    let lens = [(piece_length(a) % 65536) as u16; 16];
+    let lens = [(size % 65536) as u16; 16];
     let mut out = [0u8; 20];
     show(n, k, f, map, &room, &lens, &mut out);
 }

@@ -21,7 +21,7 @@ fn joined(k: usize, map: u16, page: &[u8], room: &[u8]) {
     }
 }
 
-fn eight(page: &[u8], room: &mut [u8]) {
+fn three_maps(page: &[u8], room: &mut [u8]) {
     splits::show(16, 8, 4096, page, room);
     joined(8, 0xFF00, page, room);
     joined(8, 0xFFFF, page, room);
@@ -29,15 +29,26 @@ fn eight(page: &[u8], room: &mut [u8]) {
     joined(8, 0xB5A6, page, room);
 }
 
-fn sixteen(page: &[u8], room: &mut [u8]) {
+fn eight() {
+    let mut page = [0u8; 32764];
+    data::page(&mut page);
+    let mut room = [0u8; 65536];
+    three_maps(&page, &mut room);
+}
+
+fn one_map(page: &[u8], room: &mut [u8]) {
     splits::show(16, 16, 4096, page, room);
     joined(16, 0xFFFF, page, room);
 }
 
-pub fn all() {
+fn sixteen() {
     let mut page = [0u8; 65532];
     data::page(&mut page);
     let mut room = [0u8; 65536];
-    eight(&page[0..32764], &mut room);
-    sixteen(&page, &mut room);
+    one_map(&page, &mut room);
+}
+
+pub fn all() {
+    eight();
+    sixteen();
 }

@@ -1,7 +1,6 @@
-// Measures within and out of bounds. For each n and F a line: for each k the numbers of six calls' refusals, 0 where there is
-// none, and a checksum over what the calls were lent.
+// Measures within and out of bounds. A line is for an n and an F, and has for each k the digits of six calls.
 use crate::digits::join_digit;
-use crate::digits::split_digit;
+use crate::digits::split_of;
 use crate::print;
 ghost use Prim.Native.Nat.{_<_, _≤_};
 
@@ -44,14 +43,6 @@ fn width(i: usize) -> usize
     requires { ⌜ i < 11 ⌝ }
 {
     WIDTHS[i]
-}
-
-fn split_of(n: usize, k: usize, f: usize, len: usize, size: usize, h: usize) -> usize
-    requires { ⌜ (len ≤ 200) × (size ≤ 128) ⌝ }
-{
-    let page = [0u8; 200];
-    let mut room = [0u8; 128];
-    split_digit(n, k, f, &page[0..len], &mut room[0..size], h)
 }
 
 fn join_of(n: usize, k: usize, f: usize, map: u16, count: usize, size: usize, h: usize) -> usize

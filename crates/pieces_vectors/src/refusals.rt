@@ -1,9 +1,8 @@
 // Refusals, a digit each: slices as short as they may be and one shorter, and every order of the causes of a join's refusal.
-use crate::data;
 use crate::digits::join_digit;
-use crate::digits::split_digit;
+use crate::digits::split_of;
+use crate::joins::pieces;
 use crate::print;
-use coding::split::split;
 ghost use Prim.Native.Nat.{_<_, _≤_};
 
 // One less, if `yes` is 1 and there is one.
@@ -11,15 +10,6 @@ fn less(x: usize, yes: usize) -> usize
     ensures { λ r. ⌜ r ≤ x ⌝ }
 {
     if yes <= x { x - yes } else { x }
-}
-
-fn split_of(n: usize, k: usize, f: usize, len: usize, size: usize, h: usize) -> usize
-    requires { ⌜ (len ≤ 4100) × (size ≤ 4100) ⌝ }
-{
-    let mut page = [0u8; 4100];
-    data::page(&mut page);
-    let mut room = [0u8; 4100];
-    split_digit(n, k, f, &page[0..len], &mut room[0..size], h)
 }
 
 // The fullest page and one byte more, in a room of `size` bytes and in one byte less.
@@ -34,15 +24,6 @@ fn splits_of(n: usize, k: usize, f: usize, full: usize, size: usize) -> usize
         i += 1;
     }
     h
-}
-
-fn pieces(n: usize, k: usize, f: usize, len: usize, room: &mut [u8])
-    requires { ⌜ len ≤ 4100 ⌝ }
-{
-    let mut page = [0u8; 4100];
-    data::page(&mut page);
-    data::poison(room);
-    split(n, k, f, &page[0..len], room);
 }
 
 // A page of `len` bytes is split, and its pieces are joined again.
@@ -110,7 +91,7 @@ fn joins_of(
     h
 }
 
-// The slices of all pieces of the fullest page: n areas of f bytes are `size` bytes.
+// The fullest page: the room needs `size` bytes, which is nF, and the output needs `full`, which is kF - 4.
 fn fit(n: usize, k: usize, f: usize, map: u16, size: usize, full: usize)
     requires { ⌜ (n ≤ 16) × (size ≤ 4100) × (full < 4100) ⌝ }
 {
@@ -145,7 +126,7 @@ fn lengths(i: usize) -> [u16; 16]
     lens
 }
 
-// 3 of 4 nodes: every wrong length, with every slice too short.
+// 3 of 4 nodes: every wrong length with every choice of slices too short.
 fn order(map: u16) {
     print::word(b"order");
     print::map(map);

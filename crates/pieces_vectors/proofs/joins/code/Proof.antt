@@ -5,16 +5,19 @@ use Rattle.pieces_vectors.proofs.joins.code.Statement.{statement}
 use Rattle.pieces_vectors.proofs.joins.code.Tie as tie
 
 abbrev Inv-loop : tie.InvT-loop
-Inv-loop n k map i₀ i = i ≤ 14
+Inv-loop n k i₀ i = i ≤ 14
 
 abbrev μ-loop : tie.MeasureT-loop
-μ-loop n k map i₀ i = 14 - i
+μ-loop n k i₀ i = 14 - i
 
 loop-holds : tie.Need-loop-holds Inv-loop μ-loop
 loop-holds c = search needs
 
 length-requires : tie.Need-length-requires Inv-loop μ-loop
 length-requires c κs = search needs
+
+highest-requires : tie.Need-highest-requires Inv-loop μ-loop
+highest-requires c κs = search needs
 
 of-map-requires : tie.Need-of-map-requires Inv-loop μ-loop
 of-map-requires c κs = search needs
@@ -39,6 +42,7 @@ code-spec =
     μ-loop
     loop-holds
     length-requires
+    highest-requires
     of-map-requires
     add-i
     loop-less

@@ -1,0 +1,2 @@
+pub mod measures;
+pub mod version;
