@@ -3,7 +3,7 @@ use mathlib.Core.Path.{_≡_, refl, sym, ap, _∙_}
 use mathlib.Core.Bool.{Bool, true, false, cond, _&&_, true≢false}
 use mathlib.Core.List.{List, [], _∷_, _++_, append-nil}
 use Prim.Native.Nat.{ℕ, zero, suc, _+_, _-_, _*_, _/_, _%_, _^_, _<_, _≤_}
-use native.Mathlib.Nat.{not-suc-le-zero, div-eq-of-lt, div-lt-iff-lt-mul}
+use native.Mathlib.Nat.{zero-div, not-suc-le-zero, div-eq-of-lt, div-lt-iff-lt-mul}
 use native.Mathlib.Numerals.{add-one}
 use native.Mathlib.Decide.{decLt}
 use native.Mathlib.Omega.{arith}
@@ -36,6 +36,14 @@ nodes-skip map i e = rw (add-one i) (simp e (append-nil (nodesOf map i)))
 pub nodes-more : (map i : ℕ) → eqb (map / 2 ^ i % 2) 1 ≡ true → nodesOf map (i + 1) ≡ nodesOf map i ++ ((i + 1) ∷ [])
 unfolding nodesOf
 nodes-more map i e = rw (add-one i) (simp e refl)
+
+-- the empty map names no node
+pub nodes-none : (n : ℕ) → nodesOf 0 n ≡ []
+unfolding nodesOf
+nodes-none zero = refl
+nodes-none (suc n) =
+    let z : 0 / 2 ^ n % 2 ≡ 0 = ap (λ (x : ℕ). x % 2) (zero-div (2 ^ n)) in
+    rw (nodes-none n) (simp (ne-eqb (0 / 2 ^ n % 2) 1 (λ e. omega arith)))
 
 pub nodes-few : (map i : ℕ) → length (nodesOf map i) ≤ i
 unfolding nodesOf

@@ -6,3 +6,4 @@ pub mod RowLaws
 pub mod NodeTableLaws
 pub mod EdgeCases
 pub mod MessageLaws
+pub mod NodeLaws

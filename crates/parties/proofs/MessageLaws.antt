@@ -3,7 +3,7 @@ use mathlib.Core.Path.{_≡_, refl, sym, ap, _∙_}
 use mathlib.Core.Bool.{Bool, true, false, cond, _&&_}
 use mathlib.Core.List.{List, [], _∷_, _++_, append-nil}
 use mathlib.Core.Option.{Option, some, none}
-use Prim.Native.Nat.{ℕ, zero, suc, _*_, _/_}
+use Prim.Native.Nat.{ℕ, suc, _*_, _/_}
 use native.Mathlib.Nat.{suc-mul}
 use native.Mathlib.Decide.{ℕ-discrete}
 use native.Mathlib.Omega.{arith}
@@ -14,12 +14,12 @@ use Rattle.coding.specs.Bytes.{Bytes}
 use Rattle.coding.proofs.Cases.{and-true}
 use Rattle.parties.specs.declared.measures.Measures.{Measures}
 use Rattle.parties.specs.declared.version.Version.{Version}
-use Rattle.parties.specs.Format.{Reader, Read, given, readMany, writeMany, writeNumber, chain, whole, endWith}
+use Rattle.parties.specs.Format.{Reader, Read, given, readMany, writeMany, chain, whole, endWith}
 use Rattle.parties.specs.Pointer.{readVersion, writeVersion}
 use Rattle.parties.specs.Message.{properVersion, readProper, ToNode, ToClient, readStored, ascendingVersions, readVersions, readAnswer, writeAnswer, answer}
 use Rattle.parties.specs.Message.{readToNode, writeToNode, readToClient, writeToClient}
 use Rattle.parties.proofs.FormatLaws.{Format, format-check, format-many, Each, bytes-rest, some-eq, none≢some}
-use Rattle.parties.proofs.PointerLaws.{GoodVersion, format-version}
+use Rattle.parties.proofs.PointerLaws.{GoodVersion, format-version, length-version}
 
 -- a reader of all bytes and a writer that undo each other on the values that are good
 pub record Message (A : Type 0) (read : List ℕ → Option A) (write : A → List ℕ) (good : A → Type 0) : Type 0 where
@@ -125,15 +125,6 @@ message-answer = record { back = back; only = λ s a b e. only s a b e }
             in other x p a (eqb x 0 && eqb (length p) 0) refl z
 
 -- a version has 5 bytes, so that a list of them tells how many they are
-length-number : (w n : ℕ) → length (writeNumber w n) ≡ w
-unfolding writeNumber
-length-number zero n = refl
-length-number (suc w) n = length-append (writeNumber w (n / 256)) _ ∙ omega (arith, length-number w (n / 256))
-
-length-version : (v : Version) → length (writeVersion v) ≡ 5
-unfolding writeVersion
-length-version v = length-append (writeNumber 4 (v .sequence .0)) (writeNumber 1 (v .client)) ∙ omega (arith, length-number 4 (v .sequence .0), length-number 1 (v .client))
-
 length-versions : (l : List Version) → length (writeMany writeVersion l) ≡ length l * 5
 unfolding writeMany
 length-versions [] = omega arith

@@ -1,8 +1,9 @@
 -- Versions and pointers as bytes: written and read back.
-use mathlib.Core.Path.{_≡_, refl}
+use mathlib.Core.Path.{_≡_, refl, _∙_}
 use mathlib.Core.Bool.{true}
-use Prim.Native.Nat.{_^_, _<_}
-use lib.ListN.{length}
+use Prim.Native.Nat.{ℕ, zero, suc, _/_, _^_, _<_}
+use native.Mathlib.Omega.{arith}
+use lib.ListN.{length, length-append}
 use Rattle.coding.specs.Bytes.{Bytes}
 use Rattle.parties.specs.declared.measures.Measures.{Measures}
 use Rattle.parties.specs.declared.version.Version.{Version}
@@ -44,3 +45,14 @@ format-pointer s =
     (format-then readVersion writeVersion GoodVersion (λ v. readNamed) (λ v. writeNamed) (λ v. GoodNamed)
     (λ v x. record { version = v; named = x }) (λ p. p .version) (λ p. p .named)
     (λ p. refl) (λ v x g h. refl) (λ v x. refl) format-version (λ v. format-named))
+
+-- lengths
+
+pub length-number : (w n : ℕ) → length (writeNumber w n) ≡ w
+unfolding writeNumber
+length-number zero n = refl
+length-number (suc w) n = length-append (writeNumber w (n / 256)) _ ∙ omega (arith, length-number w (n / 256))
+
+pub length-version : (v : Version) → length (writeVersion v) ≡ 5
+unfolding writeVersion
+length-version v = length-append (writeNumber 4 (v .sequence .0)) (writeNumber 1 (v .client)) ∙ omega (arith, length-number 4 (v .sequence .0), length-number 1 (v .client))

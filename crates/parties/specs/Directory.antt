@@ -127,3 +127,13 @@ freshRow s =
 
 abbrev pub freshDirectory : Measures → List Row
 freshDirectory s = replicate (s .m) (freshRow s)
+
+-- an update replaces the fields whose bit stands; map 0 changes nothing
+unfoldable pub merge : List (Option Content) → List (Option Content) → List (Option Content)
+merge [] l = l
+merge (x ∷ u) [] = []
+merge (none ∷ u) (y ∷ l) = y ∷ merge u l
+merge (some c ∷ u) (y ∷ l) = some c ∷ merge u l
+
+unfoldable pub updateRow : List (Option Content) → Row → Row
+updateRow u r = asRow (merge u (rowFields r))

@@ -4,5 +4,6 @@ pub mod Version
 pub mod Pointer
 pub mod Directory
 pub mod NodeTable
+pub mod Node
 pub mod Edges
 pub mod Message
