@@ -15,8 +15,9 @@ use Rattle.coding.proofs.Cases.{and-true}
 use Rattle.parties.specs.declared.measures.Measures.{Measures}
 use Rattle.parties.specs.declared.version.Version.{Version}
 use Rattle.parties.specs.Format.{Reader, Read, given, readMany, writeMany, chain, whole, endWith}
+use Rattle.parties.specs.Version.{ascending}
 use Rattle.parties.specs.Pointer.{readVersion, writeVersion}
-use Rattle.parties.specs.Message.{properVersion, readProper, ToNode, ToClient, readStored, ascendingVersions, readVersions, readAnswer, writeAnswer, answer}
+use Rattle.parties.specs.Message.{properVersion, readProper, ToNode, ToClient, readStored, readVersions, readAnswer, writeAnswer, answer}
 use Rattle.parties.specs.Message.{readToNode, writeToNode, readToClient, writeToClient}
 use Rattle.parties.proofs.FormatLaws.{Format, format-check, format-many, Each, bytes-rest, some-eq, none≢some}
 use Rattle.parties.proofs.PointerLaws.{GoodVersion, format-version, length-version}
@@ -131,7 +132,7 @@ length-versions [] = omega arith
 length-versions (v ∷ l) = length-append (writeVersion v) (writeMany writeVersion l) ∙ omega (arith, length-version v, length-versions l, suc-mul (length l) 5)
 
 abbrev pub GoodVersions : Measures → List Version → Type 0
-GoodVersions s l = Each (GoodNamedVersion s) l × (ascendingVersions l ≡ true)
+GoodVersions s l = Each (GoodNamedVersion s) l × (ascending l ≡ true)
 
 message-versions : (s : Measures) → Message (List Version) (readVersions s) (writeMany writeVersion) (GoodVersions s)
 unfolding readVersions
@@ -139,18 +140,18 @@ message-versions s =
     record {
       back = λ l g.
           let n : length (writeMany writeVersion l) / 5 ≡ length l = ap (λ (x : ℕ). x / 5) (length-versions l) ∙ omega arith in
-          ap (λ (k : ℕ). whole (given ascendingVersions (readMany (readProper s) k)) (writeMany writeVersion l)) n
+          ap (λ (k : ℕ). whole (given ascending (readMany (readProper s) k)) (writeMany writeVersion l)) n
           ∙ counted (length l) .back l ((g .0, refl), g .1);
       only = λ b l bs e.
           let x = counted (length b / 5) .only b l bs e in ((x .0 .0 .0, x .0 .1), x .1);
     }
   where
-    counted : (n : ℕ) → Message (List Version) (whole (given ascendingVersions (readMany (readProper s) n))) (writeMany writeVersion)
-        (λ l. (Each (GoodNamedVersion s) l × (length l ≡ n)) × (ascendingVersions l ≡ true))
+    counted : (n : ℕ) → Message (List Version) (whole (given ascending (readMany (readProper s) n))) (writeMany writeVersion)
+        (λ l. (Each (GoodNamedVersion s) l × (length l ≡ n)) × (ascending l ≡ true))
     counted n =
-        message-whole (given ascendingVersions (readMany (readProper s) n)) (writeMany writeVersion)
-        (λ l. (Each (GoodNamedVersion s) l × (length l ≡ n)) × (ascendingVersions l ≡ true))
-        (format-check (readMany (readProper s) n) (writeMany writeVersion) (λ l. Each (GoodNamedVersion s) l × (length l ≡ n)) ascendingVersions
+        message-whole (given ascending (readMany (readProper s) n)) (writeMany writeVersion)
+        (λ l. (Each (GoodNamedVersion s) l × (length l ≡ n)) × (ascending l ≡ true))
+        (format-check (readMany (readProper s) n) (writeMany writeVersion) (λ l. Each (GoodNamedVersion s) l × (length l ≡ n)) ascending
         (format-many (readProper s) writeVersion (GoodNamedVersion s) (format-proper s) n))
 
 abbrev pub GoodToNode : Measures → ToNode → Type 0

@@ -16,8 +16,8 @@ use Rattle.parties.specs.Measures.{places, placeSize}
 use Rattle.parties.specs.declared.measures.Measures.{Measures}
 use Rattle.coding.proofs.Cases.{and-true}
 use Rattle.parties.specs.declared.version.Version.{Version}
-use Rattle.parties.specs.Version.{below}
-use Rattle.parties.specs.NodeTable.{Held, ascending, writePiece, writeHeld, readTable, writeTable}
+use Rattle.parties.specs.Version.{below, ascending}
+use Rattle.parties.specs.NodeTable.{Held, inOrder, writePiece, writeHeld, readTable, writeTable}
 use Rattle.parties.specs.Node.{keep, handBack, listed, release}
 use Rattle.parties.proofs.FormatLaws.{Each}
 use Rattle.parties.proofs.VersionLaws.{Below, below-true, true-below, below-trans, below-irrefl, neither-below}
@@ -27,16 +27,16 @@ abbrev First : Version → List Held → Type 0
 First v [] = Unit {0}
 First v (x ∷ l) = Below v (x .version)
 
-split-ascending : (x : Held) (l : List Held) → ascending (x ∷ l) ≡ true → First (x .version) l × (ascending l ≡ true)
+split-ascending : (x : Held) (l : List Held) → inOrder (x ∷ l) ≡ true → First (x .version) l × (inOrder l ≡ true)
 unfolding ascending
 split-ascending x [] e = (tt, refl)
 split-ascending x (y ∷ l) e =
-    let a = and-true (below (x .version) (y .version)) (ascending (y ∷ l)) e in (below-true (x .version) (y .version) (a .0), a .1)
+    let a = and-true (below (x .version) (y .version)) (inOrder (y ∷ l)) e in (below-true (x .version) (y .version) (a .0), a .1)
 
-join-ascending : (x : Held) (l : List Held) → First (x .version) l → ascending l ≡ true → ascending (x ∷ l) ≡ true
+join-ascending : (x : Held) (l : List Held) → First (x .version) l → inOrder l ≡ true → inOrder (x ∷ l) ≡ true
 unfolding ascending
 join-ascending x [] f e = refl
-join-ascending x (y ∷ l) f e = ap (λ (b : Bool). b && ascending (y ∷ l)) (true-below (x .version) (y .version) f) ∙ e
+join-ascending x (y ∷ l) f e = ap (λ (b : Bool). b && inOrder (y ∷ l)) (true-below (x .version) (y .version) f) ∙ e
 
 first-less : (v w : Version) (l : List Held) → Below v w → First w l → First v l
 first-less v w [] h f = tt
@@ -81,12 +81,12 @@ keep-first v h (x ∷ l) b f = go (order (h .version) (x .version))
     go (same p q) = rw (keep-same h x l p q) b
 
 -- a table in order stays in order
-pub keep-ascending : (h : Held) (l : List Held) → ascending l ≡ true → ascending (keep h l) ≡ true
+pub keep-ascending : (h : Held) (l : List Held) → inOrder l ≡ true → inOrder (keep h l) ≡ true
 unfolding keep ascending
 keep-ascending h [] e = refl
 keep-ascending h (x ∷ l) e = go (keep-ascending h l) (order (h .version) (x .version))
   where
-    go : (ascending l ≡ true → ascending (keep h l) ≡ true) → Order (h .version) (x .version) → ascending (keep h (x ∷ l)) ≡ true
+    go : (inOrder l ≡ true → inOrder (keep h l) ≡ true) → Order (h .version) (x .version) → inOrder (keep h (x ∷ l)) ≡ true
     go ih (less p) = rw (keep-less h x l p) (join-ascending h (x ∷ l) (below-true (h .version) (x .version) p) e)
     go ih (more p q) =
         let a = split-ascending x l e in
@@ -165,7 +165,7 @@ hand-first v [] f = refl
 hand-first v (x ∷ l) f = hand-less v x l (true-below v (x .version) f)
 
 -- another version's piece is handed back as before
-pub hand-other : (v : Version) (h : Held) (l : List Held) → ascending l ≡ true → (v ≡ h .version → ⊥) → handBack v (keep h l) ≡ handBack v l
+pub hand-other : (v : Version) (h : Held) (l : List Held) → inOrder l ≡ true → (v ≡ h .version → ⊥) → handBack v (keep h l) ≡ handBack v l
 unfolding keep handBack
 hand-other v h [] e d = go (order v (h .version))
   where
@@ -205,7 +205,7 @@ module _ (vs : List Version) (x : Held) (l : List Held) where
   unfolding release
   release-kept p = simp p
 
-release-first : (vs : List Version) (v : Version) (l : List Held) → First v l → ascending l ≡ true → First v (release vs l)
+release-first : (vs : List Version) (v : Version) (l : List Held) → First v l → inOrder l ≡ true → First v (release vs l)
 unfolding release
 release-first vs v [] f e = tt
 release-first vs v (x ∷ l) f e =
@@ -216,14 +216,14 @@ release-first vs v (x ∷ l) f e =
     go ih true p = rw (release-listed vs x l p) ih
     go ih false p = rw (release-kept vs x l p) f
 
-pub release-ascending : (vs : List Version) (l : List Held) → ascending l ≡ true → ascending (release vs l) ≡ true
+pub release-ascending : (vs : List Version) (l : List Held) → inOrder l ≡ true → inOrder (release vs l) ≡ true
 unfolding release ascending
 release-ascending vs [] e = refl
 release-ascending vs (x ∷ l) e =
     let a = split-ascending x l e in go (release-ascending vs l (a .1)) a (listed (x .version) vs) refl
   where
-    go : ascending (release vs l) ≡ true → First (x .version) l × (ascending l ≡ true) → (b : Bool) → listed (x .version) vs ≡ b
-        → ascending (release vs (x ∷ l)) ≡ true
+    go : inOrder (release vs l) ≡ true → First (x .version) l × (inOrder l ≡ true) → (b : Bool) → listed (x .version) vs ≡ b
+        → inOrder (release vs (x ∷ l)) ≡ true
     go ih a true p = rw (release-listed vs x l p) ih
     go ih a false p = rw (release-kept vs x l p) (join-ascending x (release vs l) (release-first vs (x .version) l (a .0) (a .1)) ih)
 
@@ -246,26 +246,26 @@ release-length vs (x ∷ l) = go (release-length vs l) (listed (x .version) vs) 
     go ih false p = rw (release-kept vs x l p) (omega arith)
 
 -- a listed version is gone, every other is as it was
-pub hand-released : (vs : List Version) (v : Version) (l : List Held) → ascending l ≡ true → listed v vs ≡ true → handBack v (release vs l) ≡ none
+pub hand-released : (vs : List Version) (v : Version) (l : List Held) → inOrder l ≡ true → listed v vs ≡ true → handBack v (release vs l) ≡ none
 unfolding release handBack
 hand-released vs v [] e p = refl
 hand-released vs v (x ∷ l) e p =
     let a = split-ascending x l e in go (hand-released vs v l (a .1) p) a (listed (x .version) vs) refl (order v (x .version))
   where
-    go : handBack v (release vs l) ≡ none → First (x .version) l × (ascending l ≡ true) → (b : Bool) → listed (x .version) vs ≡ b → Order v (x .version)
+    go : handBack v (release vs l) ≡ none → First (x .version) l × (inOrder l ≡ true) → (b : Bool) → listed (x .version) vs ≡ b → Order v (x .version)
         → handBack v (release vs (x ∷ l)) ≡ none
     go ih a true q o = rw (release-listed vs x l q) ih
     go ih a false q (less r) = rw (release-kept vs x l q) (hand-less v x (release vs l) r)
     go ih a false q (more r s) = rw (release-kept vs x l q) (hand-more v x (release vs l) r s ∙ ih)
     go ih a false q (same r s) = absurd (true≢false (sym p ∙ ap (λ (w : Version). listed w vs) (neither-below v (x .version) r s) ∙ q))
 
-pub hand-left : (vs : List Version) (v : Version) (l : List Held) → ascending l ≡ true → listed v vs ≡ false → handBack v (release vs l) ≡ handBack v l
+pub hand-left : (vs : List Version) (v : Version) (l : List Held) → inOrder l ≡ true → listed v vs ≡ false → handBack v (release vs l) ≡ handBack v l
 unfolding release handBack
 hand-left vs v [] e p = refl
 hand-left vs v (x ∷ l) e p =
     let a = split-ascending x l e in go (hand-left vs v l (a .1) p) a (listed (x .version) vs) refl (order v (x .version))
   where
-    go : handBack v (release vs l) ≡ handBack v l → First (x .version) l × (ascending l ≡ true) → (b : Bool) → listed (x .version) vs ≡ b
+    go : handBack v (release vs l) ≡ handBack v l → First (x .version) l × (inOrder l ≡ true) → (b : Bool) → listed (x .version) vs ≡ b
         → Order v (x .version) → handBack v (release vs (x ∷ l)) ≡ handBack v (x ∷ l)
     go ih a true q (less r) =
         rw (release-listed vs x l q)
@@ -298,7 +298,7 @@ held-fits s h g =
     )
 
 -- the places of a table, however many
-good-table : (s : Measures) (l : List Held) → Each (FitsPlace s) l → ascending l ≡ true → length l ≤ places s → places s < 256 ^ 2 → GoodTable s l
+good-table : (s : Measures) (l : List Held) → Each (FitsPlace s) l → inOrder l ≡ true → length l ≤ places s → places s < 256 ^ 2 → GoodTable s l
 good-table s l e a n p = ((omega arith, le-leb (length l) (places s) n), (((e, refl), a), tt))
 
 -- a table stays well formed: storing where there is room, dropping always

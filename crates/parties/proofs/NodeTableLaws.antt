@@ -10,7 +10,7 @@ use Rattle.parties.specs.declared.measures.Measures.{Measures}
 use Rattle.parties.specs.Format.{both, given, readNumber, writeNumber, readBytes, readMany, readZeros, readArea, writeArea}
 use Rattle.parties.specs.Measures.{places, placeSize}
 use Rattle.parties.specs.Pointer.{readVersion, writeVersion}
-use Rattle.parties.specs.NodeTable.{Held, properHeld, readPiece, writePiece, readHeld, writeHeld, ascending, readPlaces, writePlaces, readTable, writeTable}
+use Rattle.parties.specs.NodeTable.{Held, properHeld, readPiece, writePiece, readHeld, writeHeld, inOrder, readPlaces, writePlaces, readTable, writeTable}
 use Rattle.parties.proofs.FormatLaws.{Format, format-then, format-check, format-number, format-many, format-bytes, format-zeros, format-area, Each}
 use Rattle.parties.proofs.PointerLaws.{GoodVersion, format-version}
 
@@ -39,12 +39,12 @@ abbrev pub FitsPlace : Measures → Held → Type 0
 FitsPlace s h = (GoodHeld s h × Unit {0}) × (leb (length (writeHeld h)) (placeSize s) ≡ true)
 
 abbrev pub GoodPlaces : Measures → ℕ → List Held → Type 0
-GoodPlaces s n l = (Each (FitsPlace s) l × (length l ≡ n)) × (ascending l ≡ true)
+GoodPlaces s n l = (Each (FitsPlace s) l × (length l ≡ n)) × (inOrder l ≡ true)
 
 format-places : (s : Measures) (n : ℕ) → Format (List Held) (readPlaces s n) (writePlaces s) (GoodPlaces s n)
 unfolding readPlaces writePlaces
 format-places s n =
-    format-check (readMany (readArea (placeSize s) (readHeld s) writeHeld) n) (writePlaces s) (λ l. Each (FitsPlace s) l × (length l ≡ n)) ascending
+    format-check (readMany (readArea (placeSize s) (readHeld s) writeHeld) n) (writePlaces s) (λ l. Each (FitsPlace s) l × (length l ≡ n)) inOrder
     (format-many (readArea (placeSize s) (readHeld s) writeHeld) (writeArea (placeSize s) writeHeld) (FitsPlace s)
     (format-area (placeSize s) (readHeld s) writeHeld (GoodHeld s) (format-held s)) n)
 

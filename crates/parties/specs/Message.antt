@@ -1,6 +1,6 @@
 -- Messages between clients and nodes. Their bytes are free: a tag byte, then the fields; a piece and a list end where the message
 -- ends, so that neither has a length of its own.
-use mathlib.Core.Bool.{Bool, true, cond, _&&_}
+use mathlib.Core.Bool.{Bool, cond, _&&_}
 use mathlib.Core.List.{List, [], _∷_, _++_}
 use mathlib.Core.Option.{Option, some, none}
 use Prim.Native.Nat.{ℕ, _/_}
@@ -9,7 +9,7 @@ use lib.ListN.{length}
 use Rattle.parties.specs.declared.measures.Measures.{Measures}
 use Rattle.parties.specs.declared.version.Version.{Version}
 use Rattle.parties.specs.Format.{Reader, given, readMany, writeMany, chain, whole, endWith}
-use Rattle.parties.specs.Version.{below}
+use Rattle.parties.specs.Version.{ascending}
 use Rattle.parties.specs.Pointer.{readVersion, writeVersion}
 
 -- each version named has sequence at least 1 and client below m
@@ -37,13 +37,8 @@ abbrev pub readStored : Measures → List ℕ → Option (List ℕ)
 readStored s p = cond (leb 1 (length p) && leb (length p) (s .f)) (some p) none
 
 -- a list to drop is strictly ascending and may be empty
-unfoldable pub ascendingVersions : List Version → Bool
-ascendingVersions [] = true
-ascendingVersions (v ∷ []) = true
-ascendingVersions (v ∷ w ∷ l) = below v w && ascendingVersions (w ∷ l)
-
 unfoldable pub readVersions : Measures → List ℕ → Option (List Version)
-readVersions s b = whole (given ascendingVersions (readMany (readProper s) (length b / 5))) b
+readVersions s b = whole (given ascending (readMany (readProper s) (length b / 5))) b
 
 -- a piece of any length after a 1, or "not held" as a 0 alone
 abbrev pub readAnswer : List ℕ → Option (Option (List ℕ))

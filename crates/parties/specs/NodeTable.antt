@@ -1,6 +1,6 @@
 -- A data node's table.
-use mathlib.Core.Bool.{Bool, true, _&&_}
-use mathlib.Core.List.{List, [], _∷_, _++_}
+use mathlib.Core.Bool.{Bool, _&&_}
+use mathlib.Core.List.{List, _++_, map}
 use Prim.Native.Nat.{ℕ, _+_, _-_, _*_}
 use lib.Dec.{leb, ltb}
 use lib.ListN.{length, replicate}
@@ -8,7 +8,7 @@ use Rattle.parties.specs.declared.measures.Measures.{Measures}
 use Rattle.parties.specs.declared.version.Version.{Version}
 use Rattle.parties.specs.Format.{Reader, both, given, readNumber, writeNumber, readBytes, readMany, writeMany, readZeros, readArea, writeArea}
 use Rattle.parties.specs.Measures.{places, placeSize}
-use Rattle.parties.specs.Version.{below}
+use Rattle.parties.specs.Version.{ascending}
 use Rattle.parties.specs.Pointer.{readVersion, writeVersion}
 
 -- a piece that a node holds
@@ -34,14 +34,12 @@ unfoldable pub writeHeld : Held → List ℕ
 writeHeld h = writeVersion (h .version) ++ writePiece (h .piece)
 
 -- strictly ascending by version
-unfoldable pub ascending : List Held → Bool
-ascending [] = true
-ascending (h ∷ []) = true
-ascending (h ∷ i ∷ l) = below (h .version) (i .version) && ascending (i ∷ l)
+abbrev pub inOrder : List Held → Bool
+inOrder l = ascending (map (λ h. h .version) l)
 
 -- the filled places, in areas of 7 + F bytes
 unfoldable pub readPlaces : Measures → ℕ → Reader (List Held)
-readPlaces s n = given ascending (readMany (readArea (placeSize s) (readHeld s) writeHeld) n)
+readPlaces s n = given inOrder (readMany (readArea (placeSize s) (readHeld s) writeHeld) n)
 
 unfoldable pub writePlaces : Measures → List Held → List ℕ
 writePlaces s = writeMany (writeArea (placeSize s) writeHeld)

@@ -1,5 +1,6 @@
 -- Versions, and the two counters.
-use mathlib.Core.Bool.{Bool, cond, _&&_, _||_}
+use mathlib.Core.Bool.{Bool, cond, _&&_, _||_, true}
+use mathlib.Core.List.{List, [], _∷_}
 use Prim.Native.Nat.{_+_}
 use lib.Dec.{ltb, eqb}
 use Rattle.parties.specs.declared.version.Sequence.{Sequence}
@@ -22,3 +23,9 @@ nextSequence s = cond (ltb (s .0) 4294967295) (NextSequence.Drawn (record { 0 = 
 
 abbrev pub nextIndex : ReadingIndex → NextIndex
 nextIndex i = cond (ltb (i .0) 4294967295) (NextIndex.Raised (record { 0 = i .0 + 1 })) NextIndex.Spent
+
+-- strictly ascending
+unfoldable pub ascending : List Version → Bool
+ascending [] = true
+ascending (v ∷ []) = true
+ascending (v ∷ w ∷ l) = below v w && ascending (w ∷ l)
