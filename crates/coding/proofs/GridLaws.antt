@@ -18,7 +18,7 @@ use Rattle.coding.proofs.FieldLaws.{product-one, one-product, product-i
 use Rattle.coding.specs.Bytes.{Bytes}
 use Rattle.coding.proofs.PolynomialLaws.{xor-byte, sum-same, sum-xor, sum-times, sum-zero, sum-one, value-byte}
 use Rattle.coding.proofs.PolynomialLaws.{value-powers-to, length-rootsAt, bytes-rootsAt, bytes-take, rootsAt-zero, rootsAt-nonzero}
-use Rattle.coding.proofs.PolynomialLaws.{interpolate-length, interpolate-bytes, interpolate-value, interpolate-own}
+use Rattle.coding.proofs.PolynomialLaws.{interpolate-length, interpolate-bytes, interpolate-value}
 
 cases : (P : ℕ → Type 0) (r c : ℕ) → P c → ((r ≡ c → ⊥) → P r) → P r
 cases P r c y n = go (ℕ-discrete r c)
@@ -255,14 +255,6 @@ module _ (k : ℕ) (nodes : List ℕ) where
         ap (product (entry m r (16 + s)))
         (rw (getD-take k nodes s 0 h) at
         (interpolate-value (take k nodes) f (bytes-take k nodes (ok .bytes)) (ok .distinct) hf s (omega arith))))
-
-    -- the coefficients back from the values
-    pub inverts-own : (m : List (List ℕ)) → Inverts k nodes m → (p : List ℕ) → length p ≡ k → Bytes p → (r : ℕ) → r < k
-        → getD p r 0 ≡ sum k (λ s. product (entry m r (16 + s)) (value p (getD nodes s 0)))
-    inverts-own m h p n b r l =
-        let n′ : length p ≡ length (take k nodes) = n ∙ sym (length-take-le k nodes (ok .room)) in
-        ap (λ (q : List ℕ). getD q r 0) (sym (interpolate-own (take k nodes) p n′ b (bytes-take k nodes (ok .bytes)) (ok .distinct)))
-        ∙ h (value p) (λ x. value-byte p x b) r l
 
 -- ---- the loops that fill lists and rows
 

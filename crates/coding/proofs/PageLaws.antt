@@ -81,10 +81,10 @@ frame-length : (k : ℕ) (page : List ℕ) → length page < 2 ^ 32 → fromFour
 unfolding frame
 frame-length k page h = four-from (length page) (page ++ replicate (columns k (length page) * k - (4 + length page)) 0) h
 
-none≢some : {page : List ℕ} → none ≡ some page → ⊥
+pub none≢some : {A : Type 0} {a : A} → _≡_ {A = Option A} none (some a) → ⊥
 none≢some e = let z : _≡_ {A = ℕ} 0 1 = cc in omega arith
 
-some-eq : {p q : List ℕ} → _≡_ {A = Option (List ℕ)} (some p) (some q) → p ≡ q
+pub some-eq : {A : Type 0} {a b : A} → _≡_ {A = Option A} (some a) (some b) → a ≡ b
 some-eq e = cc
 
 -- a list that passes the test passes it at each place

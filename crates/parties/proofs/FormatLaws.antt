@@ -13,7 +13,7 @@ use lib.ListN.{length, getD, take, drop, replicate, length-replicate, length-app
 use lib.Seq.{take-at, drop-at, length-take-le, ext-getD}
 use Rattle.coding.specs.Nodes.{all}
 use Rattle.coding.proofs.BytesLaws.{zeros-at}
-use Rattle.coding.proofs.PageLaws.{all-at, all-from}
+use Rattle.coding.proofs.PageLaws.{none≢some, some-eq, all-at, all-from}
 use Rattle.coding.proofs.PolynomialLaws.{bytes-take}
 use Rattle.coding.specs.Bytes.{Bytes}
 use Rattle.parties.specs.Format.{Read, Reader, bind, check, both, given, mapped, readNothing, readByte, readNumber, writeNumber, readMany, writeMany, readBytes, readZeros, readArea, writeArea}
@@ -22,12 +22,6 @@ use Rattle.parties.specs.Format.{Read, Reader, bind, check, both, given,
 pub record Format (A : Type 0) (read : Reader A) (write : A → List ℕ) (good : A → Type 0) : Type 0 where
   pub back : (a : A) → good a → (s : List ℕ) → read (write a ++ s) ≡ some (record { value = a; rest = s })
   pub only : (s : List ℕ) (r : Read A) → Bytes s → read s ≡ some r → (good (r .value)) × (s ≡ write (r .value) ++ r .rest)
-
-pub some-eq : {A : Type 0} {a b : A} → _≡_ {A = Option A} (some a) (some b) → a ≡ b
-some-eq e = cc
-
-pub none≢some : {A : Type 0} {a : A} → _≡_ {A = Option A} none (some a) → ⊥
-none≢some e = let z : _≡_ {A = ℕ} 0 1 = cc in omega arith
 
 -- what stands after some bytes is bytes
 pub bytes-rest : (p s : List ℕ) → Bytes (p ++ s) → Bytes s

@@ -12,6 +12,7 @@ use lib.Dec.{leb, eqb}
 use lib.ListN.{length, length-append}
 use Rattle.coding.specs.Bytes.{Bytes}
 use Rattle.coding.proofs.Cases.{and-true}
+use Rattle.coding.proofs.PageLaws.{none≢some, some-eq}
 use Rattle.parties.specs.declared.measures.Measures.{Measures}
 use Rattle.parties.specs.declared.version.Version.{Version}
 use Rattle.parties.specs.Format.{Reader, Read, given, readMany, writeMany, chain, whole, endWith}
@@ -19,7 +20,7 @@ use Rattle.parties.specs.Version.{ascending}
 use Rattle.parties.specs.Pointer.{readVersion, writeVersion}
 use Rattle.parties.specs.Message.{properVersion, readProper, ToNode, ToClient, readStored, readVersions, readAnswer, writeAnswer, answer}
 use Rattle.parties.specs.Message.{readToNode, writeToNode, readToClient, writeToClient}
-use Rattle.parties.proofs.FormatLaws.{Format, format-check, format-many, Each, bytes-rest, some-eq, none≢some}
+use Rattle.parties.proofs.FormatLaws.{Format, format-check, format-many, Each, bytes-rest}
 use Rattle.parties.proofs.PointerLaws.{GoodVersion, format-version, length-version}
 
 -- a reader of all bytes and a writer that undo each other on the values that are good
