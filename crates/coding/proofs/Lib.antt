@@ -19,3 +19,4 @@ pub mod JoinEndLaws
 pub mod RoundTrip
 pub mod EdgeCases
 pub mod Sha256Laws
+pub mod DigestLaws

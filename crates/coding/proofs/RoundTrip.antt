@@ -4,10 +4,11 @@ use mathlib.Core.Bool.{true}
 use mathlib.Core.List.{List, _++_}
 use Prim.Native.Nat.{ℕ, zero, suc, _+_, _-_, _*_, _^_, _<_, _≤_}
 use native.Mathlib.Nat.{le-refl, zero-add, mul-le-mul-right}
+use native.Mathlib.Decide.{decLt}
 use native.Mathlib.Omega.{arith}
 use borrow.Author.Tests.{eq-eqb}
 use lib.Dec.{eqb}
-use lib.ListN.{length, getD, drop, replicate, length-replicate, length-drop, getD-replicate}
+use lib.ListN.{length, getD, drop, replicate, length-replicate, length-drop, getD-replicate, List·getD-eq-default}
 use lib.Seq.{ext-getD, getD-drop}
 use Rattle.coding.specs.Field.{product, power}
 use Rattle.coding.specs.Bytes.{Bytes}
@@ -34,14 +35,23 @@ unfolding pieceByte
 piece-byte k f i j =
     sum-byte k (λ r. product (getD f (j * k + r) 0) (power i r)) (λ r. product-byte (getD f (j * k + r) 0) (power i r))
 
+pub piece-bytes : (k : ℕ) (page : List ℕ) (i : ℕ) → Bytes (piece k page i)
+piece-bytes k page i j = go (decLt j (columns k (length page)))
+  where
+    go : Dec (j < columns k (length page)) → getD (piece k page i) j 0 < 256
+    go (yes h) = rw (getD-piece k page i j h) (piece-byte k (frame k page) i j)
+    go (no h) =
+        let z : length (piece k page i) ≤ j = omega (arith, length-piece k page i) in rw (List·getD-eq-default (piece k page i) 0 z) (omega arith)
+
 module _ (n k F : ℕ) (page room : List ℕ) (p : proper n k F ≡ true) (fits : n * F ≤ length room) (short : length page ≤ k * F - 4) where
   u : Proper n k F
   u = proper-measures n k F p
 
-  within : columns k (length page) ≤ F
+  pub within : columns k (length page) ≤ F
   within = columns-within k F (length page) (u .parts .0) (u .frame) short
 
-  some-columns : 1 ≤ columns k (length page)
+  -- a piece has at least one byte
+  pub some-columns : 1 ≤ columns k (length page)
   some-columns = go (columns k (length page)) refl
     where
       go : (c : ℕ) → columns k (length page) ≡ c → 1 ≤ c
@@ -52,7 +62,7 @@ module _ (n k F : ℕ) (page room : List ℕ) (p : proper n k F ≡ true) (fits 
   shape = written-columns k F page room n within fits
 
   -- area i has piece i
-  area-piece : (i : ℕ) → 1 ≤ i → i ≤ n → piece k page i ≡ pieceIn F (written k F page room n) (columns k (length page)) i
+  pub area-piece : (i : ℕ) → 1 ≤ i → i ≤ n → piece k page i ≡ pieceIn F (written k F page room n) (columns k (length page)) i
   area-piece i lo hi =
       let e : i - 1 + 1 ≡ i = omega arith in
       let r : length (written k F page room n) ≡ length room = shape .same in

@@ -17,7 +17,7 @@ use Rattle.parties.specs.Pointer.{readPointer, writePointer}
 use Rattle.parties.specs.Directory.{Field, pointers, indices, Content, pointersOf, indicesOf, fields, readIndex, writeIndex, readContent, writeContent}
 use Rattle.parties.specs.Directory.{readFields, writeFields, mapOf, readRecord, writeRecord, pointersIn, indicesIn}
 use Rattle.parties.proofs.FormatLaws.{Format, format-then, format-check, format-as, format-nothing, format-number, format-many, Each}
-use Rattle.parties.proofs.PointerLaws.{GoodPointer, format-pointer}
+use Rattle.parties.proofs.PointerLaws.{GoodPointer, format-pointer, length-number}
 
 abbrev pub GoodIndex : ReadingIndex → Type 0
 GoodIndex i = i .0 < 256 ^ 4
@@ -27,6 +27,10 @@ unfolding readIndex writeIndex
 format-index =
     format-as (readNumber 4) (writeNumber 4) (λ n. n < 256 ^ 4) (λ n. record { 0 = n }) (λ i. i .0) writeIndex GoodIndex
     (λ n h. (h, refl)) (λ i h. (h, refl, refl)) (format-number 4)
+
+pub length-index : (i : ReadingIndex) → length (writeIndex i) ≡ 4
+unfolding writeIndex
+length-index i = length-number 4 (i .0)
 
 -- what may stand in a field
 abbrev pub GoodContent : Measures → Field → Content → Type 0

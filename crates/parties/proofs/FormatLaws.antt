@@ -1,10 +1,10 @@
 -- Laws of formats: what is written reads back the same, and what reads is exactly what was written.
-use mathlib.Core.Path.{_≡_, refl, sym, ap, ap₂, _∙_}
+use mathlib.Core.Path.{_≡_, refl, sym, ap, ap₂, subst, _∙_}
 use mathlib.Core.Bool.{Bool, true, false, cond}
 use mathlib.Core.List.{List, [], _∷_, _++_, append-assoc}
 use mathlib.Core.Option.{Option, some, none}
 use Prim.Native.Nat.{ℕ, zero, suc, _+_, _-_, _*_, _/_, _%_, _^_, _<_, _≤_}
-use native.Mathlib.Nat.{div-lt-iff-lt-mul, div-add-mod', pow-suc}
+use native.Mathlib.Nat.{div-lt-iff-lt-mul, div-add-mod', pow-suc, suc-mul}
 use native.Mathlib.Omega.{arith}
 use borrow.Author.Tests.{le-leb, lt-leb, eq-eqb, eqb-true}
 use native.Mathlib.Decide.{decLe}
@@ -16,7 +16,7 @@ use Rattle.coding.proofs.BytesLaws.{zeros-at}
 use Rattle.coding.proofs.PageLaws.{none≢some, some-eq, all-at, all-from}
 use Rattle.coding.proofs.PolynomialLaws.{bytes-take}
 use Rattle.coding.specs.Bytes.{Bytes}
-use Rattle.parties.specs.Format.{Read, Reader, bind, check, both, given, mapped, readNothing, readByte, readNumber, writeNumber, readMany, writeMany, readBytes, readZeros, readArea, writeArea}
+use Rattle.parties.specs.Format.{Read, Reader, bind, check, both, given, mapped, readNothing, readByte, readNumber, writeNumber, readMany, writeMany, readEach, readBytes, readZeros, readArea, writeArea}
 
 -- a reader and a writer that undo each other on the values that are good
 pub record Format (A : Type 0) (read : Reader A) (write : A → List ℕ) (good : A → Type 0) : Type 0 where
@@ -91,7 +91,26 @@ module _ {A : Type 0} (ra : Reader A) (wa : A → List ℕ) (ga : A → Type 0) 
       read s r b none p e = absurd (none≢some e)
       read s r b (some a) p e = passed s r a b p (test (a .value)) refl e
 
--- values of another type, where g takes a good one back
+-- values of another type
+module _ {A B : Type 0} (ra : Reader A) (wa : A → List ℕ) (ga : A → Type 0) (f : A → B) (wb : B → List ℕ) (gb : B → Type 0)
+    (there : (a : A) → ga a → gb (f a) × (wb (f a) ≡ wa a)) (fa : Format A ra wa ga) where
+  pub as-back : (a : A) → ga a → (s : List ℕ) → mapped f ra (wb (f a) ++ s) ≡ some (record { value = f a; rest = s })
+  as-back a h s =
+      ap (λ (t : List ℕ). mapped f ra (t ++ s)) (there a h .1)
+      ∙ ap (λ (r : Option (Read A)). bind r (λ a t. some (record { value = f a; rest = t }))) (fa .back a h s)
+
+  pub as-only : (s : List ℕ) (r : Read B) → Bytes s → mapped f ra s ≡ some r → gb (r .value) × (s ≡ wb (r .value) ++ r .rest)
+  as-only s r b e = go (ra s) refl e
+    where
+      go : (a : Option (Read A)) → ra s ≡ a → bind a (λ a t. some (record { value = f a; rest = t })) ≡ some r
+          → gb (r .value) × (s ≡ wb (r .value) ++ r .rest)
+      go none p e = absurd (none≢some e)
+      go (some a) p e =
+          let x = fa .only s a b p in
+          let y = there (a .value) (x .0) in
+          rw (← some-eq e) (y .0, x .1 ∙ ap (λ (t : List ℕ). t ++ a .rest) (sym (y .1)))
+
+-- and g takes a good one back
 module _ {A B : Type 0} (ra : Reader A) (wa : A → List ℕ) (ga : A → Type 0) (f : A → B) (g : B → A) (wb : B → List ℕ) (gb : B → Type 0)
     (there : (a : A) → ga a → gb (f a) × (wb (f a) ≡ wa a)) (back : (b : B) → gb b → ga (g b) × (f (g b) ≡ b) × (wb b ≡ wa (g b)))
     (fa : Format A ra wa ga) where
@@ -100,19 +119,10 @@ module _ {A B : Type 0} (ra : Reader A) (wa : A → List ℕ) (ga : A → Type 0
       record {
         back = λ b h s.
             let x = back b h in
-            ap (λ (t : List ℕ). mapped f ra (t ++ s)) (x .2)
-            ∙ ap (λ (r : Option (Read A)). bind r (λ a t. some (record { value = f a; rest = t }))) (fa .back (g b) (x .0) s)
-            ∙ ap (λ (y : B). some (record { value = y; rest = s })) (x .1);
-        only = λ s r b e. go s r b (ra s) refl e;
+            subst (λ (y : B). mapped f ra (wb y ++ s) ≡ some (record { value = y; rest = s })) (x .1)
+            (as-back ra wa ga f wb gb there fa (g b) (x .0) s);
+        only = as-only ra wa ga f wb gb there fa;
       }
-    where
-      go : (s : List ℕ) (r : Read B) → Bytes s → (a : Option (Read A)) → ra s ≡ a → bind a (λ a t. some (record { value = f a; rest = t })) ≡ some r
-          → gb (r .value) × (s ≡ wb (r .value) ++ r .rest)
-      go s r b none p e = absurd (none≢some e)
-      go s r b (some a) p e =
-          let x = fa .only s a b p in
-          let y = there (a .value) (x .0) in
-          rw (← some-eq e) (y .0, x .1 ∙ ap (λ (t : List ℕ). t ++ a .rest) (sym (y .1)))
 
 pub format-nothing : Format (Unit {0}) readNothing (λ u. []) (λ u. Unit {0})
 format-nothing = record { back = λ u g s. refl; only = λ s r b e. rw (← some-eq e) (tt, refl) }
@@ -210,6 +220,56 @@ module _ {A : Type 0} (ra : Reader A) (wa : A → List ℕ) (ga : A → Type 0) 
         only = many-only n;
       }
 
+-- one value for each number of a list
+abbrev pub EachOf : {A : Type 0} → (ℕ → A → Type 0) → List ℕ → List A → Type 0
+EachOf g [] [] = Unit {0}
+EachOf g [] (a ∷ l) = ⊥
+EachOf g (x ∷ xs) [] = ⊥
+EachOf g (x ∷ xs) (a ∷ l) = g x a × EachOf g xs l
+
+module _ {A : Type 0} (ra : ℕ → Reader A) (wa : A → List ℕ) (ga : ℕ → A → Type 0) (fa : (x : ℕ) → Format A (ra x) wa (ga x)) where
+  each-back : (xs : List ℕ) (l : List A) → EachOf ga xs l → (s : List ℕ) → readEach ra xs (writeMany wa l ++ s) ≡ some (record { value = l; rest = s })
+  unfolding readEach writeMany
+  each-back [] [] g s = refl
+  each-back [] (a ∷ l) g s = absurd g
+  each-back (x ∷ xs) [] g s = absurd g
+  each-back (x ∷ xs) (a ∷ l) g s =
+      ap (λ (t : List ℕ). bind (ra x t) (λ a t. bind (readEach ra xs t) (λ l u. some (record { value = a ∷ l; rest = u }))))
+      (append-assoc (wa a) (writeMany wa l) s)
+      ∙ ap (λ (r : Option (Read A)). bind r (λ a t. bind (readEach ra xs t) (λ l u. some (record { value = a ∷ l; rest = u }))))
+      (fa x .back a (g .0) (writeMany wa l ++ s))
+      ∙ ap (λ (r : Option (Read (List A))). bind r (λ l u. some (record { value = a ∷ l; rest = u }))) (each-back xs l (g .1) s)
+
+  each-only : (xs : List ℕ) (s : List ℕ) (r : Read (List A)) → Bytes s → readEach ra xs s ≡ some r
+      → EachOf ga xs (r .value) × (s ≡ writeMany wa (r .value) ++ r .rest)
+  unfolding readEach writeMany
+  each-only [] s r b e = rw (← some-eq e) (tt, refl)
+  each-only (x ∷ xs) s r b e = go (each-only xs) (ra x s) refl e
+    where
+      tail : (a : Read A) → (ga x (a .value)) × (s ≡ wa (a .value) ++ a .rest) → (l : Option (Read (List A)))
+          → ((t : Read (List A)) → l ≡ some t → EachOf ga xs (t .value) × (a .rest ≡ writeMany wa (t .value) ++ t .rest))
+          → bind l (λ l u. some (record { value = a .value ∷ l; rest = u })) ≡ some r
+          → EachOf ga (x ∷ xs) (r .value) × (s ≡ writeMany wa (r .value) ++ r .rest)
+      tail a h none ih e = absurd (none≢some e)
+      tail a h (some t) ih e =
+          let y = ih t refl in
+          rw (← some-eq e) (
+            (h .0, y .0),
+            h .1 ∙ ap (λ (u : List ℕ). wa (a .value) ++ u) (y .1) ∙ sym (append-assoc (wa (a .value)) (writeMany wa (t .value)) (t .rest)),
+          )
+
+      go : ((s : List ℕ) (r : Read (List A)) → Bytes s → readEach ra xs s ≡ some r → EachOf ga xs (r .value) × (s ≡ writeMany wa (r .value) ++ r .rest))
+          → (a : Option (Read A)) → ra x s ≡ a
+          → bind a (λ a t. bind (readEach ra xs t) (λ l u. some (record { value = a ∷ l; rest = u }))) ≡ some r
+          → EachOf ga (x ∷ xs) (r .value) × (s ≡ writeMany wa (r .value) ++ r .rest)
+      go ih none p e = absurd (none≢some e)
+      go ih (some a) p e =
+          let h = fa x .only s a b p in
+          tail a h (readEach ra xs (a .rest)) (λ t q. ih (a .rest) t (bytes-rest (wa (a .value)) (a .rest) (rw (h .1) at b)) q) e
+
+  pub format-each : (xs : List ℕ) → Format (List A) (readEach ra xs) (writeMany wa) (EachOf ga xs)
+  format-each xs = record { back = each-back xs; only = each-only xs }
+
 -- bytes as they are
 pub format-bytes : (n : ℕ) → Format (List ℕ) (readBytes n) (λ l. l) (λ l. Bytes l × (length l ≡ n))
 unfolding readBytes
@@ -260,3 +320,17 @@ module _ {A : Type 0} (n : ℕ) (ra : Reader A) (wa : A → List ℕ) (ga : A �
       format-check (both ra (λ a. readZeros (n - length (wa a))) (λ a z. a)) (writeArea n wa) (λ a. ga a × Unit {0}) (λ a. leb (length (wa a)) n)
       (format-then ra wa ga (λ a. readZeros (n - length (wa a))) (λ a u. replicate (n - length (wa a)) 0) (λ a u. Unit {0})
       (λ a z. a) (λ a. a) (λ a. tt) (λ a. refl) (λ a z g h. refl) (λ a z. refl) fa (λ a. format-zeros (n - length (wa a))))
+
+-- lengths
+
+pub length-area : {A : Type 0} (n : ℕ) (w : A → List ℕ) (a : A) → length (w a) ≤ n → length (writeArea n w a) ≡ n
+unfolding writeArea
+length-area n w a h = length-append (w a) (replicate (n - length (w a)) 0) ∙ omega (arith, length-replicate {A = ℕ} (n - length (w a)) 0)
+
+-- values of one length
+pub length-same : {A : Type 0} (w : A → List ℕ) (g : A → Type 0) (k : ℕ) → ((a : A) → g a → length (w a) ≡ k) → (l : List A) → Each g l
+    → length (writeMany w l) ≡ length l * k
+unfolding writeMany
+length-same w g k h [] e = omega arith
+length-same w g k h (a ∷ l) e =
+    length-append (w a) (writeMany w l) ∙ omega (arith, h a (e .0), length-same w g k h l (e .1), suc-mul (length l) k)

@@ -27,7 +27,7 @@ abbrev First : Version → List Held → Type 0
 First v [] = Unit {0}
 First v (x ∷ l) = Below v (x .version)
 
-split-ascending : (x : Held) (l : List Held) → inOrder (x ∷ l) ≡ true → First (x .version) l × (inOrder l ≡ true)
+pub split-ascending : (x : Held) (l : List Held) → inOrder (x ∷ l) ≡ true → First (x .version) l × (inOrder l ≡ true)
 unfolding ascending
 split-ascending x [] e = (tt, refl)
 split-ascending x (y ∷ l) e =
@@ -122,22 +122,22 @@ module _ (v : Version) (x : Held) (l : List Held) where
   unfolding handBack
   hand-less p = simp p
 
-  hand-more : below v (x .version) ≡ false → below (x .version) v ≡ true → handBack v (x ∷ l) ≡ handBack v l
+  pub hand-more : below v (x .version) ≡ false → below (x .version) v ≡ true → handBack v (x ∷ l) ≡ handBack v l
   unfolding handBack
   hand-more p q = simp (p, q)
 
-  hand-same : below v (x .version) ≡ false → below (x .version) v ≡ false → handBack v (x ∷ l) ≡ some (x .piece)
+  pub hand-same : below v (x .version) ≡ false → below (x .version) v ≡ false → handBack v (x ∷ l) ≡ some (x .piece)
   unfolding handBack
   hand-same p q = simp (p, q)
 
-not-below-self : (v : Version) → below v v ≡ false
+pub not-below-self : (v : Version) → below v v ≡ false
 not-below-self v = go (below v v) refl
   where
     go : (b : Bool) → below v v ≡ b → b ≡ false
     go true e = absurd (below-irrefl v (below-true v v e))
     go false e = refl
 
-not-below-back : (a b : Version) → below a b ≡ true → below b a ≡ false
+pub not-below-back : (a b : Version) → below a b ≡ true → below b a ≡ false
 not-below-back a b e = go (below b a) refl
   where
     go : (c : Bool) → below b a ≡ c → c ≡ false

@@ -1,18 +1,21 @@
 -- A node table as bytes: written and read back.
-use mathlib.Core.Path.{_≡_, refl}
+use mathlib.Core.Path.{_≡_, refl, ap, _∙_}
 use mathlib.Core.Bool.{true}
 use mathlib.Core.List.{List, _++_}
-use Prim.Native.Nat.{ℕ, _-_, _*_, _^_, _<_}
+use Prim.Native.Nat.{ℕ, _+_, _-_, _*_, _^_, _<_, _≤_}
+use native.Mathlib.Nat.{add-mul}
+use native.Mathlib.Omega.{arith}
+use borrow.Author.Tests.{leb-true}
 use lib.Dec.{leb}
-use lib.ListN.{length, replicate}
+use lib.ListN.{length, replicate, length-append, length-replicate}
 use Rattle.coding.specs.Bytes.{Bytes}
 use Rattle.parties.specs.declared.measures.Measures.{Measures}
-use Rattle.parties.specs.Format.{both, given, readNumber, writeNumber, readBytes, readMany, readZeros, readArea, writeArea}
+use Rattle.parties.specs.Format.{both, given, readNumber, writeNumber, readBytes, readMany, writeMany, readZeros, readArea, writeArea}
 use Rattle.parties.specs.Measures.{places, placeSize}
 use Rattle.parties.specs.Pointer.{readVersion, writeVersion}
 use Rattle.parties.specs.NodeTable.{Held, properHeld, readPiece, writePiece, readHeld, writeHeld, inOrder, readPlaces, writePlaces, readTable, writeTable}
-use Rattle.parties.proofs.FormatLaws.{Format, format-then, format-check, format-number, format-many, format-bytes, format-zeros, format-area, Each}
-use Rattle.parties.proofs.PointerLaws.{GoodVersion, format-version}
+use Rattle.parties.proofs.FormatLaws.{Format, format-then, format-check, format-number, format-many, format-bytes, format-zeros, format-area, Each, length-area, length-same}
+use Rattle.parties.proofs.PointerLaws.{GoodVersion, format-version, length-number}
 
 abbrev pub GoodPiece : List ℕ → Type 0
 GoodPiece p = (length p < 256 ^ 2) × (Bytes p × (length p ≡ length p))
@@ -66,3 +69,20 @@ format-table s =
     (λ l u. replicate ((places s - n) * placeSize s) 0) (λ l u. Unit {0})
     (λ l z. l) (λ l. l) (λ l. tt) (λ l. refl) (λ l z g h. refl) (λ l z. refl) (format-places s n)
     (λ l. format-zeros ((places s - n) * placeSize s)))
+
+-- a node table's bytes are as many as its places tell
+pub length-table : (s : Measures) (l : List Held) → GoodTable s l → length (writeTable s l) ≡ 2 + places s * placeSize s
+unfolding writeTable writePlaces
+length-table s l g =
+    let z = placeSize s in
+    let w = writeMany (writeArea z writeHeld) l in
+    let n : length l ≤ places s = leb-true (length l) (places s) (g .0 .1) in
+    let e : places s * z ≡ length l * z + (places s - length l) * z = ap (λ (x : ℕ). x * z) (omega arith) ∙ add-mul (length l) (places s - length l) z in
+    omega (
+      arith,
+      length-append (writeNumber 2 (length l)) (w ++ replicate ((places s - length l) * z) 0),
+      length-number 2 (length l),
+      length-append w (replicate ((places s - length l) * z) 0),
+      length-same (writeArea z writeHeld) (FitsPlace s) z (λ h f. length-area z writeHeld h (leb-true (length (writeHeld h)) z (f .1))) l (g .1 .0 .0 .0),
+      length-replicate {A = ℕ} ((places s - length l) * z) 0,
+    )

@@ -8,7 +8,8 @@ use Rattle.coding.specs.Bytes.{Bytes}
 use Rattle.parties.specs.declared.measures.Measures.{Measures}
 use Rattle.parties.specs.declared.version.Version.{Version}
 use Rattle.parties.specs.Format.{readNumber, writeNumber, readMany, writeMany, readBytes}
-use Rattle.parties.specs.Pointer.{readVersion, writeVersion, Named, Pointer, nodesIn, properPointer, readNamed, writeNamed, readPointer, writePointer}
+use Rattle.parties.specs.Nodes.{nodesIn}
+use Rattle.parties.specs.Pointer.{readVersion, writeVersion, Named, Pointer, properPointer, readNamed, writeNamed, readPointer, writePointer}
 use Rattle.parties.proofs.FormatLaws.{Format, format-then, format-check, format-number, format-many, format-bytes, Each}
 
 -- a sequence fits 4 bytes, a client 1

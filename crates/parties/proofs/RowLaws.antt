@@ -6,7 +6,7 @@ use mathlib.Core.Option.{Option, some, none}
 use Prim.Native.Nat.{ℕ, _+_, _*_, _^_, _≤_, _/_, zero, suc}
 use native.Mathlib.Nat.{suc-mul, pow-suc}
 use native.Mathlib.Omega.{arith}
-use borrow.Author.Tests.{eqb-true, lt-ltb, eq-eqb, le-leb}
+use borrow.Author.Tests.{eqb-true, lt-ltb, eq-eqb, le-leb, leb-true}
 use lib.Dec.{leb, ltb, eqb}
 use lib.ListN.{length, getD, length-append, replicate, length-replicate}
 use Rattle.coding.proofs.BytesLaws.{stride}
@@ -17,12 +17,13 @@ use Rattle.coding.proofs.NodesLaws.{nodes-none}
 use Rattle.parties.specs.declared.measures.Measures.{Measures}
 use Rattle.parties.specs.Format.{given, mapped, writeNumber, writeArea, writeMany}
 use Rattle.parties.specs.Measures.{pointerSize, rowSize}
-use Rattle.parties.specs.Pointer.{nonePointer, Pointer, nodesIn, isNone, properPointer, writeVersion, writeNamed, writePointer}
+use Rattle.parties.specs.Nodes.{nodesIn}
+use Rattle.parties.specs.Pointer.{nonePointer, Pointer, isNone, properPointer, writeVersion, writeNamed, writePointer}
 use Rattle.parties.specs.Directory.{pointers, indices, Content, pointersOf, indicesOf, fields, mapOf, readRecord, writeRecord, Row, rowFields, Field, writeIndex, writeFields, writeContent, merge, updateRow, freshRow, freshDirectory}
 use Rattle.parties.specs.Directory.{pointersIn, indicesIn, asRow, writeRow, readRow, readDirectory, writeDirectory}
-use Rattle.parties.proofs.FormatLaws.{Format, format-check, format-as, format-many, format-area, Each}
+use Rattle.parties.proofs.FormatLaws.{Format, format-check, format-as, format-many, format-area, Each, length-area, length-same}
 use Rattle.parties.proofs.PointerLaws.{GoodPointer, length-number, length-version}
-use Rattle.parties.proofs.DirectoryLaws.{GoodContent, GoodFields, GoodRecord, format-record, GoodIndex}
+use Rattle.parties.proofs.DirectoryLaws.{GoodContent, GoodFields, GoodRecord, format-record, GoodIndex, length-index}
 
 -- a field of one pointer or index has one
 one-pointer : (s : Measures) (c : Content) → GoodContent s (pointers 1) c → pointersOf (getD (pointersIn (some c)) 0 nonePointer ∷ []) ≡ c
@@ -133,8 +134,7 @@ pointer-fits s p g =
         omega (arith, eqb-true (length (nodesIn (p .named .nodes))) (s .t + s .k) (d .0))
 
 index-fits : (i : ReadingIndex) → GoodIndex i → length (writeIndex i) ≤ 4
-unfolding writeIndex
-index-fits i h = omega (arith, length-number 4 (i .0))
+index-fits i h = omega (arith, length-index i)
 
 -- a row has at most its size
 pub row-fits : (s : Measures) (r : Row) → GoodRow s r → length (writeRow r) ≤ rowSize s
@@ -165,6 +165,14 @@ row-fits s r g =
       length-append d [],
       i .1,
     )
+
+-- a directory table has m rows of that size
+pub length-directory : (s : Measures) (rows : List Row) → Each (FitsRow s) rows → length rows ≡ s .m → length (writeDirectory s rows) ≡ s .m * rowSize s
+unfolding writeDirectory
+length-directory s rows g e =
+    length-same (writeArea (rowSize s) writeRow) (FitsRow s) (rowSize s)
+    (λ r h. length-area (rowSize s) writeRow r (leb-true (length (writeRow r)) (rowSize s) (h .1))) rows g
+    ∙ ap (λ (x : ℕ). x * rowSize s) e
 
 -- ---- updates
 
@@ -223,11 +231,11 @@ update-nothing r = refl
 
 -- ---- fresh rows
 
-each-replicate : {A : Type 0} (g : A → Type 0) (n : ℕ) (a : A) → g a → Each g (replicate n a)
+pub each-replicate : {A : Type 0} (g : A → Type 0) (n : ℕ) (a : A) → g a → Each g (replicate n a)
 each-replicate g zero a h = tt
 each-replicate g (suc n) a h = (h, each-replicate g n a h)
 
-none-good : (s : Measures) → GoodPointer s nonePointer
+pub none-good : (s : Measures) → GoodPointer s nonePointer
 unfolding properPointer
 none-good s = (((omega arith, omega arith), (omega arith, (tt, sym (ap length (nodes-none 16))))), refl)
 

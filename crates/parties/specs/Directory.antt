@@ -72,6 +72,10 @@ pub record Row : Type 0 where
   pub frozenIndices : List ReadingIndex
   pub readingIndex : ReadingIndex
 
+-- stands for a row where there is none
+abbrev pub noRow : Row
+noRow = record { written = nonePointer; frozen = []; frozenIndices = []; readingIndex = record { 0 = 0 } }
+
 -- a row is a record with map hex 0F
 abbrev pub rowFields : Row → List (Option Content)
 rowFields r =

@@ -36,6 +36,9 @@ mapped f r s = bind (r s) (λ a t. some (record { value = f a; rest = t }))
 abbrev pub readNothing : Reader (Unit {0})
 readNothing s = some (record { value = tt; rest = s })
 
+abbrev pub readNone : {A : Type 0} → Reader A
+readNone s = none
+
 -- only values that pass a test
 abbrev pub given : {A : Type 0} → (A → Bool) → Reader A → Reader A
 given test r s = bind (r s) (λ a t. check (test a) a t)
@@ -61,6 +64,11 @@ readMany r (suc n) s = both r (λ a. readMany r n) (λ a l. a ∷ l) s
 unfoldable pub writeMany : {A : Type 0} → (A → List ℕ) → List A → List ℕ
 writeMany w [] = []
 writeMany w (a ∷ l) = w a ++ writeMany w l
+
+-- one value for each number of a list
+unfoldable pub readEach : {A : Type 0} → (ℕ → Reader A) → List ℕ → Reader (List A)
+readEach r [] s = some (record { value = []; rest = s })
+readEach r (x ∷ xs) s = both (r x) (λ a. readEach r xs) (λ a l. a ∷ l) s
 
 -- the next n bytes as they are
 unfoldable pub readBytes : ℕ → Reader (List ℕ)

@@ -4,11 +4,11 @@ use mathlib.Core.List.{List, [], _++_}
 use Prim.Native.Nat.{ℕ, _+_, _^_}
 use lib.Dec.{leb, ltb, eqb}
 use lib.ListN.{length}
-use Rattle.coding.specs.Nodes.{nodesOf}
 use Rattle.parties.specs.declared.measures.Measures.{Measures}
 use Rattle.parties.specs.declared.version.Version.{Version}
 use Rattle.parties.specs.Format.{Reader, both, given, readNumber, writeNumber, readBytes, readMany, writeMany}
 use Rattle.parties.specs.Version.{none}
+use Rattle.parties.specs.Nodes.{nodesIn}
 
 -- a version in 5 bytes: the sequence in 4, the client in 1
 unfoldable pub readVersion : Reader Version
@@ -25,10 +25,6 @@ pub record Named : Type 0 where
 pub record Pointer : Type 0 where
   pub version : Version
   pub named : Named
-
--- the nodes that a bit map names
-abbrev pub nodesIn : ℕ → List ℕ
-nodesIn map = nodesOf map 16
 
 -- none: sequence 0, client 255, empty map
 abbrev pub nonePointer : Pointer
