@@ -29,8 +29,10 @@ use Rattle.parties.proofs.Model.{num, ver, Turn, Clients, Rows, Shown, 
 use Rattle.parties.proofs.Model.{sent, served, with-toClient, pointed, Comes, Next}
 use Rattle.parties.proofs.Invariants.{Own, Owned, Drawing, Current, Keeps, Stocked, Stocking, NoStore, Sound, Once}
 use Rattle.parties.proofs.Invariants.{Arrived, Truthful, Acked, Arriving}
-use Rattle.parties.proofs.DrawLaws.{num-same, draw-above, draw-new, draw-pages}
-use Rattle.parties.proofs.QueueLaws.{each-append, no-store-append, no-store-tail, once-tail, once-append, asked-stores, asked-once, hand-each, kept-held}
+use Rattle.parties.proofs.VersionNumbers.{num-eq}
+use Rattle.parties.proofs.StockLaws.{kept-held}
+use Rattle.parties.proofs.DrawLaws.{draw-above, draw-new, draw-pages}
+use Rattle.parties.proofs.QueueLaws.{each-append, no-store-append, no-store-tail, once-tail, once-append, asked-stores, asked-once, hand-each}
 
 -- the messages from honest nodes are true of a model
 abbrev Messages : Measures → (ℕ → Bool) → Model → (ℕ → ℕ → List ToClient) → Type 0
@@ -178,7 +180,7 @@ module _ (z : Measures) (honest : ℕ → Bool) (s : Model) (a : Arriving z hone
       let w : v .client ≡ c = (rw e at (o .own c l)) .client in
       by-eq (num u) (num v)
       (λ f y.
-      subst (Arrived (s .n) j) (num-same v u (omega (arith, ok .clients)) (omega (arith, ok .clients)) (sym y)) (acked-more j hj lj uj (rw f at st)))
+      subst (Arrived (s .n) j) (num-eq v u (omega (arith, ok .clients)) (omega (arith, ok .clients)) (sym y)) (acked-more j hj lj uj (rw f at st)))
       (λ f y. a .named u j hj lj uj lu g (rw f at st))
 
 -- the clients stay as they are
@@ -342,12 +344,12 @@ arriving-kept z honest ok s t (Next.acknowledged c x h q l e) o d k a =
 arriving-kept z honest ok s t (Next.known c h q l e) o d k a =
     turn-arriving z honest s o a c Turn.raised Turn.picking e (λ y. refl) (λ v k. k) tt (a .messages) (a .named)
 arriving-kept z honest ok s t (Next.draw c b r v h q l e ec es ab) o d k a =
-    let new = draw-new z ok s o c b r v l e ec ab d in
+    let new = draw-new z ok s o d c b r v l e ec ab in
     sent-arriving z honest s o a c (Turn.storing v b 0) (λ i. ToNode.store v (piece (z .k) b i) ∷ []) (drawnBy (s .p) (num v) b (s .h .latest c)) (λ w f. refl)
     (λ u g. keeps-turned z (s .c) c (Turn.storing v b 0) (s .c .reading) (u .client) u (λ y. absurd (new u (inr g) y)))
-    (omega (arith, draw-above z ok s o c b r v l e ec ab)) (λ u i y. (new u y, tt)) (λ i. (omega arith, tt, tt))
+    (omega (arith, draw-above z ok s o d c b r v l e ec ab)) (λ u i y. (new u y, tt)) (λ i. (omega arith, tt, tt))
     (λ u g. by-eq u (num v) (λ f y. rw f) (λ f y. rw f g))
-    (draw-pages z ok s o c b r v l e ec ab d)
+    (draw-pages z ok s o d c b r v l e ec ab)
     (λ i hi lo up st. absurd (true≢false (sym st ∙ stands-none i)))
     (λ u i g st. by-eq (num u) (num v) (λ f y. absurd (true≢false (sym (rw f at st) ∙ stands-none i))) (λ f y. (rw f at g, rw f at st)))
 arriving-kept z honest ok s t (Next.spent c b r h q l e) o d k a =
@@ -372,10 +374,6 @@ arriving-kept z honest ok s t (Next.request c i v rest h q hi lo up l e) o d k a
     (reply-true z honest s k a i v hi lo up c ((rw e at (k .sound c i hi lo up l)) .0) _ refl refl c)
 arriving-kept z honest ok s t (Next.free c i fl rest h q hi lo up l e) o d k a =
     answered-arriving z honest s o a c i (ToNode.free fl) rest e (release fl (s .n .held i)) ToClient.freed h tt
-arriving-kept z honest ok s t (Next.lost c i rest h q hi) o d k a =
-    let un : honest i ≡ true → ⊥ = λ y. true≢false (sym y ∙ hi) in
-    taken-arriving z honest s o a c i rest (s .n .held) (s .n .toClient) h (λ y v b. absurd (un y)) (λ y top b. absurd (un y))
-    (taken-messages z honest s o a c i rest (s .n .held) (s .n .toClient) h (λ y v b. absurd (un y)) (λ y top b. absurd (un y)))
 arriving-kept z honest ok s t (Next.passed i c m qs h q co) o d k a = quiet-arriving z honest s o a (came z honest s a i c m qs co)
 arriving-kept z honest ok s t (Next.added i c v b m qs h q l lo up e co st few) o d k a =
     turn-arriving z honest s o a c (Turn.storing v b m) (Turn.storing v b (withNode m i)) e (λ y. refl) (λ v k. k)

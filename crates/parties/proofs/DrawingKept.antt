@@ -158,7 +158,6 @@ drawing-kept z honest ok s t (Next.fetch c a x h q l e pk ne) o dr = calm z s (l
 drawing-kept z honest ok s t (Next.store c i v x rest h q hi lo up l e) o dr = calm z s (λ w. omega arith) dr
 drawing-kept z honest ok s t (Next.request c i v rest h q hi lo up l e) o dr = calm z s (λ w. omega arith) dr
 drawing-kept z honest ok s t (Next.free c i fl rest h q hi lo up l e) o dr = calm z s (λ w. omega arith) dr
-drawing-kept z honest ok s t (Next.lost c i rest h q hi) o dr = calm z s (λ w. omega arith) dr
 drawing-kept z honest ok s t (Next.passed i c m qs h q co) o dr = calm z s (λ w. omega arith) dr
 drawing-kept z honest ok s t (Next.added i c v bytes a qs h q l lo up e co st few) o dr = calm z s (last-turned (s .c) c _ (rw e (omega arith))) dr
 drawing-kept z honest ok s t (Next.formed i c v bytes a qs h q l lo up e co st en) o dr =

@@ -133,7 +133,7 @@ fetching-kept z honest ok s t (Next.known c h q l e) o d f =
     turn-kept z honest s o f (s .p) (λ v g. refl) c Turn.picking tt
 fetching-kept z honest ok s t (Next.draw c b a v h q l e ec es ab) o d f =
     turn-kept z honest s o f (drawnBy (s .p) (num v) b (s .h .latest c))
-    (draw-pages z ok s o c b a v l e ec ab d) c (Turn.storing v b 0) tt
+    (draw-pages z ok s o d c b a v l e ec ab) c (Turn.storing v b 0) tt
 fetching-kept z honest ok s t (Next.spent c b a h q l e) o d f = turn-kept z honest s o f (s .p) (λ v g. refl) c Turn.idle tt
 fetching-kept z honest ok s t (Next.freeze c x a fl h q l e fr) o d f = turn-kept z honest s o f (s .p) (λ v g. refl) c Turn.idle tt
 fetching-kept z honest ok s t (Next.empty c a h q l e pk) o d f = turn-kept z honest s o f (s .p) (λ v g. refl) c Turn.idle tt
@@ -142,7 +142,6 @@ fetching-kept z honest ok s t (Next.fetch c a x h q l e pk ne) o d f =
 fetching-kept z honest ok s t (Next.store c i v x rest h q hi lo up l e) o d f = f
 fetching-kept z honest ok s t (Next.request c i v rest h q hi lo up l e) o d f = f
 fetching-kept z honest ok s t (Next.free c i fl rest h q hi lo up l e) o d f = f
-fetching-kept z honest ok s t (Next.lost c i rest h q hi) o d f = f
 fetching-kept z honest ok s t (Next.passed i c m qs h q co) o d f = f
 fetching-kept z honest ok s t (Next.added i c v b a qs h q l lo up e co st few) o d f =
     turn-kept z honest s o f (s .p) (λ v g. refl) c (Turn.storing v b (withNode a i)) tt

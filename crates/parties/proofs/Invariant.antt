@@ -2,9 +2,20 @@
 use mathlib.Core.Bool.{Bool}
 use Prim.Native.Nat.{ℕ}
 use Rattle.parties.specs.declared.measures.Measures.{Measures}
-use Rattle.parties.proofs.Model.{Model}
+use Rattle.parties.proofs.MeasureLaws.{Passed}
+use Rattle.parties.proofs.Model.{Model, Next}
 use Rattle.parties.proofs.Invariants.{Owned, Drawing, Lagging, Retaining, Stocking, Arriving, Fetching}
 use Rattle.parties.proofs.Chronicle.{Recording, Putting, Ordering}
+use Rattle.parties.proofs.OwnedKept.{owned-kept}
+use Rattle.parties.proofs.DrawingKept.{drawing-kept}
+use Rattle.parties.proofs.LaggingKept.{lagging-kept}
+use Rattle.parties.proofs.RetainingKept.{retaining-kept}
+use Rattle.parties.proofs.StockingKept.{stocking-kept}
+use Rattle.parties.proofs.ArrivingKept.{arriving-kept}
+use Rattle.parties.proofs.FetchingKept.{fetching-kept}
+use Rattle.parties.proofs.RecordingKept.{recording-kept}
+use Rattle.parties.proofs.PuttingKept.{putting-kept}
+use Rattle.parties.proofs.OrderingKept.{ordering-kept}
 
 pub record Invariant (z : Measures) (honest : ℕ → Bool) (s : Model) : Type 0 where
   pub owned : Owned z s
@@ -17,3 +28,19 @@ pub record Invariant (z : Measures) (honest : ℕ → Bool) (s : Model) : Type 0
   pub recording : Recording z s
   pub putting : Putting z s
   pub ordering : Ordering z s
+
+-- every step keeps them
+pub invariant-kept : (z : Measures) (honest : ℕ → Bool) → Passed z → (s t : Model) → Next z honest s t → Invariant z honest s → Invariant z honest t
+invariant-kept z honest ok s t n v =
+    record {
+      owned = owned-kept z honest ok s t n (v .owned) (v .drawing);
+      drawing = drawing-kept z honest ok s t n (v .owned) (v .drawing);
+      lagging = lagging-kept z honest ok s t n (v .owned) (v .lagging);
+      retaining = retaining-kept z honest ok s t n (v .owned) (v .lagging) (v .retaining);
+      stocking = stocking-kept z honest ok s t n (v .owned) (v .drawing) (v .stocking);
+      arriving = arriving-kept z honest ok s t n (v .owned) (v .drawing) (v .stocking) (v .arriving);
+      fetching = fetching-kept z honest ok s t n (v .owned) (v .drawing) (v .fetching);
+      recording = recording-kept z honest ok s t n (v .owned) (v .drawing) (v .putting) (v .recording);
+      putting = putting-kept z honest ok s t n (v .owned) (v .drawing) (v .recording) (v .putting);
+      ordering = ordering-kept z honest ok s t n (v .owned) (v .drawing) (v .lagging) (v .recording) (v .ordering);
+    }

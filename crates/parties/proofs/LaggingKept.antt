@@ -179,7 +179,6 @@ lagging-kept z honest y s t (Next.fetch c a x h q l e pk ne) w o = turned-laggin
 lagging-kept z honest y s t (Next.store c i v x rest h q hi lo up l e) w o = same-lagging z s _ (s .p) h o
 lagging-kept z honest y s t (Next.request c i v rest h q hi lo up l e) w o = same-lagging z s _ (s .p) h o
 lagging-kept z honest y s t (Next.free c i fl rest h q hi lo up l e) w o = same-lagging z s _ (s .p) h o
-lagging-kept z honest y s t (Next.lost c i rest h q hi) w o = same-lagging z s _ (s .p) h o
 lagging-kept z honest y s t (Next.passed i c m qs h q co) w o = same-lagging z s _ (s .p) h o
 lagging-kept z honest y s t (Next.added i c v bytes a qs h q l lo up e co st few) w o =
     turned-lagging z s c _ _ (s .p) h (λ b. tt) (rw e (omega arith)) tt o

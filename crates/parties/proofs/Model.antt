@@ -19,7 +19,7 @@ use Rattle.parties.specs.NodeTable.{Held}
 use Rattle.parties.specs.Node.{keep, handBack, release, listed}
 use Rattle.parties.specs.Message.{ToNode, ToClient, answer}
 use Rattle.parties.specs.Deposit.{digestsOf, pointerOf}
-use Rattle.parties.specs.Run.{History, Operation, Put, begin, upd, upd₂}
+use Rattle.parties.specs.Run.{History, Operation, Put, bearing, pointing, ending, giving, begin, upd, upd₂}
 
 -- ---- numbers of versions
 
@@ -217,9 +217,6 @@ served q c i rest l a =
       toClient = upd₂ (q .toClient) i c (q .toClient i c ++ (a ∷ []));
     }
 
-abbrev pub dropped : Nodes → ℕ → ℕ → List ToNode → Nodes
-dropped q c i rest = record { held = q .held; toNode = upd₂ (q .toNode) c i rest; toClient = q .toClient }
-
 abbrev pub drawnBy : Past → ℕ → List ℕ → ℕ → Past
 drawnBy p v bytes o =
     record {
@@ -279,29 +276,9 @@ pub record Frees (z : Measures) (k : Clients) (a : Rows) (c : ℕ) (x : Pointer)
 
 -- ---- marks of the history
 
-abbrev pub bearing : Version → Operation → Operation
-bearing v o =
-    record { client = o .client; page = o .page; began = o .began; ended = o .ended; version = some v; pointer = o .pointer; given = o .given }
-
-abbrev pub pointing : Pointer → Operation → Operation
-pointing x o =
-    record {
-      client = o .client;
-      page = o .page;
-      began = o .began;
-      ended = o .ended;
-      version = some (x .version);
-      pointer = some x;
-      given = o .given;
-    }
-
-abbrev pub ending : ℕ → Operation → Operation
-ending time o =
-    record { client = o .client; page = o .page; began = o .began; ended = some time; version = o .version; pointer = o .pointer; given = o .given }
-
-abbrev pub giving : List ℕ → Operation → Operation
-giving b o =
-    record { client = o .client; page = o .page; began = o .began; ended = o .ended; version = o .version; pointer = o .pointer; given = some b }
+-- a reading picked a pointer
+abbrev pub picks : Pointer → Operation → Operation
+picks x o = bearing (x .version) (pointing (some x) o)
 
 -- one event more: the operations and the puts are then these, no operation begins
 pub record Marks (h h′ : History) (operation : ℕ → Operation) (puts : List Put) : Type 0 where
@@ -372,10 +349,10 @@ pub data Next (z : Measures) (honest : ℕ → Bool) (s : Model) : Model → Typ
   freeze : (c : ℕ) (x : Pointer) (a : Rows) (l : List Version) (h : History) → Marked (s .h) h c (ending (s .h .time))
       → c < z .m → s .c .turn c ≡ noticing x a → Frees z (s .c) a c x l
       → Next z honest s (record { c = frozenBy (s .c) c x a; d = s .d; n = sent (s .n) c (λ i. ToNode.free l ∷ []); p = s .p; h = h })
-  empty : (c : ℕ) (a : Rows) (h : History) → Marked (s .h) h c (λ o. ending (s .h .time) (pointing nonePointer o))
+  empty : (c : ℕ) (a : Rows) (h : History) → Marked (s .h) h c (λ o. ending (s .h .time) (picks nonePointer o))
       → c < z .m → s .c .turn c ≡ picked a → Picks z a c (s .c .reading c) nonePointer
       → Next z honest s (record { c = turned (s .c) c idle; d = s .d; n = s .n; p = s .p; h = h })
-  fetch : (c : ℕ) (a : Rows) (x : Pointer) (h : History) → Marked (s .h) h c (pointing x)
+  fetch : (c : ℕ) (a : Rows) (x : Pointer) (h : History) → Marked (s .h) h c (picks x)
       → c < z .m → s .c .turn c ≡ picked a → Picks z a c (s .c .reading c) x
       → (ver x ≡ 255 → ⊥)
       → Next z honest s
@@ -407,9 +384,6 @@ pub data Next (z : Measures) (honest : ℕ → Bool) (s : Model) : Model → Typ
       → honest i ≡ true → 1 ≤ i → i ≤ z .n → c < z .m
       → s .n .toNode c i ≡ ToNode.free l ∷ rest
       → Next z honest s (record { c = s .c; d = s .d; p = s .p; h = h; n = served (s .n) c i rest (release l (s .n .held i)) ToClient.freed })
-  lost : (c i : ℕ) (rest : List ToNode) (h : History) → Quiet (s .h) h
-      → honest i ≡ false
-      → Next z honest s (record { c = s .c; d = s .d; p = s .p; h = h; n = dropped (s .n) c i rest })
   -- messages handed to clients
   passed : (i c : ℕ) (m : ToClient) (q : ℕ → ℕ → List ToClient) (h : History) → Quiet (s .h) h
       → Comes honest (s .n) i c m q

@@ -281,7 +281,6 @@ owned-kept z honest ok s t (Next.fetch c a x h q l e pk ne) o dr =
 owned-kept z honest ok s t (Next.store c i v x rest h q hi lo up l e) o dr = nodes-owned z s o
 owned-kept z honest ok s t (Next.request c i v rest h q hi lo up l e) o dr = nodes-owned z s o
 owned-kept z honest ok s t (Next.free c i fl rest h q hi lo up l e) o dr = nodes-owned z s o
-owned-kept z honest ok s t (Next.lost c i rest h q hi) o dr = nodes-owned z s o
 owned-kept z honest ok s t (Next.passed i c m qs h q co) o dr = nodes-owned z s o
 owned-kept z honest ok s t (Next.added i c v bytes a qs h q l lo up e co st few) o dr =
     let own = rw e at (o .own c l) in

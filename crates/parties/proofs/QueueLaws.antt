@@ -72,23 +72,3 @@ hand-each g v x (y ∷ l) e h = go (hand-each g v x l (e .1)) (below v (y .versi
     go ih true p b q h = absurd (none≢some h)
     go ih false p true q h = ih h
     go ih false p false q h = rw (neither-below v (y .version) p q) (rw (← some-eq h) (e .0))
-
--- along the messages of its client, a version that is kept at last is held already, unless it is stored on the way
-plays-held : (z : Measures) (k : Clients) (w : ℕ) (f : Version → Bool) (q : List ToNode) → Plays z k w f q
-    → (v : Version) → v .client ≡ w → NoStore v q → Keeps z k w v → f v ≡ true
-plays-held z k w f [] p v c n h = p .1 v c h
-plays-held z k w f (ToNode.store u x ∷ q) p v c n h =
-    go (below v u) refl (below u v) refl (plays-held z k w (effect (ToNode.store u x) f) q (p .1) v c (n .1) h)
-  where
-    go : (a : Bool) → below v u ≡ a → (b : Bool) → below u v ≡ b → (not (a || b) || f v) ≡ true → f v ≡ true
-    go true d b g e = e
-    go false d true g e = e
-    go false d false g e = absurd (n .0 (sym (neither-below v u d g)))
-plays-held z k w f (ToNode.request u ∷ q) p v c n h = plays-held z k w f q (p .1) v c n h
-plays-held z k w f (ToNode.free l ∷ q) p v c n h = and-true (f v) _ (plays-held z k w (effect (ToNode.free l) f) q (p .1) v c n h) .0
-
--- what a client keeps and no store is under way for, is held
-pub kept-held : (z : Measures) (honest : ℕ → Bool) (s : Model) → Stocking z honest s → (i : ℕ) → honest i ≡ true → 1 ≤ i → i ≤ z .n
-    → (v : Version) → v .client < z .m → Keeps z (s .c) (v .client) v → NoStore v (s .n .toNode (v .client) i) → holding (s .n .held i) v ≡ true
-kept-held z honest s o i hi lo up v l k n =
-    plays-held z (s .c) (v .client) (holding (s .n .held i)) (s .n .toNode (v .client) i) (o .plays (v .client) i hi lo up l) v refl n k

@@ -225,7 +225,6 @@ retaining-kept z honest y s t (Next.fetch c a x h q l e pk ne) w g o =
 retaining-kept z honest y s t (Next.store c i v x rest h q hi lo up l e) w g o = o
 retaining-kept z honest y s t (Next.request c i v rest h q hi lo up l e) w g o = o
 retaining-kept z honest y s t (Next.free c i fl rest h q hi lo up l e) w g o = o
-retaining-kept z honest y s t (Next.lost c i rest h q hi) w g o = o
 retaining-kept z honest y s t (Next.passed i c m qs h q co) w g o = o
 retaining-kept z honest y s t (Next.added i c v bytes a qs h q l lo up e co st few) w g o =
     turned-retaining z (s .c) c _ (λ v p. rw e at p) (λ j i. tt) tt o

@@ -26,8 +26,9 @@ use Rattle.parties.proofs.FormatLaws.{Each}
 use Rattle.parties.proofs.ClientLaws.{each-as}
 use Rattle.parties.proofs.MeasureLaws.{Passed}
 use Rattle.parties.proofs.NodeLaws.{keep-ascending, keep-each, release-ascending, release-each}
-use Rattle.parties.proofs.Model.{num, ver, Rows, Turn, Clients, Shown, Past, Model, Next, Frees, Replaced, Retains, with-toClient, turned, frozenBy, sent, served, pointedBy, Picks, dropped, drawnBy, Above, notices}
+use Rattle.parties.proofs.Model.{num, ver, Rows, Turn, Clients, Shown, Past, Model, Next, Frees, Replaced, Retains, with-toClient, turned, frozenBy, sent, served, pointedBy, Picks, drawnBy, Above, notices}
 use Rattle.parties.proofs.Invariants.{Known, KnownVersion, Owned, Drawing, Current, Keeps, Plays, Stocked, Sound, Stocking, effect, holding}
+use Rattle.parties.proofs.DrawLaws.{draw-undrawn}
 use Rattle.parties.proofs.PlaysLaws.{same-eq, eq-same, holding-kept, holding-released, effect-other, Alike, keeps-as, plays-ext, plays-alike, plays-append, plays-bounded}
 
 -- ---- the past
@@ -164,21 +165,6 @@ module _ (z : Measures) (honest : ℕ → Bool) (s : Model) (o : Stocking z hone
       other : (u : Version) → (u .client ≡ c → ⊥) → effect m (holding (s .n .held i)) u ≡ holding (s .n .held i) u
       other = effect-other z (s .p) c i m ((rw e at (o .sound c i hi lo up cm)) .0) (holding (s .n .held i))
 
-  -- the queue to a dishonest node loses messages
-  loses : (c i : ℕ) (rest : List ToNode) (h : History) → honest i ≡ false
-      → Stocking z honest (record { c = s .c; d = s .d; p = s .p; h = h; n = dropped (s .n) c i rest })
-  loses c i rest h hi =
-      record {
-        order = o .order;
-        stocked = o .stocked;
-        sound = λ w j hj loj upj wm. rw (queue w j hj) (o .sound w j hj loj upj wm);
-        plays = λ w j hj loj upj wm. rw (queue w j hj) (o .plays w j hj loj upj wm);
-      }
-    where
-      queue : (w j : ℕ) → honest j ≡ true → upd₂ (s .n .toNode) c i rest w j ≡ s .n .toNode w j
-      queue w j hj =
-          by-eq w c (λ f g. rw (f, ne-eqb j i (λ x. true≢false (sym hj ∙ ap honest x ∙ hi))) (ap (λ n. s .n .toNode n j) (sym g))) (λ f g. rw f refl)
-
 -- ---- a search for what is retained
 
 is-false : (b : Bool) → (b ≡ true → ⊥) → b ≡ false
@@ -216,18 +202,6 @@ retains-or z k c v = go (find (λ q. sameVersion (k .frozen c q .version) v) (z 
 
 module _ (z : Measures) (pa : Passed z) (s : Model) (o : Owned z s) (c : ℕ) (l : c < z .m) where
   module _ (bytes : List ℕ) (a : Rows) (v : Version) (e : s .c .turn c ≡ Turn.scanned bytes a) (ec : v .client ≡ c) where
-    -- its number is above all that the client has drawn
-    fresh : Drawing z s → Above z a (v .sequence .0) → s .p .drawn (num v) ≡ true → ⊥
-    fresh d ab h =
-        let r : num v % 256 ≡ c = omega arith in
-        let b = rw e at (rw r at (d (num v) h .before)) in
-        let y = rw ((rw e at (o .own c l)) .2) at (ab c l) in
-        omega (arith, client (s .c .written c) (o .written c l))
-      where
-        client : (x : Pointer) → Known (s .p) c x → x .version .client ≤ 255
-        client x (Known.absent q) = rw q (omega arith)
-        client x (Known.formed h q k n) = rw k (omega arith)
-
     draw-grown : (s .p .drawn (num v) ≡ true → ⊥) → Grows (s .p) (drawnBy (s .p) (num v) bytes (s .h .latest c))
     draw-grown n u d = by-eq u (num v) (λ f g. absurd (n (rw g at d))) (λ f g. rw f (d, refl, λ i h. h))
 
@@ -388,7 +362,7 @@ stocking-kept z honest pa s t (Next.known c h q l e) w d o =
     turns z honest s o c _ (same (s .p)) e refl
 stocking-kept z honest pa s t (Next.draw c bytes a v h q l e ec es ab) w d o =
     sends z honest s o _ c (λ i. ToNode.store v (piece (z .k) bytes i) ∷ []) refl
-    (draw-grown z pa s w c l bytes a v e ec (fresh z pa s w c l bytes a v e ec d ab))
+    (draw-grown z pa s w c l bytes a v e ec (draw-undrawn z pa s w d c bytes a v l e ec ab))
     (λ w f. others z (s .c) _ w (rw f refl) refl refl refl)
     (λ i. ((rw (eq-eqb (num v) (num v) refl) (refl, refl, ec)), tt))
     (λ i. draw-plays z pa s w c l bytes a v e ec (piece (z .k) bytes i))
@@ -413,8 +387,6 @@ stocking-kept z honest pa s t (Next.request c i v rest h q hi lo up l e) w d o =
 stocking-kept z honest pa s t (Next.free c i fl rest h q hi lo up l e) w d o =
     serves z honest s o c i (ToNode.free fl) rest _ ToClient.freed h hi lo up l e (release-ascending fl (s .n .held i) (o .order i))
     (release-each (Stocked z (s .p) i) fl (s .n .held i) (o .stocked i hi lo up)) (holding-released fl (s .n .held i) (o .order i))
-stocking-kept z honest pa s t (Next.lost c i rest h q hi) w d o =
-    loses z honest s o c i rest h hi
 stocking-kept z honest pa s t (Next.passed i c m qs h q co) w d o = still z honest s o _ refl refl (same (s .p)) (λ w u. (λ h. h, λ h. h))
 stocking-kept z honest pa s t (Next.added i c v bytes a qs h q l lo up e co st few) w d o =
     turns z honest s o c _ (same (s .p)) e refl

@@ -18,7 +18,7 @@ use Rattle.parties.specs.Pointer.{Pointer, nonePointer}
 use Rattle.parties.specs.NodeTable.{Held, readTable}
 use Rattle.parties.specs.Node.{handBack}
 use Rattle.parties.specs.Answer.{Served, refuses, serves, number}
-use Rattle.parties.specs.Run.{Operation, Put, History, State, Event, deposit, reading, carry, hand, bring, deliver, lie, Answered, nothing, byClient, byServer}
+use Rattle.parties.specs.Run.{Operation, Put, History, State, Event, deposit, reading, carry, hand, bring, deliver, lie, Answered, nothing, byClient, byServer, carryOut}
 
 -- ---- operations
 
@@ -124,10 +124,17 @@ pub data PieceOf (s : Measures) (h : History) (x : List ℕ) : Type 0 where
   cut : (o i : ℕ) (v : Version) (bytes : List ℕ) → Bears h o v → IsDeposit h o bytes → 1 ≤ i → i ≤ s .n → x ≡ piece (s .k) bytes i → PieceOf s h x
   came : Among x (h .replied) → PieceOf s h x
 
--- no two different pieces of the run share a digest
+-- a piece of the history at the beginning, at the end, or at some event between
+abbrev pub RunPiece : Measures → (ℕ → Bool) → List Event → State → List ℕ → Type 0
+RunPiece s honest [] st x = PieceOf s (st .history) x
+RunPiece s honest (e ∷ es) st x = PieceOf s (st .history) x ⊎ RunPiece s honest es (carryOut s honest e st .state) x
+
+-- no two different pieces share a digest
+abbrev pub Differ : (List ℕ → Type 0) → Type 0
+Differ pieces = (x y : List ℕ) → pieces x → pieces y → (v : List ℕ) (i : ℕ) → pieceDigest v i x ≡ pieceDigest v i y → x ≡ y
+
 abbrev pub DigestsDiffer : Measures → History → Type 0
-DigestsDiffer s h =
-    (x y : List ℕ) → PieceOf s h x → PieceOf s h y → (v : List ℕ) (i : ℕ) → pieceDigest v i x ≡ pieceDigest v i y → x ≡ y
+DigestsDiffer s h = Differ (PieceOf s h)
 
 -- ---- what keeps the claim from being empty
 

@@ -138,50 +138,37 @@ abbrev pub pointerIn : Option (Read Client) → Option Pointer
 pointerIn none = none
 pointerIn (some r) = pointerAt (r .value .phase)
 
--- a deposit bears its version once drawn; a reading, that of the pointer it picked, also if it is none; an operation is open until it ends
+-- marks of an operation: what it bears, a reading's pointer, its end, and what it gave
+abbrev pub bearing : Version → Operation → Operation
+bearing v o =
+    record { client = o .client; page = o .page; began = o .began; ended = o .ended; version = some v; pointer = o .pointer; given = o .given }
+
+abbrev pub pointing : Option Pointer → Operation → Operation
+pointing p o =
+    record { client = o .client; page = o .page; began = o .began; ended = o .ended; version = o .version; pointer = p; given = o .given }
+
+abbrev pub ending : ℕ → Operation → Operation
+ending time o =
+    record { client = o .client; page = o .page; began = o .began; ended = some time; version = o .version; pointer = o .pointer; given = o .given }
+
+abbrev pub giving : List ℕ → Operation → Operation
+giving b o =
+    record { client = o .client; page = o .page; began = o .began; ended = o .ended; version = o .version; pointer = o .pointer; given = some b }
+
+-- a deposit bears its version once drawn; a reading, that of the pointer it picked, also if it is none; an operation is open until it ends;
+-- what a reading gave stands at the front of the output
 abbrev pub marked : Measures → ℕ → ClientAnswer → List ℕ → List ℕ → Operation → Operation
 marked s time (refused n) client out o = o
 marked s time waits client out o = o
 marked s time scan client out o = o
 marked s time (update len) client out o = o
-marked s time (stores v len) client out o =
-    record { client = o .client; page = o .page; began = o .began; ended = o .ended; version = some v; pointer = o .pointer; given = o .given }
-marked s time (requests v nodes) client out o =
-    record {
-      client = o .client;
-      page = o .page;
-      began = o .began;
-      ended = o .ended;
-      version = some v;
-      pointer = pointerIn (readClient s client);
-      given = o .given;
-    }
-marked s time (deposited v len) client out o =
-    record { client = o .client; page = o .page; began = o .began; ended = some time; version = o .version; pointer = o .pointer; given = o .given }
-marked s time empty client out o =
-    record {
-      client = o .client;
-      page = o .page;
-      began = o .began;
-      ended = some time;
-      version = some noVersion;
-      pointer = some nonePointer;
-      given = o .given;
-    }
-marked s time (page v len) client out o =
-    record {
-      client = o .client;
-      page = o .page;
-      began = o .began;
-      ended = some time;
-      version = o .version;
-      pointer = o .pointer;
-      given = some (take len out);
-    }
-marked s time spent client out o =
-    record { client = o .client; page = o .page; began = o .began; ended = some time; version = o .version; pointer = o .pointer; given = o .given }
-marked s time failed client out o =
-    record { client = o .client; page = o .page; began = o .began; ended = some time; version = o .version; pointer = o .pointer; given = o .given }
+marked s time (stores v len) client out o = bearing v o
+marked s time (requests v nodes) client out o = bearing v (pointing (pointerIn (readClient s client)) o)
+marked s time (deposited v len) client out o = ending time o
+marked s time empty client out o = ending time (bearing noVersion (pointing (some nonePointer) o))
+marked s time (page v len) client out o = ending time (giving (take len out) o)
+marked s time spent client out o = ending time o
+marked s time failed client out o = ending time o
 
 -- one event more
 abbrev pub tick : History → History
