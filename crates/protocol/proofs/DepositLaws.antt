@@ -1,0 +1,147 @@
+-- Laws of a deposit's first step: the sequence drawn, and the store messages.
+use mathlib.Core.Path.{_≡_, sym, ap, ap₂, _∙_}
+use mathlib.Core.Bool.{true}
+use mathlib.Core.List.{List, [], _∷_, _++_, append-nil}
+use mathlib.Core.Option.{some}
+use Prim.Native.Nat.{ℕ, zero, suc, _+_, _-_, _*_, _≤_, _<_}
+use native.Mathlib.Nat.{not-suc-le-zero}
+use native.Mathlib.Omega.{arith}
+use native.Mathlib.Decide.{decLt}
+use borrow.Author.Tests.{le-leb, lt-ltb, le-ltb}
+use lib.ListN.{length, getD, take, drop, length-drop}
+use lib.Seq.{take-at, drop-append-add}
+use lib.Pow.{pow-pos}
+use Rattle.coding.specs.Pieces.{proper, columns, piece}
+use Rattle.coding.specs.Digest.{pieceDigest}
+use Rattle.coding.specs.Split.{SplitEnd, written}
+use Rattle.coding.specs.Join.{pieceIn}
+use Rattle.coding.proofs.BytesLaws.{length-tabulate, getD-tabulate}
+use Rattle.coding.proofs.NodesLaws.{nodes-none}
+use Rattle.coding.proofs.DigestLaws.{length-digest, bytes-digest}
+use Rattle.coding.proofs.SplitLaws.{split-done}
+use Rattle.coding.proofs.RoundTripLaws.{length-piece}
+use Rattle.coding.proofs.RoundTrip.{within, some-columns, area-piece, piece-bytes}
+use Rattle.protocol.specs.declared.measures.Measures.{Measures}
+use Rattle.protocol.specs.declared.version.Version.{Version}
+use Rattle.protocol.specs.Measures.{passes}
+use Rattle.protocol.specs.Nodes.{count}
+use Rattle.protocol.specs.Pointer.{writeVersion}
+use Rattle.protocol.specs.Directory.{Row, noRow}
+use Rattle.protocol.specs.Message.{ToNode, writeToNode}
+use Rattle.protocol.specs.Client.{Phase}
+use Rattle.protocol.specs.Deposit.{highest, digestsOf}
+use Rattle.protocol.specs.Answer.{stores}
+use Rattle.protocol.specs.ClientEvents.{roomSize, storesRoom, messageTo}
+use Rattle.protocol.proofs.FormatLaws.{Each}
+use Rattle.protocol.proofs.MeasureLaws.{passed}
+use Rattle.protocol.proofs.PointerLaws.{length-version}
+use Rattle.protocol.proofs.MessageLaws.{GoodNamedVersion, GoodStored}
+use Rattle.protocol.proofs.ClientLaws.{GoodDigest, GoodPhase}
+use Rattle.protocol.proofs.Model.{Rows, Above}
+use Rattle.protocol.proofs.View.{rowAt, rowsAt}
+use Rattle.protocol.proofs.HandLaws.{each-tabulate}
+
+-- ---- the sequence drawn
+
+-- no row's written sequence is above the highest
+pub highest-above : (l : List Row) (i : ℕ) → i < length l → getD l i noRow .written .version .sequence .0 ≤ highest l .0
+unfolding highest
+highest-above [] i h = absurd (not-suc-le-zero h)
+highest-above (r ∷ l) zero h = go (decLt (highest l .0) (r .written .version .sequence .0))
+  where
+    go : Dec (highest l .0 < r .written .version .sequence .0) → r .written .version .sequence .0 ≤ highest (r ∷ l) .0
+    go (yes b) = rw (lt-ltb (highest l .0) (r .written .version .sequence .0) b) (omega arith)
+    go (no b) = rw (le-ltb (highest l .0) (r .written .version .sequence .0) (omega arith)) (omega arith)
+highest-above (r ∷ l) (suc i) h = go (highest-above l i (omega arith)) (decLt (highest l .0) (r .written .version .sequence .0))
+  where
+    go : getD l i noRow .written .version .sequence .0 ≤ highest l .0 → Dec (highest l .0 < r .written .version .sequence .0)
+        → getD l i noRow .written .version .sequence .0 ≤ highest (r ∷ l) .0
+    go ih (yes b) = rw (lt-ltb (highest l .0) (r .written .version .sequence .0) b) (omega arith)
+    go ih (no b) = rw (le-ltb (highest l .0) (r .written .version .sequence .0) (omega arith)) ih
+
+pub highest-rows : (z : Measures) (a : Rows) → Above z a (highest (rowsAt z a) .0 + 1)
+highest-rows z a w l =
+    let b : getD (rowsAt z a) w noRow .written .version .sequence .0 ≤ highest (rowsAt z a) .0 =
+    highest-above (rowsAt z a) w (rw (length-tabulate (z .m) (rowAt z a)) l)
+    in
+    let e : getD (rowsAt z a) w noRow .written .version .sequence .0 ≡ a .written w .version .sequence .0 =
+    ap (λ (r : Row). r .written .version .sequence .0) (getD-tabulate (z .m) (rowAt z a) w noRow l)
+    in omega arith
+
+-- ---- the store messages
+
+pub passes-proper : (z : Measures) → passes z ≡ true → proper (z .n) (z .k) (z .f) ≡ true
+unfolding proper
+passes-proper z h =
+    let p = passed z h in
+    let k : z .k ≤ z .n = omega (arith, p .enough) in
+    simp (
+      le-leb 1 (z .n) (p .nodes .0),
+      le-leb (z .n) 16 (p .nodes .1),
+      le-leb 1 (z .k) (p .parts),
+      le-leb (z .k) (z .n) k,
+      le-leb 1 (z .f) (p .bytes .0),
+      le-leb (z .f) 4096 (p .bytes .1),
+      le-leb 4 (z .k * z .f) (p .frame),
+    )
+
+-- tag and version have 6 bytes
+length-front : (v : Version) → length (writeToNode (ToNode.store v [])) ≡ 6
+unfolding writeToNode
+length-front v = ap (λ (b : List ℕ). suc (length b)) (append-nil (writeVersion v)) ∙ ap suc (length-version v)
+
+module _ (z : Measures) (passes : passes z ≡ true) (v : Version) (bytes room : List ℕ) (short : length bytes ≤ z .k * z .f - 4)
+    (enough : roomSize z ≤ length room) where
+  fits : z .n * z .f ≤ length (drop 6 room)
+  fits = omega (arith, length-drop 6 room)
+
+  stores-room : storesRoom z v bytes room ≡ writeToNode (ToNode.store v []) ++ written (z .k) (z .f) bytes (drop 6 room) (z .n)
+  stores-room =
+      ap (λ (x : SplitEnd). writeToNode (ToNode.store v []) ++ x .room)
+      (split-done (z .n) (z .k) (z .f) bytes (drop 6 room) (passes-proper z passes) fits short)
+
+  -- what is sent to node i is its piece
+  pub stores-sent : (i : ℕ) → 1 ≤ i → i ≤ z .n
+      → messageTo z (stores v (columns (z .k) (length bytes))) (storesRoom z v bytes room) i ≡ some (writeToNode (ToNode.store v (piece (z .k) bytes i)))
+  unfolding writeToNode pieceIn
+  stores-sent i lo up =
+      let f = writeToNode (ToNode.store v []) in
+      let r = written (z .k) (z .f) bytes (drop 6 room) (z .n) in
+      let len = columns (z .k) (length bytes) in
+      let at : ℕ = (i - 1) * z .f in
+      let d : drop (6 + at) (f ++ r) ≡ drop at r = ap (λ (x : ℕ). drop (x + at) (f ++ r)) (sym (length-front v)) ∙ drop-append-add f r at in
+      ap (λ (x : List ℕ). messageTo z (stores v len) x i) stores-room
+      ∙ ap₂ (λ (x : List ℕ) (y : List ℕ). some (x ++ take len y)) (take-at f r 6 (length-front v)) d
+      ∙ ap (λ (x : List ℕ). some (f ++ x)) (sym (area-piece (z .n) (z .k) (z .f) bytes (drop 6 room) (passes-proper z passes) fits short i lo up))
+      ∙ ap (λ (x : List ℕ). some (1 ∷ (x ++ piece (z .k) bytes i))) (append-nil (writeVersion v))
+
+  -- and it is well formed
+  pub piece-good : (i : ℕ) → GoodStored z (piece (z .k) bytes i)
+  piece-good i =
+      let p = passes-proper z passes in (
+        piece-bytes (z .k) bytes i,
+        rw (length-piece (z .k) bytes i)
+            (simp (
+              le-leb 1 (columns (z .k) (length bytes)) (some-columns (z .n) (z .k) (z .f) bytes (drop 6 room) p fits short),
+              le-leb (columns (z .k) (length bytes)) (z .f) (within (z .n) (z .k) (z .f) bytes (drop 6 room) p fits short),
+            )),
+      )
+
+-- ---- the record after it
+
+pub digests-good : (z : Measures) (v : Version) (bytes : List ℕ) → Each GoodDigest (digestsOf z v bytes) × (length (digestsOf z v bytes) ≡ z .n)
+unfolding digestsOf
+digests-good z v bytes =
+    let f : ℕ → List ℕ = λ j. pieceDigest (writeVersion v) (j + 1) (piece (z .k) bytes (j + 1)) in (
+      each-tabulate GoodDigest (z .n) f
+          (λ j l. (bytes-digest (writeVersion v) (j + 1) (piece (z .k) bytes (j + 1)), length-digest (writeVersion v) (j + 1) (piece (z .k) bytes (j + 1)))),
+      length-tabulate (z .n) f,
+    )
+
+-- no node has acknowledged it yet
+pub storing-good : (z : Measures) → passes z ≡ true → (v : Version) (bytes : List ℕ) → GoodNamedVersion z v
+    → GoodPhase z (Phase.storing v 0 (digestsOf z v bytes))
+storing-good z h v bytes g =
+    let d = digests-good z v bytes in
+    let none : count 0 ≡ 0 = ap length (nodes-none 16) in
+    (g .0, g .1, pow-pos (z .n), omega (arith, passed z h .parts), d .0, d .1)

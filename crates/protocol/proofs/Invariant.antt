@@ -1,0 +1,46 @@
+-- All groups of invariants together.
+use mathlib.Core.Bool.{Bool}
+use Prim.Native.Nat.{ℕ}
+use Rattle.protocol.specs.declared.measures.Measures.{Measures}
+use Rattle.protocol.proofs.MeasureLaws.{Passed}
+use Rattle.protocol.proofs.Model.{Model, Next}
+use Rattle.protocol.proofs.Invariants.{Owned, Drawing, Lagging, Retaining, Stocking, Arriving, Fetching}
+use Rattle.protocol.proofs.Chronicle.{Recording, Putting, Ordering}
+use Rattle.protocol.proofs.OwnedKept.{owned-kept}
+use Rattle.protocol.proofs.DrawingKept.{drawing-kept}
+use Rattle.protocol.proofs.LaggingKept.{lagging-kept}
+use Rattle.protocol.proofs.RetainingKept.{retaining-kept}
+use Rattle.protocol.proofs.StockingKept.{stocking-kept}
+use Rattle.protocol.proofs.ArrivingKept.{arriving-kept}
+use Rattle.protocol.proofs.FetchingKept.{fetching-kept}
+use Rattle.protocol.proofs.RecordingKept.{recording-kept}
+use Rattle.protocol.proofs.PuttingKept.{putting-kept}
+use Rattle.protocol.proofs.OrderingKept.{ordering-kept}
+
+pub record Invariant (z : Measures) (honest : ℕ → Bool) (s : Model) : Type 0 where
+  pub owned : Owned z s
+  pub drawing : Drawing z s
+  pub lagging : Lagging z s
+  pub retaining : Retaining z s
+  pub stocking : Stocking z honest s
+  pub arriving : Arriving z honest s
+  pub fetching : Fetching z honest s
+  pub recording : Recording z s
+  pub putting : Putting z s
+  pub ordering : Ordering z s
+
+-- every step keeps them
+pub invariant-kept : (z : Measures) (honest : ℕ → Bool) → Passed z → (s t : Model) → Next z honest s t → Invariant z honest s → Invariant z honest t
+invariant-kept z honest ok s t n v =
+    record {
+      owned = owned-kept z honest ok s t n (v .owned) (v .drawing);
+      drawing = drawing-kept z honest ok s t n (v .owned) (v .drawing);
+      lagging = lagging-kept z honest ok s t n (v .owned) (v .lagging);
+      retaining = retaining-kept z honest ok s t n (v .owned) (v .lagging) (v .retaining);
+      stocking = stocking-kept z honest ok s t n (v .owned) (v .drawing) (v .stocking);
+      arriving = arriving-kept z honest ok s t n (v .owned) (v .drawing) (v .stocking) (v .arriving);
+      fetching = fetching-kept z honest ok s t n (v .owned) (v .drawing) (v .fetching);
+      recording = recording-kept z honest ok s t n (v .owned) (v .drawing) (v .putting) (v .recording);
+      putting = putting-kept z honest ok s t n (v .owned) (v .drawing) (v .recording) (v .putting);
+      ordering = ordering-kept z honest ok s t n (v .owned) (v .drawing) (v .lagging) (v .recording) (v .ordering);
+    }

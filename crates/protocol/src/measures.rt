@@ -1,0 +1,50 @@
+// The measures of a set of tables.
+ghost use mathlib.Core.Path.{_≡_};
+ghost use Rattle.protocol.specs.Measures.{passes};
+
+pub struct Measures {
+    pub m: usize,
+    pub n: usize,
+    pub k: usize,
+    pub t: usize,
+    pub f: usize,
+}
+
+impl Measures {
+    // Each number is held to its own bound before two are added or multiplied.
+    pub fn pass(self) -> bool
+        ensures { λ r. ⌜ r ≡ passes self ⌝ }
+    {
+        if self.m < 1 {
+            return false;
+        }
+        if 8 < self.m {
+            return false;
+        }
+        if self.n < 1 {
+            return false;
+        }
+        if 16 < self.n {
+            return false;
+        }
+        if self.k < 1 {
+            return false;
+        }
+        if self.n < self.k {
+            return false;
+        }
+        if self.n < self.t {
+            return false;
+        }
+        if self.n < 2 * self.t + self.k {
+            return false;
+        }
+        if self.f < 1 {
+            return false;
+        }
+        if 4096 < self.f {
+            return false;
+        }
+        4 <= self.k * self.f
+    }
+}
