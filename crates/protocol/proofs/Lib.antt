@@ -49,3 +49,7 @@ pub mod HandLaws
 pub mod StartShows
 pub mod DepositLaws
 pub mod DrawShows
+pub mod FreeLaws
+pub mod PickLaws
+pub mod ScanShows
+pub mod HandShows

@@ -11,7 +11,7 @@ use Rattle.coding.proofs.PageLaws.{none≢some, some-eq}
 use Rattle.protocol.specs.declared.version.Version.{Version}
 use Rattle.protocol.specs.Pointer.{Pointer}
 use Rattle.protocol.specs.Run.{History, Operation, begin, bearing, ending, giving}
-use Rattle.protocol.proofs.Model.{num, ver, Past, drawnBy, picks}
+use Rattle.protocol.proofs.Model.{num, ver, Past, drawnBy, choosing}
 use Rattle.protocol.proofs.Invariants.{Known}
 use Rattle.protocol.proofs.Chronicle.{Undrawn, Drawn, Unpicked, Picked, Current, Listed, Shown, Deposited}
 use Rattle.protocol.proofs.VersionNumbers.{unnum-num}
@@ -86,12 +86,12 @@ picked-shown h p w x ne (Known.absent e) i = absurd (ne (ap ver e))
 picked-shown h p w x ne (Known.formed d q c n) i = Shown.put d q n i
 
 pub picked-pointing : (h : History) (c : ℕ) (x : Pointer) → Unpicked h c → (replied : List (List ℕ))
-    → Picked (markedAt h c (picks x (h .operation (h .latest c))) replied) c x
+    → Picked (markedAt h c (choosing x (h .operation (h .latest c))) replied) c x
 picked-pointing h c x a replied =
-    let y = marked-last h c (picks x (h .operation (h .latest c))) replied in record { page = rw y (a .page); version = rw y refl; pointer = rw y refl }
+    let y = marked-last h c (choosing x (h .operation (h .latest c))) replied in record { page = rw y (a .page); version = rw y refl; pointer = rw y refl }
 
 module _ (h : History) (p : Past) (c : ℕ) (x : Pointer) where
-  pub fair-pointing : Unpicked h c → Current h c → Shown h p x → Fair h p (h .latest c) (picks x (h .operation (h .latest c)))
+  pub fair-pointing : Unpicked h c → Current h c → Shown h p x → Fair h p (h .latest c) (choosing x (h .operation (h .latest c)))
   fair-pointing a b i =
       record {
         draws = λ y v e q. absurd (none≢some (sym (a .page) ∙ e));

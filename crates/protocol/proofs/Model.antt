@@ -277,8 +277,8 @@ pub record Frees (z : Measures) (k : Clients) (a : Rows) (c : ℕ) (x : Pointer)
 -- ---- marks of the history
 
 -- a reading picked a pointer
-abbrev pub picks : Pointer → Operation → Operation
-picks x o = bearing (x .version) (pointing (some x) o)
+abbrev pub choosing : Pointer → Operation → Operation
+choosing x o = bearing (x .version) (pointing (some x) o)
 
 -- one event more: the operations and the puts are then these, no operation begins
 pub record Marks (h h′ : History) (operation : ℕ → Operation) (puts : List Put) : Type 0 where
@@ -349,10 +349,10 @@ pub data Next (z : Measures) (honest : ℕ → Bool) (s : Model) : Model → Typ
   freeze : (c : ℕ) (x : Pointer) (a : Rows) (l : List Version) (h : History) → Marked (s .h) h c (ending (s .h .time))
       → c < z .m → s .c .turn c ≡ noticing x a → Frees z (s .c) a c x l
       → Next z honest s (record { c = frozenBy (s .c) c x a; d = s .d; n = sent (s .n) c (λ i. ToNode.free l ∷ []); p = s .p; h = h })
-  empty : (c : ℕ) (a : Rows) (h : History) → Marked (s .h) h c (λ o. ending (s .h .time) (picks nonePointer o))
+  empty : (c : ℕ) (a : Rows) (h : History) → Marked (s .h) h c (λ o. ending (s .h .time) (choosing nonePointer o))
       → c < z .m → s .c .turn c ≡ picked a → Picks z a c (s .c .reading c) nonePointer
       → Next z honest s (record { c = turned (s .c) c idle; d = s .d; n = s .n; p = s .p; h = h })
-  fetch : (c : ℕ) (a : Rows) (x : Pointer) (h : History) → Marked (s .h) h c (picks x)
+  fetch : (c : ℕ) (a : Rows) (x : Pointer) (h : History) → Marked (s .h) h c (choosing x)
       → c < z .m → s .c .turn c ≡ picked a → Picks z a c (s .c .reading c) x
       → (ver x ≡ 255 → ⊥)
       → Next z honest s

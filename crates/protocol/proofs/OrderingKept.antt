@@ -18,7 +18,7 @@ use Rattle.protocol.specs.Run.{History, Operation, Put, begin, upd, bear
 use Rattle.protocol.proofs.MeasureLaws.{Passed}
 use Rattle.protocol.proofs.Cells.{by-eq}
 use Rattle.protocol.proofs.Model.{num, ver, Rows, Turn, Clients, Shown, Nodes, Past, Model, putBy, shownWritten, rowsOf, offer, notices}
-use Rattle.protocol.proofs.Model.{turned, frozenBy, begunBy, pointed, Picks, picks, Marks, Quiet, Marked, Next}
+use Rattle.protocol.proofs.Model.{turned, frozenBy, begunBy, pointed, Picks, choosing, Marks, Quiet, Marked, Next}
 use Rattle.protocol.proofs.Invariants.{Known, Forming, Own, Owned, Drawing, Lag, Lagging}
 use Rattle.protocol.proofs.Chronicle.{Current, Doing, Busy, Recording, FrozenAfter, Since, Below, Ordering}
 
@@ -458,10 +458,10 @@ ordering-kept z honest ok s t (Next.spent c b a h q l e) w d g r o =
     (λ k y i. ending-fits z s _ (s .h .latest c) _ o (y .0 .begun) refl refl refl (λ v p. absurd (none≢some (sym (y .1 .version) ∙ p))))
 ordering-kept z honest ok s t (Next.freeze c x a fl h q l e fr) w d g r o = freeze-kept z s c l x a _ h q e r o
 ordering-kept z honest ok s t (Next.empty c a h q l e pk) w d g r o =
-    turned-marked z s c l (Turn.picked a) Turn.idle e (omega arith) _ _ _ h refl r o (λ k. ending (s .h .time) (picks nonePointer k)) q refl tt
+    turned-marked z s c l (Turn.picked a) Turn.idle e (omega arith) _ _ _ h refl r o (λ k. ending (s .h .time) (choosing nonePointer k)) q refl tt
     (λ k y i. picking-fits z s _ c a nonePointer _ refl (y .1 .page) (λ j p. some-eq (sym p)) k i pk)
 ordering-kept z honest ok s t (Next.fetch c a x h q l e pk ne) w d g r o =
-    turned-marked z s c l (Turn.picked a) (Turn.fetching x 0 0 (replicate (z .n) [])) e (omega arith) _ _ _ h refl r o (picks x) q refl tt
+    turned-marked z s c l (Turn.picked a) (Turn.fetching x 0 0 (replicate (z .n) [])) e (omega arith) _ _ _ h refl r o (choosing x) q refl tt
     (λ k y i. picking-fits z s _ c a x _ refl (y .1 .page) (λ j p. absurd (none≢some (sym (y .0 .unended) ∙ p))) k i pk)
 ordering-kept z honest ok s t (Next.store c i v x rest h q hi lo up l e) w d g r o = same-kept z s _ h q r o
 ordering-kept z honest ok s t (Next.request c i v rest h q hi lo up l e) w d g r o = same-kept z s _ h q r o

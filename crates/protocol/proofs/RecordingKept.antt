@@ -16,7 +16,7 @@ use Rattle.protocol.specs.Pointer.{Pointer, nonePointer}
 use Rattle.protocol.specs.Run.{History, Operation, Put, begin, upd, bearing, ending, giving}
 use Rattle.protocol.proofs.MeasureLaws.{Passed}
 use Rattle.protocol.proofs.Cells.{by-eq}
-use Rattle.protocol.proofs.Model.{num, ver, Rows, Turn, Clients, Shown, Nodes, Past, Model, Marks, Quiet, Marked, Picks, Above, Next, turned, raisedBy, frozenBy, published, drawnBy, pointedBy, begunBy, pointed, picks}
+use Rattle.protocol.proofs.Model.{num, ver, Rows, Turn, Clients, Shown, Nodes, Past, Model, Marks, Quiet, Marked, Picks, Above, Next, turned, raisedBy, frozenBy, published, drawnBy, pointedBy, begunBy, pointed, choosing}
 use Rattle.protocol.proofs.Invariants.{Member, Known, Owned, Drawing}
 use Rattle.protocol.proofs.Chronicle.{Current, Doing, Busy, Listed, Shown as ShownAt, Deposited, Recording, Putting}
 use Rattle.protocol.proofs.MemberLaws.{member-left}
@@ -164,7 +164,7 @@ module _ (z : Measures) (s : Model) (r : Recording z s) (c : ℕ) (l : c < z .m)
       (λ f g. inr (rw g (deposited-bearing (s .h) (s .p) c bytes v (b .1) (h .replied) (b .0 .begun) (omega arith)))) (λ f g. inl (rw f at i)))
       (fair-bearing (s .h) (s .p) c bytes v (b .1) (told (b .0)) (b .0) y)
 
-  fetches : Owned z s → Putting z s → (a : Rows) (x : Pointer) (n : Nodes) (h : History) → Marked (s .h) h c (picks x)
+  fetches : Owned z s → Putting z s → (a : Rows) (x : Pointer) (n : Nodes) (h : History) → Marked (s .h) h c (choosing x)
       → s .c .turn c ≡ Turn.picked a → Picks z a c (s .c .reading c) x → (ver x ≡ 255 → ⊥)
       → Recording z (record { c = turned (s .c) c (Turn.fetching x 0 0 (replicate (z .n) [])); d = s .d; n = n; p = s .p; h = h })
   fetches ow pu a x n h q e pk ne =
@@ -172,9 +172,9 @@ module _ (z : Measures) (s : Model) (r : Recording z s) (c : ℕ) (l : c < z .m)
       let u : Turn = Turn.fetching x 0 0 (replicate (z .n) []) in
       let b = rw e at (r .doing c l) in
       let known : Known (s .p) (pk .row) x = rw (pk .offered) at ((rw e at (ow .own c l)) .1 (pk .row) (pk .within)) in
-      let m : Marking o (picks x o) = record { client = refl; page = refl; version = unborne o (some (x .version)) (b .1 .version) } in
-      marked z s r c (picks x o) l (b .0) m u (turned (s .c) c u) (λ j. refl) (s .d) n (s .p) h q (grown-same (s .p) (s .p .shown)) (λ i. tt)
-      (marked-current (s .h) c (picks x o) (b .0) (h .replied) m (b .0 .unended) (b .0 .given), picked-pointing (s .h) c x (b .1) (h .replied))
+      let m : Marking o (choosing x o) = record { client = refl; page = refl; version = unborne o (some (x .version)) (b .1 .version) } in
+      marked z s r c (choosing x o) l (b .0) m u (turned (s .c) c u) (λ j. refl) (s .d) n (s .p) h q (grown-same (s .p) (s .p .shown)) (λ i. tt)
+      (marked-current (s .h) c (choosing x o) (b .0) (h .replied) m (b .0 .unended) (b .0 .given), picked-pointing (s .h) c x (b .1) (h .replied))
       (λ v i. inl i)
       (fair-pointing (s .h) (s .p) c x (b .1) (b .0) (picked-shown (s .h) (s .p) (pk .row) x ne known (picked-listed z s pu c a x l e pk ne)))
 
@@ -194,12 +194,12 @@ module _ (z : Measures) (s : Model) (r : Recording z s) (c : ℕ) (l : c < z .m)
   closes b = ends (s .h .operation (s .h .latest c)) (record { client = refl; page = refl; version = λ v i. i }) (told b) b
 
   -- its reading found nothing put in
-  empties : (a : Rows) (h : History) → Marked (s .h) h c (λ o. ending (s .h .time) (picks nonePointer o)) → s .c .turn c ≡ Turn.picked a
+  empties : (a : Rows) (h : History) → Marked (s .h) h c (λ o. ending (s .h .time) (choosing nonePointer o)) → s .c .turn c ≡ Turn.picked a
       → Recording z (record { c = turned (s .c) c Turn.idle; d = s .d; n = s .n; p = s .p; h = h })
   empties a h q e =
       let o : Operation = s .h .operation (s .h .latest c) in
       let b = rw e at (r .doing c l) in
-      ends (picks nonePointer o) (record { client = refl; page = refl; version = unborne o (some (nonePointer .version)) (b .1 .version) })
+      ends (choosing nonePointer o) (record { client = refl; page = refl; version = unborne o (some (nonePointer .version)) (b .1 .version) })
       (fair-pointing (s .h) (s .p) c nonePointer (b .1) (b .0) (ShownAt.absent refl)) (b .0) (turned (s .c) c Turn.idle) (λ j. refl) (s .n) h q
 
   -- its reading gives a page

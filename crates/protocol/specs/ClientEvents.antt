@@ -22,7 +22,7 @@ use Rattle.protocol.specs.Nodes.{count, stands, withNode}
 use Rattle.protocol.specs.Pointer.{Pointer, isNone}
 use Rattle.protocol.specs.Directory.{Row, readDirectory, writeRecord}
 use Rattle.protocol.specs.Message.{ToNode, ToClient, readToClient, writeToNode}
-use Rattle.protocol.specs.Client.{Phase, idle, scanning, storing, updating, freezing, raising, picking, fetching, Client, readClient, writeClient, clientSize, lengths, areas}
+use Rattle.protocol.specs.Client.{Phase, idle, scanning, storing, updating, freezing, raising, picking, fetching, Client, readClient, writeClient, clientSize, freshClient, lengths, areas}
 use Rattle.protocol.specs.Deposit.{highest, digestsOf, pointerOf, depositFields, frozenAfter, freed}
 use Rattle.protocol.specs.Reading.{readingFields, pick, counts, matches, allCounted, sameVersion}
 use Rattle.protocol.specs.Answer.{ClientAnswer, refused, waits, scan, update, stores, requests, deposited, empty, page, spent, failed}
@@ -224,6 +224,13 @@ onClient s client room out (some r) f = after s client room out (r .rest) (f (r 
 abbrev pub guarded : Measures → Bool → Bool → ClientEnd → (ClientAnswer → ClientEnd) → ClientEnd
 guarded s enough within e refuse =
     cond (passes s) (cond enough (cond within e (refuse (refused 3))) (refuse (refused 2))) (refuse (refused 1))
+
+-- a fresh record is written
+unfoldable pub clientFresh : Measures → List ℕ → ClientEnd
+clientFresh s client =
+    guarded s (leb (clientSize s) (length client)) true
+    (record { answer = waits; client = writeClient s (freshClient s) ++ drop (clientSize s) client; room = []; out = [] })
+    (λ a. unchanged a client [] [])
 
 -- start of a deposit
 unfoldable pub startDeposit : Measures → ℕ → List ℕ → List ℕ → ClientEnd

@@ -8,7 +8,7 @@ use lib.ListN.{length, take, drop, getD, set}
 use Rattle.protocol.specs.declared.measures.Measures.{Measures}
 use Rattle.protocol.specs.Format.{Read, whole}
 use Rattle.protocol.specs.Measures.{passes, rowSize}
-use Rattle.protocol.specs.Directory.{Content, Row, noRow, readRecord, readDirectory, writeDirectory, updateRow}
+use Rattle.protocol.specs.Directory.{Content, Row, noRow, readRecord, readDirectory, writeDirectory, freshDirectory, updateRow}
 use Rattle.protocol.specs.Answer.{Served, refuses, serves}
 
 pub record DirectoryEnd : Type 0 where
@@ -19,6 +19,15 @@ pub record DirectoryEnd : Type 0 where
 -- the bytes of the directory table
 abbrev pub directorySize : Measures → ℕ
 directorySize s = s .m * rowSize s
+
+-- a fresh table is written
+unfoldable pub directoryFresh : Measures → List ℕ → DirectoryEnd
+directoryFresh s table =
+    cond (passes s)
+    (cond (leb (directorySize s) (length table))
+    (record { answer = serves 0; table = writeDirectory s (freshDirectory s) ++ drop (directorySize s) table; room = [] })
+    (record { answer = refuses 2; table = table; room = [] }))
+    (record { answer = refuses 1; table = table; room = [] })
 
 abbrev pub onTable : Measures → ℕ → List ℕ → Option (Read (List Row)) → Option (List (Option Content)) → DirectoryEnd
 onTable s own table none u = record { answer = refuses 4; table = table; room = [] }

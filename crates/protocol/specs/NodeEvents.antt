@@ -1,6 +1,6 @@
 -- Events at a data node (Algorithm 3): a message, its effect on the table, and the answer in a lent room.
 use mathlib.Core.Bool.{Bool, true, false, cond, _&&_, _||_}
-use mathlib.Core.List.{List, _++_}
+use mathlib.Core.List.{List, [], _++_}
 use mathlib.Core.Option.{Option, some, none}
 use Prim.Native.Nat.{ℕ, _+_, _*_}
 use lib.Dec.{leb, ltb}
@@ -25,6 +25,15 @@ tableSize s = 2 + places s * placeSize s
 
 abbrev pub answerSize : Measures → ℕ
 answerSize s = 7 + s .f
+
+-- a fresh table is written
+unfoldable pub nodeFresh : Measures → List ℕ → NodeEnd
+nodeFresh s table =
+    cond (passes s)
+    (cond (leb (tableSize s) (length table))
+    (record { answer = serves 0; table = writeTable s [] ++ drop (tableSize s) table; room = [] })
+    (record { answer = refuses 2; table = table; room = [] }))
+    (record { answer = refuses 1; table = table; room = [] })
 
 abbrev pub isHeld : Option (List ℕ) → Bool
 isHeld none = false
