@@ -44,7 +44,6 @@ pub mod CarryShows
 pub mod BringShows
 pub mod RunLaws
 pub mod ClaimHolds
-pub mod Demand
 pub mod HandLaws
 pub mod StartShows
 pub mod DepositLaws
@@ -53,3 +52,7 @@ pub mod FreeLaws
 pub mod PickLaws
 pub mod ScanShows
 pub mod HandShows
+pub mod ReplyLaws
+pub mod DeliverShows
+pub mod FreshShows
+pub mod Demand
