@@ -56,3 +56,4 @@ pub mod ReplyLaws
 pub mod DeliverShows
 pub mod FreshShows
 pub mod Demand
+pub mod ExampleRun

@@ -17,3 +17,4 @@ pub mod DirectoryEvents
 pub mod NodeEvents
 pub mod Run
 pub mod Claim
+pub mod Example
