@@ -9,31 +9,6 @@ pub fn page(s: &mut [u8]) {
     }
 }
 
-// What a slice holds before a call, so that a byte too many or too few shows.
-pub fn poison(s: &mut [u8]) {
-    let mut i = 0;
-    while i < s.len() {
-        s[i] = ((i % 256 * 13 + 170) % 256) as u8;
-        i += 1;
-    }
-}
-
-fn wide(b: u8) -> usize
-    ensures { λ r. ⌜ r < 256 ⌝ }
-{
-    b as usize
-}
-
-pub fn checksum(s: &[u8]) -> usize {
-    let mut h = 0;
-    let mut i = 0;
-    while i < s.len() {
-        h = (h * 257 + wide(s[i]) + 1) % 4294967296;
-        i += 1;
-    }
-    h
-}
-
 pub fn stands(map: u16, i: usize) -> bool
     requires { ⌜ i < 16 ⌝ }
 {

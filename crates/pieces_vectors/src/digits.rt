@@ -8,7 +8,7 @@ use coding::split::split;
 ghost use Prim.Native.Nat.{_≤_};
 
 fn chained(h: usize, s: &[u8]) -> usize {
-    (h % 4294967296 * 31 + data::checksum(s) % 4294967296) % 4294967296
+    (h % 4294967296 * 31 + vectors::checksum(s) % 4294967296) % 4294967296
 }
 
 fn of_split(a: SplitAnswer) -> usize {
@@ -19,8 +19,8 @@ fn of_split(a: SplitAnswer) -> usize {
 }
 
 fn split_digit(n: usize, k: usize, f: usize, page: &[u8], room: &mut [u8], h: usize) -> usize {
-    data::poison(room);
-    print::digit(of_split(split(n, k, f, page, room)));
+    vectors::poison(room);
+    vectors::digit(of_split(split(n, k, f, page, room)));
     chained(h, room)
 }
 
@@ -50,7 +50,7 @@ pub fn join_digit(
     out: &mut [u8],
     h: usize,
 ) -> usize {
-    data::poison(out);
-    print::digit(of_join(join(n, k, f, map, room, lens, out)));
+    vectors::poison(out);
+    vectors::digit(of_join(join(n, k, f, map, room, lens, out)));
     chained(h, out)
 }

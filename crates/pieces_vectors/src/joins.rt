@@ -9,21 +9,21 @@ use coding::split::split;
 ghost use Prim.Native.Nat.{_<_, _≤_};
 
 pub fn show(n: usize, k: usize, f: usize, map: u16, room: &[u8], lens: &[u16], out: &mut [u8]) {
-    data::poison(out);
+    vectors::poison(out);
     head(n, k, f, map, room.len(), lens.len(), out.len());
     let a = join(n, k, f, map, room, lens, out);
     answer(a, out);
-    print::number(data::checksum(room));
-    print::sum(data::checksum(out));
+    vectors::number(vectors::checksum(room));
+    print::sum(vectors::checksum(out));
 }
 
 fn head(n: usize, k: usize, f: usize, map: u16, room: usize, lens: usize, out: usize) {
     print::measures(b"join", n, k, f);
     print::map(map);
-    print::number(room);
-    print::number(lens);
-    print::number(out);
-    print::word(b":");
+    vectors::number(room);
+    vectors::number(lens);
+    vectors::number(out);
+    vectors::word(b":");
 }
 
 fn answer(a: JoinAnswer, out: &[u8]) {
@@ -34,8 +34,8 @@ fn answer(a: JoinAnswer, out: &[u8]) {
 }
 
 fn page(len: usize, out: &[u8]) {
-    print::word(b" page");
-    print::number(len);
+    vectors::word(b" page");
+    vectors::number(len);
     if len < 18 {
         print::front(out, len);
     }
@@ -54,7 +54,7 @@ pub fn pieces(n: usize, k: usize, f: usize, len: usize, room: &mut [u8]) -> usiz
 {
     let mut page = [0u8; 4100];
     data::page(&mut page);
-    data::poison(room);
+    vectors::poison(room);
     piece_length(split(n, k, f, &page[0..len], room))
 }
 

@@ -6,9 +6,9 @@ use crate::splits;
 
 fn equal(a: &[u8], b: &[u8]) {
     if check::same(a, b) {
-        print::word(b"equal\n");
+        vectors::word(b"equal\n");
     } else {
-        print::word(b"different\n");
+        vectors::word(b"different\n");
     }
 }
 

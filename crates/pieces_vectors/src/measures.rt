@@ -57,7 +57,7 @@ fn join_of(n: usize, k: usize, f: usize, map: u16, count: usize, size: usize, h:
 // A room too short for a page too long, a page too long, neither; then slices too short for a wrong map, a wrong map, and no
 // piece.
 fn answers(n: usize, k: usize, f: usize, h: usize) -> usize {
-    print::word(b" ");
+    vectors::word(b" ");
     let h = split_of(n, k, f, 200, 0, h);
     let h = split_of(n, k, f, 200, 128, h);
     let h = split_of(n, k, f, 0, 128, h);
@@ -67,10 +67,10 @@ fn answers(n: usize, k: usize, f: usize, h: usize) -> usize {
 }
 
 fn line(n: usize, f: usize) {
-    print::word(b"measures");
-    print::number(n);
-    print::number(f);
-    print::word(b":");
+    vectors::word(b"measures");
+    vectors::number(n);
+    vectors::number(f);
+    vectors::word(b":");
     print::sum(every_k(n, f));
 }
 

@@ -4,39 +4,25 @@ use libc::STDOUT_FILENO;
 ghost use mathlib.Core.Path.{_≡_};
 ghost use Rattle.coding.specs.Answer.{number as numberOf};
 
-pub fn word(s: &[u8]) {
-    io::write_all(STDOUT_FILENO, s);
-}
-
-pub fn digit(x: usize) {
-    io::print_decimal(STDOUT_FILENO, x as u64);
-}
-
-// A number after a space.
-pub fn number(x: usize) {
-    word(b" ");
-    digit(x);
-}
-
 // A bit map after a space, in hexadecimal.
 pub fn map(x: u16) {
-    word(b" ");
+    vectors::word(b" ");
     io::print_hex(STDOUT_FILENO, x as u64, 4);
 }
 
 // The start of a line.
 pub fn measures(name: &[u8], n: usize, k: usize, f: usize) {
-    word(name);
-    number(n);
-    number(k);
-    number(f);
+    vectors::word(name);
+    vectors::number(n);
+    vectors::number(k);
+    vectors::number(f);
 }
 
 // The end of a line.
 pub fn sum(x: usize) {
-    word(b" sum");
-    number(x);
-    word(b"\n");
+    vectors::word(b" sum");
+    vectors::number(x);
+    vectors::word(b"\n");
 }
 
 fn byte(b: u8) {
@@ -45,7 +31,7 @@ fn byte(b: u8) {
 
 // The first bytes of s, after a space.
 pub fn front(s: &[u8], len: usize) {
-    word(b" ");
+    vectors::word(b" ");
     bytes(s, len);
 }
 
@@ -73,7 +59,7 @@ pub fn fronts(room: &[u8], f: usize, len: usize) {
 // A byte of an area, and the next byte's column.
 fn in_area(b: u8, column: usize, f: usize, len: usize) -> usize {
     if column == 0 {
-        word(b" ");
+        vectors::word(b" ");
     }
     if column < len {
         byte(b);
@@ -85,8 +71,8 @@ fn in_area(b: u8, column: usize, f: usize, len: usize) -> usize {
 }
 
 pub fn refused(r: Refusal) {
-    word(b" refused");
-    number(document_number(r));
+    vectors::word(b" refused");
+    vectors::number(document_number(r));
 }
 
 pub fn document_number(r: Refusal) -> usize

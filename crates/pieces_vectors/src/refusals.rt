@@ -16,7 +16,7 @@ fn less(x: usize, yes: usize) -> usize
 fn splits_of(n: usize, k: usize, f: usize, full: usize, size: usize) -> usize
     requires { ⌜ (full < 4100) × (size ≤ 4100) ⌝ }
 {
-    print::word(b" ");
+    vectors::word(b" ");
     let mut h = 0;
     let mut i = 0;
     while i < 4 {
@@ -70,7 +70,7 @@ fn joins_of(
 ) -> usize
     requires { ⌜ (len ≤ 4100) × (size ≤ 4100) × (n ≤ 16) × (out ≤ 4100) ⌝ }
 {
-    print::word(b" ");
+    vectors::word(b" ");
     let mut h = h;
     let mut i = 0;
     while i < 8 {
@@ -96,7 +96,7 @@ fn fit(n: usize, k: usize, f: usize, map: u16, size: usize, full: usize)
     requires { ⌜ (n ≤ 16) × (size ≤ 4100) × (full < 4100) ⌝ }
 {
     print::measures(b"fit", n, k, f);
-    print::word(b":");
+    vectors::word(b":");
     let h = splits_of(n, k, f, full, size);
     let lens = [(f % 65536) as u16; 16];
     print::sum(joins_of(n, k, f, map, full, lens, size, full, h));
@@ -128,9 +128,9 @@ fn lengths(i: usize) -> [u16; 16]
 
 // 3 of 4 nodes: every wrong length with every choice of slices too short.
 fn order(map: u16) {
-    print::word(b"order");
+    vectors::word(b"order");
     print::map(map);
-    print::word(b":");
+    vectors::word(b":");
     print::sum(every_length(map));
 }
 

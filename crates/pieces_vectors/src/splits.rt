@@ -6,18 +6,18 @@ use coding::split::split;
 ghost use Prim.Native.Nat.{_≤_};
 
 pub fn show(n: usize, k: usize, f: usize, page: &[u8], room: &mut [u8]) {
-    data::poison(room);
+    vectors::poison(room);
     head(n, k, f, page, room);
     let a = split(n, k, f, page, room);
     answer(a, f, page.len(), room);
-    print::sum(data::checksum(room));
+    print::sum(vectors::checksum(room));
 }
 
 fn head(n: usize, k: usize, f: usize, page: &[u8], room: &[u8]) {
     print::measures(b"split", n, k, f);
-    print::number(page.len());
-    print::number(room.len());
-    print::word(b":");
+    vectors::number(page.len());
+    vectors::number(room.len());
+    vectors::word(b":");
 }
 
 fn answer(a: SplitAnswer, f: usize, page: usize, room: &[u8]) {
@@ -28,8 +28,8 @@ fn answer(a: SplitAnswer, f: usize, page: usize, room: &[u8]) {
 }
 
 fn pieces(f: usize, len: usize, page: usize, room: &[u8]) {
-    print::word(b" pieces");
-    print::number(len);
+    vectors::word(b" pieces");
+    vectors::number(len);
     if page < 18 {
         print::fronts(room, f, len);
     }

@@ -3,8 +3,8 @@ use Prim.Native.Nat.{_≤_, _-_}
 use mathlib.Core.Path.{_≡_}
 use lib.ListN.{length}
 use borrow.Author.Needs.{needs}
-use Rattle.pieces_vectors.proofs.data.poison.Statement.{statement}
-use Rattle.pieces_vectors.proofs.data.poison.Tie as tie
+use Rattle.vectors.proofs.poison.Statement.{statement}
+use Rattle.vectors.proofs.poison.Tie as tie
 
 abbrev Inv-loop : tie.InvT-loop
 Inv-loop s₀ i₀ s i = (i ≤ length s₀) × (length s ≡ length s₀)

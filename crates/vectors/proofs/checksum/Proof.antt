@@ -2,8 +2,8 @@
 use Prim.Native.Nat.{_≤_, _<_, _-_}
 use lib.ListN.{length}
 use borrow.Author.Needs.{needs}
-use Rattle.pieces_vectors.proofs.data.checksum.Statement.{statement}
-use Rattle.pieces_vectors.proofs.data.checksum.Tie as tie
+use Rattle.vectors.proofs.checksum.Statement.{statement}
+use Rattle.vectors.proofs.checksum.Tie as tie
 
 abbrev Inv-loop : tie.InvT-loop
 Inv-loop s h₀ i₀ h i = (i ≤ length s) × (h < 4294967296)
