@@ -1,4 +1,4 @@
--- What is acknowledged has arrived, what is replied is true, and every step leaves it so.
+-- What is acknowledged has arrived, and what is replied is true: every step keeps `Arriving`.
 use mathlib.Core.Path.{_≡_, refl, sym, ap, _∙_, subst}
 use mathlib.Core.Bool.{Bool, true, false, cond, true≢false}
 use mathlib.Core.Logic.{_⊎_, inl, inr}
@@ -20,19 +20,20 @@ use Rattle.protocol.specs.NodeEvents.{isHeld}
 use Rattle.protocol.specs.Message.{ToNode, ToClient, answer}
 use Rattle.protocol.specs.Deposit.{pointerOf}
 use Rattle.protocol.specs.Run.{History, upd, upd₂}
-use Rattle.protocol.proofs.FormatLaws.{Each}
-use Rattle.protocol.proofs.MeasureLaws.{Passed}
-use Rattle.protocol.proofs.ClientLaws.{each-as}
 use Rattle.protocol.proofs.Cells.{by-eq, by-two, two-same}
+use Rattle.protocol.proofs.FormatLaws.{Each}
+use Rattle.protocol.proofs.EachLaws.{each-as, each-append}
+use Rattle.protocol.proofs.MeasureLaws.{Passed}
 use Rattle.protocol.proofs.NodeMapLaws.{with-others, stands-none}
-use Rattle.protocol.proofs.Model.{num, ver, Turn, Clients, Rows, Shown, Nodes, Past, Model, newest, last, rowsOf, notices, drawnBy, frozenBy}
-use Rattle.protocol.proofs.Model.{sent, served, with-toClient, pointed, Comes, Next}
-use Rattle.protocol.proofs.Invariants.{Own, Owned, Drawing, Current, Keeps, Stocked, Stocking, NoStore, Sound, Once}
-use Rattle.protocol.proofs.Invariants.{Arrived, Truthful, Acked, Arriving}
+use Rattle.protocol.proofs.Model.{num, ver, Turn, Clients, Rows, Shown, Nodes, Past, Model, newest, last, rowsOf, notices}
+use Rattle.protocol.proofs.Model.{drawnBy, frozenBy, sent, served, with-toClient, pointed, Comes, Next}
+use Rattle.protocol.proofs.Invariants.{Own, Owned, Drawing, Current, Keeps, Stocked, Stocking, NoStore, Sound, Once, Arrived, Truthful, Acked, Arriving}
 use Rattle.protocol.proofs.VersionNumbers.{num-eq}
-use Rattle.protocol.proofs.StockLaws.{kept-held}
 use Rattle.protocol.proofs.DrawLaws.{draw-above, draw-new, draw-pages}
-use Rattle.protocol.proofs.QueueLaws.{each-append, no-store-append, no-store-tail, once-tail, once-append, asked-stores, asked-once, hand-each}
+use Rattle.protocol.proofs.QueueLaws.{no-store-append, no-store-tail, once-tail, once-append, asked-stores, asked-once, hand-each}
+use Rattle.protocol.proofs.PlaysLaws.{keeps-as}
+use Rattle.protocol.proofs.StockLaws.{kept-held}
+use Rattle.protocol.proofs.LaggingKept.{moved}
 
 -- the messages from honest nodes are true of a model
 abbrev Messages : Measures → (ℕ → Bool) → Model → (ℕ → ℕ → List ToClient) → Type 0
@@ -86,12 +87,9 @@ module _ (z : Measures) (honest : ℕ → Bool) (s t : Model) (y : Lasting z hon
 
 -- its turn is new
 keeps-turned : (z : Measures) (k : Clients) (c : ℕ) (u : Turn) (r : ℕ → ℕ) (w : ℕ) (v : Version) → (Current u v → Keeps z k c v)
-    → Keeps z (record { turn = upd (k .turn) c u; written = k .written; frozen = k .frozen; reserved = k .reserved; indices = k .indices; reading = r }) w v
-    → Keeps z k w v
-keeps-turned z k c u r w v n (Keeps.current p) = by-eq w c (λ f g. rw g (n (rw f at p))) (λ f g. Keeps.current (rw f at p))
-keeps-turned z k c u r w v n (Keeps.written p) = Keeps.written p
-keeps-turned z k c u r w v n (Keeps.frozen q l p) = Keeps.frozen q l p
-keeps-turned z k c u r w v n (Keeps.reserved q l p) = Keeps.reserved q l p
+    → Keeps z (moved k c u r) w v → Keeps z k w v
+keeps-turned z k c u r w v n =
+    keeps-as z (moved k c u r) k w v (λ p. by-eq w c (λ f g. rw g (n (rw f at p))) (λ f g. Keeps.current (rw f at p))) refl refl refl
 
 -- its deposit's end keeps nothing more
 keeps-frozen : (z : Measures) (k : Clients) (c : ℕ) (x : Pointer) (a : Rows) → k .turn c ≡ Turn.noticing x a → (w : ℕ) (v : Version)
@@ -118,8 +116,7 @@ keeps-frozen z k c x a e w v (Keeps.reserved q l p) =
 abbrev Then : Model → ℕ → Turn → (ℕ → ℕ) → Shown → (ℕ → ℕ → List ToClient) → (ℕ → Pointer) → (ℕ → ℕ → ℕ) → History → Model
 Then s c u r d q ptrs sh h =
     record {
-      c =
-          record { turn = upd (s .c .turn) c u; written = s .c .written; frozen = s .c .frozen; reserved = s .c .reserved; indices = s .c .indices; reading = r };
+      c = moved (s .c) c u r;
       d = d;
       n = with-toClient (s .n) q;
       p = record { drawn = s .p .drawn; pages = s .p .pages; deposits = s .p .deposits; pointers = ptrs; shown = sh };
@@ -288,7 +285,7 @@ module _ (z : Measures) (honest : ℕ → Bool) (s : Model) (o : Owned z s) (a :
   answered-arriving n =
       taken-arriving z honest s o a c i rest (upd (s .n .held) i tab) queues h fewer less
       (by-two (λ j w q. honest j ≡ true → 1 ≤ j → j ≤ z .n → w < z .m → Each (Truthful z Answered j w) q) (s .n .toClient) i c (s .n .toClient i c ++ (r ∷ []))
-      (λ hi lo up l. each-append (Truthful z Answered i c) (s .n .toClient i c) r (old i c hi lo up l) n) old)
+      (λ hi lo up l. each-append (Truthful z Answered i c) (s .n .toClient i c) (r ∷ []) (old i c hi lo up l) (n, tt)) old)
     where
       queues : ℕ → ℕ → List ToClient
       queues = upd₂ (s .n .toClient) i c (s .n .toClient i c ++ (r ∷ []))

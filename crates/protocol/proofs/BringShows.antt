@@ -27,20 +27,16 @@ use Rattle.protocol.specs.NodeEvents.{NodeEnd, isHeld, heldAfter, answer
 use Rattle.protocol.specs.Run.{State, bring, nothing as noAnswer, byServer, tick, stays, keeps, lost, brought, carryOut}
 use Rattle.protocol.proofs.Cells.{by-eq}
 use Rattle.protocol.proofs.FormatLaws.{Each}
+use Rattle.protocol.proofs.EachLaws.{each-append}
 use Rattle.protocol.proofs.MeasureLaws.{passed as measures}
 use Rattle.protocol.proofs.NodeTableLaws.{GoodHeld, FitsPlace, GoodTable, format-table, length-table}
 use Rattle.protocol.proofs.NodeLaws.{keep-length, keep-good, release-good}
 use Rattle.protocol.proofs.MessageLaws.{GoodNamedVersion, GoodStored, GoodToNode, GoodToClient, message-to-node}
 use Rattle.protocol.proofs.Model.{Model, Next, Quiet, served}
+use Rattle.protocol.proofs.QueueLaws.{hand-each}
 use Rattle.protocol.proofs.Invariant.{Invariant}
 use Rattle.protocol.proofs.View.{Shows, Follows, TableShows, ToClientShows}
-use Rattle.protocol.proofs.ViewLaws.{sane-number, sane-quiet, quiet-tick, stays-follows}
-
--- ---- lists
-
-each-append : {A : Type 0} (g : A → Type 0) (l : List A) (a : A) → Each g l → g a → Each g (l ++ (a ∷ []))
-each-append g [] a e h = (h, tt)
-each-append g (b ∷ l) a e h = (e .0, each-append g l a (e .1) h)
+use Rattle.protocol.proofs.ViewLaws.{sane-quiet, ordinary, silent-follows, refused-follows, quiet-shown}
 
 -- ---- tables
 
@@ -77,30 +73,25 @@ stored-good z p v x g h =
 
 -- what a table hands back is well formed
 hand-good : (z : Measures) (v : Version) (l : List Held) → Each (FitsPlace z) l → GoodNamedVersion z v → GoodToClient z (answer v (handBack v l))
-unfolding handBack
-hand-good z v [] f n = n
-hand-good z v (x ∷ l) f n = go (hand-good z v l (f .1) n) (below v (x .version)) (below (x .version) v)
+hand-good z v l f n = go (handBack v l) refl
   where
-    go : GoodToClient z (answer v (handBack v l)) → (a b : Bool) → GoodToClient z (answer v (cond a nothing (cond b (handBack v l) (some (x .piece)))))
-    go ih true b = n
-    go ih false true = ih
-    go ih false false = (n, f .0 .0 .0 .0 .1 .1 .0)
+    go : (x : Option (List ℕ)) → handBack v l ≡ x → GoodToClient z (answer v x)
+    go nothing e = n
+    go (some x) e = (n, hand-each (FitsPlace z) v x l f e .0 .0 .0 .1 .1 .0)
 
 module _ (z : Measures) (honest : ℕ → Bool) (passed : passes z ≡ true) (st : State) (s : Model) (o : Shows z honest st s) (c i : ℕ) (room : List ℕ) where
   -- ---- nothing happens
 
   still : Follows z honest s (bring c i room) (stays noAnswer (tick (st .history)) st)
-  still = stays-follows z honest st s o (bring c i room) noAnswer (tick (st .history)) (quiet-tick (st .history)) (sane-quiet (bring c i room) noAnswer refl)
+  still = silent-follows z honest st s o (bring c i room)
 
   -- refused before the bytes are looked at
-  refusal : (q : List (List ℕ)) (n : ℕ) → n < 4
+  refusal : (q : List (List ℕ)) (n : ℕ) → ordinary n ≡ true
       → Follows z honest s (bring c i room) (keeps c i q (record { answer = refuses n; table = st .nodes i; room = room }) (refuses n) st)
-  refusal q n f =
-      stays-follows z honest st s o (bring c i room) (byServer (refuses n)) (tick (st .history)) (quiet-tick (st .history))
-      (sane-number (bring c i room) (byServer (refuses n)) n refl (λ e. omega arith) (λ e. omega arith) (λ e. omega arith))
+  refusal q n p = refused-follows z honest st s o (bring c i room) (byServer (refuses n)) n refl p
 
   quiet : Quiet (s .h) (tick (st .history))
-  quiet = rw (← o .history) (quiet-tick (st .history))
+  quiet = quiet-shown z honest st s o
 
   -- ---- a dishonest node's message is gone
 
@@ -139,8 +130,8 @@ module _ (z : Measures) (honest : ℕ → Bool) (passed : passes z ≡ true) (st
     where
       go : (b : Bool) → (leb (tableSize z) (length (st .nodes i)) && leb (answerSize z) (length room)) ≡ b
           → Follows z honest s (bring c i room) (brought z honest c i room (m ∷ q) st)
-      go true e = rw (h, passed, e, out) (refusal q 3 (omega arith))
-      go false e = rw (h, passed, e) (refusal q 2 (omega arith))
+      go true e = rw (h, passed, e, out) (refusal q 3 refl)
+      go false e = rw (h, passed, e) (refusal q 2 refl)
 
   -- ---- an honest node with a message of a client
 
@@ -209,7 +200,7 @@ module _ (z : Measures) (honest : ℕ → Bool) (passed : passes z ≡ true) (st
             record {
               bytes = rw (take-append-seam (writeToClient a) (drop (length (writeToClient a)) room), w .bytes)
                   (sym (map-append writeToClient (s .n .toClient i c) (a ∷ [])));
-              good = each-append (GoodToClient z) (s .n .toClient i c) a (w .good) ga;
+              good = each-append (GoodToClient z) (s .n .toClient i c) (a ∷ []) (w .good) (ga, tt);
             }
 
     -- a message that the table has room for: the step, and what the bytes show after it
@@ -231,7 +222,7 @@ module _ (z : Measures) (honest : ℕ → Bool) (passed : passes z ≡ true) (st
     short : (m : List ℕ) (q : List (List ℕ)) → leb (answerSize z) (length room) ≡ false
         → Follows z honest s (bring c i room) (brought z honest c i room (m ∷ q) st)
     unfolding nodeMessage
-    short m q e = rw (h, passed, enough, e) (refusal q 2 (omega arith))
+    short m q e = rw (h, passed, enough, e) (refusal q 2 refl)
 
     -- a new version finds a free place
     fits : (v : Version) (x : List ℕ) → (isHeld (handBack v (s .n .held i)) ≡ true) ⊎ (length (s .n .held i) < places z)

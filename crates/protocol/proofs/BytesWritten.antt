@@ -12,11 +12,12 @@ use Rattle.protocol.specs.declared.version.Version.{Version}
 use Rattle.protocol.specs.Format.{writeNumber, writeMany, writeArea}
 use Rattle.protocol.specs.Measures.{pointerSize, rowSize, places, placeSize}
 use Rattle.protocol.specs.Pointer.{Pointer, writeVersion, writeNamed, writePointer}
-use Rattle.protocol.specs.Directory.{Field, pointers, indices, Content, pointersOf, indicesOf, fields, mapOf, writeIndex, writeContent, writeFields, writeRecord}
-use Rattle.protocol.specs.Directory.{Row, rowFields, writeRow, writeDirectory}
+use Rattle.protocol.specs.Directory.{Field, pointers, indices, Content, pointersOf, indicesOf, fields, mapOf, writeIndex}
+use Rattle.protocol.specs.Directory.{writeContent, writeFields, writeRecord, Row, rowFields, writeRow, writeDirectory}
 use Rattle.protocol.specs.NodeTable.{Held, writePiece, writeHeld, writePlaces, writeTable}
 use Rattle.protocol.specs.Message.{ToNode, ToClient, writeToNode, writeToClient}
-use Rattle.protocol.specs.Client.{Phase, Client, step, writePage, writeStores, lengths, areas, writePieces, writeFetches, writeWork, workSize, writeRetained, retained, writeClient}
+use Rattle.protocol.specs.Client.{Phase, Client, step, writePage, writeStores, lengths, areas, writePieces}
+use Rattle.protocol.specs.Client.{writeFetches, writeWork, workSize, writeRetained, retained, writeClient}
 use Rattle.protocol.proofs.FormatLaws.{Each}
 use Rattle.protocol.proofs.PointerLaws.{GoodPointer}
 use Rattle.protocol.proofs.DirectoryLaws.{GoodIndex, GoodContent, GoodFields, GoodRecord}
@@ -144,11 +145,14 @@ unfolding writeMany
 bytes-lengths [] = bytes-nil
 bytes-lengths (l ∷ ls) = bytes-append (writeNumber 2 l) (writeMany (writeNumber 2) ls) (bytes-number 2 l) (bytes-lengths ls)
 
+pub bytes-areas : (s : Measures) (ps : List (List ℕ)) → Each (ShortPiece s) ps → Bytes (areas s ps)
+bytes-areas s = bytes-many (writeArea (s .f) (λ p. p)) (ShortPiece s) (λ p h. bytes-area (s .f) (λ p. p) p (h .0))
+
 bytes-pieces : (s : Measures) (ps : List (List ℕ)) → Each (ShortPiece s) ps → Bytes (writePieces s ps)
 unfolding writePieces
 bytes-pieces s ps g =
     bytes-append (writeMany (writeNumber 2) (lengths ps)) (areas s ps) (bytes-lengths (lengths ps))
-    (bytes-many (writeArea (s .f) (λ p. p)) (ShortPiece s) (λ p h. bytes-area (s .f) (λ p. p) p (h .0)) ps g)
+    (bytes-areas s ps g)
 
 bytes-work : (s : Measures) (p : Phase) → GoodPhase s p → Bytes (writeWork s p)
 unfolding writeWork writePage writeStores writeFetches

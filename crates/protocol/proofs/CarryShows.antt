@@ -15,45 +15,30 @@ use Rattle.coding.proofs.BytesLaws.{length-tabulate, getD-tabulate, tabulate-ex
 use Rattle.protocol.specs.declared.measures.Measures.{Measures}
 use Rattle.protocol.specs.declared.version.ReadingIndex.{ReadingIndex}
 use Rattle.protocol.specs.Format.{whole}
-use Rattle.protocol.specs.Measures.{passes, rowSize}
+use Rattle.protocol.specs.Measures.{passes}
 use Rattle.protocol.specs.Pointer.{Pointer}
-use Rattle.protocol.specs.Directory.{Content, Row, noRow, writeRow, readRecord, writeRecord, readDirectory, writeDirectory, updateRow, merge, mapOf}
+use Rattle.protocol.specs.Directory.{Content, Row, noRow, readRecord, writeRecord, readDirectory, writeDirectory, updateRow, merge, mapOf}
 use Rattle.protocol.specs.Client.{Phase, Client, writeClient}
 use Rattle.protocol.specs.Deposit.{depositFields}
 use Rattle.protocol.specs.Reading.{readingFields}
 use Rattle.protocol.specs.Answer.{refuses, serves}
 use Rattle.protocol.specs.ClientEvents.{withPhase}
 use Rattle.protocol.specs.DirectoryEvents.{DirectoryEnd, directorySize, onTable, directoryUpdate, scanned, directoryScan}
-use Rattle.protocol.specs.Run.{History, Call, scanCall, updateCall, Return, updated, rows, State, nothing as silent, byServer, upd, tick}
-use Rattle.protocol.specs.Run.{putBy as putsOf, putIn, stays, carries, carry, carryOut}
+use Rattle.protocol.specs.Run.{History, Call, scanCall, updateCall, Return, updated, rows, State, byServer, upd}
+use Rattle.protocol.specs.Run.{tick, putBy as putsOf, putIn, stays, carries, carry, carryOut}
 use Rattle.protocol.proofs.Cells.{by-eq}
-use Rattle.protocol.proofs.FormatLaws.{Each}
 use Rattle.protocol.proofs.PointerLaws.{GoodPointer}
 use Rattle.protocol.proofs.DirectoryLaws.{GoodIndex, GoodRecord, format-record}
-use Rattle.protocol.proofs.RowLaws.{FitsRow, GoodRow, format-directory, row-fits, length-directory, update-good}
+use Rattle.protocol.proofs.RowLaws.{GoodRow, update-good}
 use Rattle.protocol.proofs.MessageLaws.{message-whole}
 use Rattle.protocol.proofs.ClientLaws.{GoodClient}
 use Rattle.protocol.proofs.Model.{Rows, Turn, Shown, Model, Next, Marks, Quiet, rowsOf, turned, published, putBy, raisedTo}
 use Rattle.protocol.proofs.Invariant.{Invariant}
 use Rattle.protocol.proofs.View.{Shows, Follows, ClientShows, DirectoryShows, GoodRows, GoodTurn, phaseOf, clientAt, rowAt, rowsAt, callsOf, returnsOf}
-use Rattle.protocol.proofs.ViewLaws.{sane-number, sane-quiet, quiet-tick, stays-follows, others-turned, rows-turned}
-use Rattle.protocol.proofs.GoodLaws.{each-tabulate}
+use Rattle.protocol.proofs.ViewLaws.{sane-quiet, others-turned, rows-turned, read-rows, length-rows}
+use Rattle.protocol.proofs.ViewLaws.{ordinary, silent-follows, refused-follows, quiet-shown}
 
--- ---- rows read back
-
-module _ (z : Measures) (a : Rows) (g : GoodRows z a) where
-  fits-rows : Each (FitsRow z) (rowsAt z a)
-  fits-rows =
-      each-tabulate (FitsRow z) (z .m) (rowAt z a)
-      (λ w l. ((g w l, tt), le-leb (length (writeRow (rowAt z a w))) (rowSize z) (row-fits z (rowAt z a w) (g w l))))
-
-  pub read-rows : readDirectory z (writeDirectory z (rowsAt z a)) ≡ some (record { value = rowsAt z a; rest = [] })
-  read-rows =
-      ap (readDirectory z) (sym (append-nil (writeDirectory z (rowsAt z a))))
-      ∙ format-directory z .back (rowsAt z a) (fits-rows, length-tabulate (z .m) (rowAt z a)) []
-
-  pub length-rows : length (writeDirectory z (rowsAt z a)) ≡ directorySize z
-  length-rows = length-directory z (rowsAt z a) fits-rows (length-tabulate (z .m) (rowAt z a))
+-- ---- an update of a row
 
 -- what is stored in a tabulated list
 pub set-tabulate : {A : Type 0} (n : ℕ) (f : ℕ → A) (c : ℕ) (v : A) → c < n → set (tabulate n f) c v ≡ tabulate n (upd f c v)
@@ -68,8 +53,6 @@ set-tabulate n f c v l =
     getD-stored i h =
         by-eq i c (λ e q. rw e (rw q (getD-set-same (tabulate n f) c v v (omega (arith, length-tabulate n f)))))
         (λ e q. rw e (getD-set-other (tabulate n f) c i v v q ∙ getD-tabulate n f i v h))
-
--- ---- an update of a row
 
 module _ (z : Measures) (u : List (Option Content)) (g : GoodRecord z u) where
   -- its record reads back
@@ -122,16 +105,12 @@ module _ (z : Measures) (honest : ℕ → Bool) (passed : passes z ≡ true) (st
   queue : {t : Turn} → c < z .m → s .c .turn c ≡ t → st .calls c ≡ callsOf (clientAt z (s .c) c) t
   queue l e = o .client c l .calls ∙ ap (callsOf (clientAt z (s .c) c)) e
 
-  -- nothing happens to operations
   quiet : Quiet (s .h) (tick (st .history))
-  quiet = subst (λ (h : History). Quiet h (tick (st .history))) (o .history) (quiet-tick (st .history))
+  quiet = quiet-shown z honest st s o
 
   -- a call that is refused
-  refuses-follows : (room : List ℕ) (n : ℕ) → (n ≡ 4 → ⊥) → (n ≡ 8 → ⊥) → (n ≡ 9 → ⊥)
-      → Follows z honest s (carry c room) (stays (byServer (refuses n)) (tick (st .history)) st)
-  refuses-follows room n four eight nine =
-      stays-follows z honest st s o (carry c room) (byServer (refuses n)) (tick (st .history)) (quiet-tick (st .history))
-      (sane-number (carry c room) (byServer (refuses n)) n refl four eight nine)
+  refuses-follows : (room : List ℕ) (n : ℕ) → ordinary n ≡ true → Follows z honest s (carry c room) (stays (byServer (refuses n)) (tick (st .history)) st)
+  refuses-follows room n p = refused-follows z honest st s o (carry c room) (byServer (refuses n)) n refl p
 
   -- ---- a call that is carried out
 
@@ -223,7 +202,7 @@ module _ (z : Measures) (honest : ℕ → Bool) (passed : passes z ≡ true) (st
           → Follows z honest s (carry c room) (carries z c room (st .calls c) st)
       unfolding after answered
       scan-follows q (no short) next put raised phase good called before returned =
-          rw (q, scan-short (omega arith)) (refuses-follows room 2 (λ x. omega arith) (λ x. omega arith) (λ x. omega arith))
+          rw (q, scan-short (omega arith)) (refuses-follows room 2 refl)
       scan-follows q (yes h) next put raised phase good called before returned =
           rw (q, scan-long h)
           (record {
@@ -338,32 +317,30 @@ module _ (z : Measures) (honest : ℕ → Bool) (passed : passes z ≡ true) (st
   -- ---- by the client's turn
 
   -- nothing is under way
-  silent-follows : (room : List ℕ) → st .calls c ≡ [] → Follows z honest s (carry c room) (carries z c room (st .calls c) st)
-  silent-follows room q =
-      rw q
-      (stays-follows z honest st s o (carry c room) silent (tick (st .history)) (quiet-tick (st .history)) (sane-quiet (carry c room) silent refl))
+  no-call : (room : List ℕ) → st .calls c ≡ [] → Follows z honest s (carry c room) (carries z c room (st .calls c) st)
+  no-call room q = rw q (silent-follows z honest st s o (carry c room))
 
   by-turn : (room : List ℕ) (l : c < z .m) (t : Turn) → s .c .turn c ≡ t → Follows z honest s (carry c room) (carries z c room (st .calls c) st)
   unfolding after
-  by-turn room l Turn.idle e = silent-follows room (queue l e)
+  by-turn room l Turn.idle e = no-call room (queue l e)
   by-turn room l (Turn.scanning bytes) e =
       scan-follows room l (Turn.scanned bytes (rowsOf s)) (queue l e) (decLe (directorySize z) (length room))
       (Next.scan-first c bytes (tick (st .history)) quiet l e) (rw e refl) (rw e refl) (rw e refl) (o .directory .good) (λ k. refl) (rw e refl) refl
-  by-turn room l (Turn.scanned bytes a) e = silent-follows room (queue l e)
-  by-turn room l (Turn.storing v bytes a) e = silent-follows room (queue l e)
+  by-turn room l (Turn.scanned bytes a) e = no-call room (queue l e)
+  by-turn room l (Turn.storing v bytes a) e = no-call room (queue l e)
   by-turn room l (Turn.updating x) e = deposit-updates x l room e
-  by-turn room l (Turn.updated x) e = silent-follows room (queue l e)
+  by-turn room l (Turn.updated x) e = no-call room (queue l e)
   by-turn room l (Turn.freezing x) e =
       scan-follows room l (Turn.noticing x (rowsOf s)) (queue l e) (decLe (directorySize z) (length room))
       (Next.scan-second c x (tick (st .history)) quiet l e) (rw e refl) (rw e refl) (rw e refl) (o .directory .good) (λ k. refl) (rw e refl) refl
-  by-turn room l (Turn.noticing x a) e = silent-follows room (queue l e)
+  by-turn room l (Turn.noticing x a) e = no-call room (queue l e)
   by-turn room l Turn.raising e = reading-updates l room e
-  by-turn room l Turn.raised e = silent-follows room (queue l e)
+  by-turn room l Turn.raised e = no-call room (queue l e)
   by-turn room l Turn.picking e =
       scan-follows room l (Turn.picked (rowsOf s)) (queue l e) (decLe (directorySize z) (length room))
       (Next.scan-reading c (tick (st .history)) quiet l e) (rw e refl) (rw e refl) (rw e refl) (o .directory .good) (λ k. refl) (rw e refl) refl
-  by-turn room l (Turn.picked a) e = silent-follows room (queue l e)
-  by-turn room l (Turn.fetching x n m ps) e = silent-follows room (queue l e)
+  by-turn room l (Turn.picked a) e = no-call room (queue l e)
+  by-turn room l (Turn.fetching x n m ps) e = no-call room (queue l e)
 
   -- ---- a stranger's call
 
@@ -371,7 +348,7 @@ module _ (z : Measures) (honest : ℕ → Bool) (passed : passes z ≡ true) (st
     -- a scan answers into a queue that nobody reads
     stranger-scan : (q : List Call) → Dec (directorySize z ≤ length room) → Follows z honest s (carry c room) (carries z c room (scanCall ∷ q) st)
     unfolding answered
-    stranger-scan q (no short) = rw (scan-short room (omega arith)) (refuses-follows room 2 (λ x. omega arith) (λ x. omega arith) (λ x. omega arith))
+    stranger-scan q (no short) = rw (scan-short room (omega arith)) (refuses-follows room 2 refl)
     stranger-scan q (yes h) =
         rw (scan-long room h)
         (record {
@@ -395,10 +372,10 @@ module _ (z : Measures) (honest : ℕ → Bool) (passed : passes z ≡ true) (st
     stranger-update : (fields : List ℕ) (q : List Call) → Follows z honest s (carry c room) (carries z c room (updateCall fields ∷ q) st)
     unfolding directoryUpdate
     stranger-update fields q =
-        rw (passed, long, le-ltb c (z .m) l) (refuses-follows room 3 (λ x. omega arith) (λ x. omega arith) (λ x. omega arith))
+        rw (passed, long, le-ltb c (z .m) l) (refuses-follows room 3 refl)
 
     stranger : (q : List Call) → st .calls c ≡ q → Follows z honest s (carry c room) (carries z c room (st .calls c) st)
-    stranger [] e = silent-follows room e
+    stranger [] e = no-call room e
     stranger (scanCall ∷ q) e = rw e (stranger-scan q (decLe (directorySize z) (length room)))
     stranger (updateCall fields ∷ q) e = rw e (stranger-update fields q)
 

@@ -1,16 +1,15 @@
 -- What holds of the history in every model that a run comes to.
 use mathlib.Core.Path.{_≡_}
-use mathlib.Core.Bool.{Bool, true, false}
+use mathlib.Core.Bool.{true}
 use mathlib.Core.Logic.{_⊎_}
-use mathlib.Core.List.{List, [], _∷_}
-use mathlib.Core.Option.{Option, some, none as nothing}
-use Prim.Native.Nat.{ℕ, _+_, _/_, _%_, _≤_, _<_}
+use mathlib.Core.List.{List}
+use mathlib.Core.Option.{some, none as nothing}
+use Prim.Native.Nat.{ℕ, _/_, _≤_, _<_}
 use Rattle.protocol.specs.declared.measures.Measures.{Measures}
 use Rattle.protocol.specs.declared.version.Version.{Version}
-use Rattle.protocol.specs.Version.{none as noVersion}
 use Rattle.protocol.specs.Pointer.{Pointer, nonePointer}
-use Rattle.protocol.specs.Run.{History, Operation, Put}
-use Rattle.protocol.proofs.Model.{num, ver, Rows, Turn, Clients, Past, Model, shownWritten, offer}
+use Rattle.protocol.specs.Run.{History, Put}
+use Rattle.protocol.proofs.Model.{num, ver, Turn, Clients, Past, Model, shownWritten, offer}
 use Rattle.protocol.proofs.Invariants.{Member, unnum}
 
 -- ---- operations

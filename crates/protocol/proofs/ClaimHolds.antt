@@ -1,10 +1,10 @@
 -- The claim follows from the invariants, on the state that shows the model.
 use mathlib.Core.Path.{_≡_, refl, sym, ap, subst, _∙_}
-use mathlib.Core.Bool.{Bool, true, false}
+use mathlib.Core.Bool.{Bool, true}
 use mathlib.Core.Logic.{_⊎_, inl, inr}
-use mathlib.Core.List.{List, [], _∷_, _++_, append-nil}
+use mathlib.Core.List.{List, [], _∷_, append-nil}
 use mathlib.Core.Option.{Option, some, none as nothing}
-use Prim.Native.Nat.{ℕ, _+_, _*_, _/_, _%_, _≤_, _<_}
+use Prim.Native.Nat.{ℕ, _%_, _≤_, _<_}
 use native.Mathlib.Omega.{arith}
 use native.Mathlib.Decide.{ℕ-discrete}
 use borrow.Author.Tests.{le-ltb, lt-ltb}
@@ -12,30 +12,25 @@ use Rattle.coding.specs.Pieces.{piece}
 use Rattle.coding.proofs.PageLaws.{none≢some, some-eq}
 use Rattle.protocol.specs.declared.measures.Measures.{Measures}
 use Rattle.protocol.specs.declared.version.Version.{Version}
-use Rattle.protocol.specs.Version.{below, none as noVersion}
 use Rattle.protocol.specs.Measures.{passes}
-use Rattle.protocol.specs.Format.{Read}
 use Rattle.protocol.specs.Nodes.{stands}
 use Rattle.protocol.specs.Pointer.{Pointer, nonePointer}
-use Rattle.protocol.specs.NodeTable.{Held, readTable, writeTable}
+use Rattle.protocol.specs.NodeTable.{readTable, writeTable}
 use Rattle.protocol.specs.Node.{handBack}
-use Rattle.protocol.specs.Run.{History, Operation, Put, State}
-use Rattle.protocol.specs.Claim.{Bears, IsDeposit, IsReading, Open, Precedes, FirstPut, Concerns, FoundNothing, Alike, shown, places, piecesOf, Claim}
-use Rattle.protocol.proofs.MeasureLaws.{Passed, passed}
-use Rattle.protocol.proofs.NodeTableLaws.{GoodTable, format-table}
-use Rattle.protocol.proofs.Model.{num, ver, Turn, Past, Model, pointed}
-use Rattle.protocol.proofs.Invariants.{Known, Keeps, Member, Pointed, Drawing, unnum}
-use Rattle.protocol.proofs.Chronicle.{Recording, Putting, Ordering, Rightly, Shown, Listed, Deposited, Draws, Doing, Busy}
-use Rattle.protocol.proofs.Invariant.{Invariant}
+use Rattle.protocol.specs.Run.{Put, State}
+use Rattle.protocol.specs.Claim.{Bears, IsDeposit, IsReading, Open, Precedes, FirstPut, Concerns, Alike, shown, places, Claim}
+use Rattle.protocol.proofs.MeasureLaws.{passed}
+use Rattle.protocol.proofs.NodeTableLaws.{format-table}
+use Rattle.protocol.proofs.Model.{num, ver, Turn, Past, Model}
+use Rattle.protocol.proofs.Invariants.{Known, Keeps, Member, Pointed, unnum}
+use Rattle.protocol.proofs.Chronicle.{Rightly, Shown, Listed, Draws, Doing, Busy}
 use Rattle.protocol.proofs.VersionNumbers.{unnum-num, below-num}
-use Rattle.protocol.proofs.PastLaws.{pointed-version, client-fits}
-use Rattle.protocol.proofs.RetainingKept.{safe-keeps}
+use Rattle.protocol.proofs.MemberLaws.{member-cases}
+use Rattle.protocol.proofs.PastLaws.{pointed-version, some-formed}
 use Rattle.protocol.proofs.StockLaws.{held-few, kept-held, held-piece}
+use Rattle.protocol.proofs.RetainingKept.{safe-keeps}
+use Rattle.protocol.proofs.Invariant.{Invariant}
 use Rattle.protocol.proofs.View.{Shows}
-
-member-cases : {A : Type 0} (a b : A) (l : List A) → Member a (b ∷ l) → (a ≡ b) ⊎ Member a l
-member-cases a b l (Member.here r) = inl refl
-member-cases a b l (Member.there c r m) = inr m
 
 -- a pointer that is put in was first put in for its version's deposit
 first-put : (p : Past) (x : Pointer) (l : List Put) → ((y : Put) → Member y l → Rightly p y) → p .pointers (ver x) ≡ x
@@ -56,10 +51,6 @@ first-put p x (y ∷ l) r e d m =
 first-listed : (x : Pointer) (d : ℕ) (l : List Put) → FirstPut x d l → Member (record { pointer = x; operation = d }) l
 first-listed x d (y ∷ l) (inl e) = subst (λ (a : Put). Member a (y ∷ l)) (λ i. record { pointer = e .0 i; operation = e .1 i }) (Member.here l)
 first-listed x d (y ∷ l) (inr e) = Member.there y l (first-listed x d l (e .1))
-
--- none, or a formed pointer
-some-formed : (p : Past) (x : Pointer) → p .pointers (ver x) ≡ x → 256 ≤ ver x → p .pointers (ver x) ≡ nonePointer → ⊥
-some-formed p x e b n = let q : ver x ≡ 255 = ap ver (sym e ∙ n) in omega arith
 
 module _ (z : Measures) (honest : ℕ → Bool) (ok : passes z ≡ true) (s : Model) (v : Invariant z honest s) where
   -- a pointer that is shown has the version of its number
@@ -146,7 +137,8 @@ module _ (z : Measures) (honest : ℕ → Bool) (ok : passes z ≡ true) (s : Mo
       ∙ sym (some-eq (sym (c .1) ∙ v .recording .pointer p nonePointer (c .0) (g .1) .1))
 
   -- order
-  later : (e o : ℕ) (u w : Version) → Bears (s .h) e u → Bears (s .h) o w → Precedes (s .h) e o → (num u ≤ num w) × ((bytes : List ℕ) → IsDeposit (s .h) o bytes → num u < num w)
+  later : (e o : ℕ) (u w : Version) → Bears (s .h) e u → Bears (s .h) o w → Precedes (s .h) e o
+      → (num u ≤ num w) × ((bytes : List ℕ) → IsDeposit (s .h) o bytes → num u < num w)
   later e o u w b c (t, en, lt) = go (s .h .operation o .page) refl
     where
       r : (j : ℕ) × (j < z .m) × (num u ≤ s .p .shown o j)
@@ -165,26 +157,27 @@ module _ (z : Measures) (honest : ℕ → Bool) (ok : passes z ≡ true) (s : Mo
   data Asking (c o : ℕ) (p : Pointer) : Type 0 where
     asking : (n m : ℕ) (ps : List (List ℕ)) → s .c .turn c ≡ Turn.fetching p n m ps → Asking c o p
 
-  at-turn : (c o : ℕ) (p : Pointer) → c < z .m → s .h .latest c ≡ o → IsReading (s .h) o → s .h .operation o .pointer ≡ some p
+  at-turn : (c o : ℕ) (p : Pointer) → s .h .latest c ≡ o → IsReading (s .h) o → s .h .operation o .pointer ≡ some p
       → s .h .operation o .version ≡ some (p .version) → (t : Turn) → s .c .turn c ≡ t → Doing (s .h) (s .p) c t → (t ≡ Turn.idle → ⊥) → Asking c o p
-  at-turn c o p l e r q u Turn.idle f d n = absurd (n refl)
-  at-turn c o p l e r q u (Turn.scanning b) f d n = absurd (none≢some (sym r ∙ ap (λ (j : ℕ). s .h .operation j .page) (sym e) ∙ d .1 .page))
-  at-turn c o p l e r q u (Turn.scanned b a) f d n = absurd (none≢some (sym r ∙ ap (λ (j : ℕ). s .h .operation j .page) (sym e) ∙ d .1 .page))
-  at-turn c o p l e r q u (Turn.storing x b a) f d n = absurd (none≢some (sym r ∙ ap (λ (j : ℕ). s .h .operation j .page) (sym e) ∙ d .1 .page))
-  at-turn c o p l e r q u (Turn.updating x) f d n = absurd (none≢some (sym r ∙ ap (λ (j : ℕ). s .h .operation j .page) (sym e) ∙ d .1 .page))
-  at-turn c o p l e r q u (Turn.updated x) f d n = absurd (none≢some (sym r ∙ ap (λ (j : ℕ). s .h .operation j .page) (sym e) ∙ d .1 .page))
-  at-turn c o p l e r q u (Turn.freezing x) f d n = absurd (none≢some (sym r ∙ ap (λ (j : ℕ). s .h .operation j .page) (sym e) ∙ d .1 .page))
-  at-turn c o p l e r q u (Turn.noticing x a) f d n = absurd (none≢some (sym r ∙ ap (λ (j : ℕ). s .h .operation j .page) (sym e) ∙ d .1 .page))
-  at-turn c o p l e r q u Turn.raising f d n = absurd (none≢some (sym (d .1 .version) ∙ ap (λ (j : ℕ). s .h .operation j .version) e ∙ u))
-  at-turn c o p l e r q u Turn.raised f d n = absurd (none≢some (sym (d .1 .version) ∙ ap (λ (j : ℕ). s .h .operation j .version) e ∙ u))
-  at-turn c o p l e r q u Turn.picking f d n = absurd (none≢some (sym (d .1 .version) ∙ ap (λ (j : ℕ). s .h .operation j .version) e ∙ u))
-  at-turn c o p l e r q u (Turn.picked a) f d n = absurd (none≢some (sym (d .1 .version) ∙ ap (λ (j : ℕ). s .h .operation j .version) e ∙ u))
-  at-turn c o p l e r q u (Turn.fetching x k m ps) f d n =
+  at-turn c o p e r q u Turn.idle f d n = absurd (n refl)
+  at-turn c o p e r q u (Turn.scanning b) f d n = absurd (none≢some (sym r ∙ ap (λ (j : ℕ). s .h .operation j .page) (sym e) ∙ d .1 .page))
+  at-turn c o p e r q u (Turn.scanned b a) f d n = absurd (none≢some (sym r ∙ ap (λ (j : ℕ). s .h .operation j .page) (sym e) ∙ d .1 .page))
+  at-turn c o p e r q u (Turn.storing x b a) f d n = absurd (none≢some (sym r ∙ ap (λ (j : ℕ). s .h .operation j .page) (sym e) ∙ d .1 .page))
+  at-turn c o p e r q u (Turn.updating x) f d n = absurd (none≢some (sym r ∙ ap (λ (j : ℕ). s .h .operation j .page) (sym e) ∙ d .1 .page))
+  at-turn c o p e r q u (Turn.updated x) f d n = absurd (none≢some (sym r ∙ ap (λ (j : ℕ). s .h .operation j .page) (sym e) ∙ d .1 .page))
+  at-turn c o p e r q u (Turn.freezing x) f d n = absurd (none≢some (sym r ∙ ap (λ (j : ℕ). s .h .operation j .page) (sym e) ∙ d .1 .page))
+  at-turn c o p e r q u (Turn.noticing x a) f d n = absurd (none≢some (sym r ∙ ap (λ (j : ℕ). s .h .operation j .page) (sym e) ∙ d .1 .page))
+  at-turn c o p e r q u Turn.raising f d n = absurd (none≢some (sym (d .1 .version) ∙ ap (λ (j : ℕ). s .h .operation j .version) e ∙ u))
+  at-turn c o p e r q u Turn.raised f d n = absurd (none≢some (sym (d .1 .version) ∙ ap (λ (j : ℕ). s .h .operation j .version) e ∙ u))
+  at-turn c o p e r q u Turn.picking f d n = absurd (none≢some (sym (d .1 .version) ∙ ap (λ (j : ℕ). s .h .operation j .version) e ∙ u))
+  at-turn c o p e r q u (Turn.picked a) f d n = absurd (none≢some (sym (d .1 .version) ∙ ap (λ (j : ℕ). s .h .operation j .version) e ∙ u))
+  at-turn c o p e r q u (Turn.fetching x k m ps) f d n =
       let a : x ≡ p = some-eq (sym (d .1 .pointer) ∙ ap (λ (j : ℕ). s .h .operation j .pointer) e ∙ q) in
       asking k m ps (f ∙ ap (λ (y : Pointer). Turn.fetching y k m ps) a)
 
   -- every honest node that the pointer of an open reading names holds its piece
-  held-at : (c : ℕ) (p : Pointer) (n m : ℕ) (ps : List (List ℕ)) → c < z .m → s .c .turn c ≡ Turn.fetching p n m ps → (i : ℕ) → honest i ≡ true → 1 ≤ i → i ≤ z .n
+  held-at : (c : ℕ) (p : Pointer) (n m : ℕ) (ps : List (List ℕ)) → c < z .m → s .c .turn c ≡ Turn.fetching p n m ps → (i : ℕ) → honest i ≡ true → 1 ≤ i
+      → i ≤ z .n
       → stands (p .named .nodes) i ≡ true → handBack (p .version) (s .n .held i) ≡ some (piece (z .k) (s .p .pages (ver p)) i)
   held-at c p n m ps l e i hi lo up st =
       let w = rw e at (v .owned .own c l) in
@@ -192,7 +185,8 @@ module _ (z : Measures) (honest : ℕ → Bool) (ok : passes z ≡ true) (s : Mo
       go w k (w .2)
     where
       go : (1 ≤ s .c .reading c) × (p .version .client < z .m) × Known (s .p) (p .version .client) p × (256 ≤ ver p)
-          → Keeps z (s .c) (p .version .client) (p .version) → Known (s .p) (p .version .client) p → handBack (p .version) (s .n .held i) ≡ some (piece (z .k) (s .p .pages (ver p)) i)
+          → Keeps z (s .c) (p .version .client) (p .version) → Known (s .p) (p .version .client) p
+          → handBack (p .version) (s .n .held i) ≡ some (piece (z .k) (s .p .pages (ver p)) i)
       go w k (Known.absent a) = let f : ver p ≡ 255 = ap ver a in absurd (omega (arith, w .3))
       go w k (Known.formed d a b g) =
           let named : stands (s .p .pointers (ver p) .named .nodes) i ≡ true = ap (λ (x : Pointer). stands (x .named .nodes) i) a ∙ st in
@@ -232,7 +226,7 @@ module _ (z : Measures) (honest : ℕ → Bool) (ok : passes z ≡ true) (s : Mo
         → handBack (p .version) (places z st i) ≡ some (piece (z .k) bytes i))
     held-in j p op e q =
         let b = v .recording .busy j (op .0) (op .1) in
-        go (s .h .operation j .client) (b .0) (b .1) (at-turn (s .h .operation j .client) j p (b .0) (b .1) e q (v .recording .pointer j p (op .0) q .1)
+        go (s .h .operation j .client) (b .0) (b .1) (at-turn (s .h .operation j .client) j p (b .1) e q (v .recording .pointer j p (op .0) q .1)
         (s .c .turn (s .h .operation j .client)) refl (v .recording .doing (s .h .operation j .client) (b .0)) (λ i. subst Busy i (b .2)))
       where
         go : (c : ℕ) → c < z .m → s .h .latest c ≡ j → Asking c j p

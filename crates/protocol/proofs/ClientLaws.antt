@@ -3,14 +3,14 @@ use mathlib.Core.Path.{_≡_, refl, sym, ap, _∙_}
 use mathlib.Core.Bool.{Bool, true, false, cond, not, _&&_}
 use mathlib.Core.List.{List, [], _∷_, _++_}
 use mathlib.Core.Option.{some}
-use Prim.Native.Nat.{ℕ, suc, _+_, _-_, _*_, _^_, _<_, _≤_}
+use Prim.Native.Nat.{ℕ, _+_, _-_, _*_, _^_, _<_, _≤_}
 use native.Mathlib.Nat.{mul-add, mul-le-mul, mul-le-mul-right}
 use native.Mathlib.Decide.{ℕ-discrete}
 use native.Mathlib.Omega.{arith}
 use borrow.Author.Tests.{eq-eqb, ne-eqb, lt-ltb, ltb-true, le-leb, leb-true, not-true}
 use lib.Dec.{leb, ltb, eqb}
 use lib.Pow.{pow-mono}
-use lib.ListN.{length, length-append, length-replicate}
+use lib.ListN.{length, length-append, length-replicate, length-map}
 use Rattle.coding.specs.Bytes.{Bytes}
 use Rattle.coding.proofs.BytesLaws.{stride}
 use Rattle.coding.proofs.Cases.{and-true}
@@ -18,21 +18,25 @@ use Rattle.coding.proofs.PageLaws.{none≢some}
 use Rattle.protocol.specs.declared.measures.Measures.{Measures}
 use Rattle.protocol.specs.declared.version.ReadingIndex.{ReadingIndex}
 use Rattle.protocol.specs.declared.version.Version.{Version}
-use Rattle.protocol.specs.Format.{Read, Reader, both, mapped, readNothing, readNumber, writeNumber, readBytes, readMany, writeMany, readEach, readArea, writeArea}
+use Rattle.protocol.specs.Format.{Read, Reader, both, mapped, readNothing, readNumber, writeNumber, readBytes}
+use Rattle.protocol.specs.Format.{readMany, writeMany, readEach, readArea, writeArea}
 use Rattle.protocol.specs.Measures.{passes, pointerSize}
 use Rattle.protocol.specs.Version.{none as noVersion}
 use Rattle.protocol.specs.Nodes.{count}
 use Rattle.protocol.specs.Pointer.{Pointer, nonePointer, isNone, readPointer, writePointer, readVersion, writeVersion}
 use Rattle.protocol.specs.Directory.{readIndex, writeIndex}
 use Rattle.protocol.specs.Message.{properVersion}
-use Rattle.protocol.specs.Client.{Phase, Client, step, readPage, writePage, readSome, Stores, readStores, writeStores, readPieces, writePieces, lengths, areas}
-use Rattle.protocol.specs.Client.{Fetches, readFetches, writeFetches, readWork, writeWork, workSize, properReserved, readReserved, Retained, pointerArea, readRetained, writeRetained}
-use Rattle.protocol.specs.Client.{retained, clientOf, readClient, writeClient, clientSize, freshClient}
-use Rattle.protocol.proofs.FormatLaws.{Format, format-then, format-check, format-nothing, format-number, format-many, format-each, format-bytes, format-area, as-back, as-only, Each, EachOf, length-area, length-same}
+use Rattle.protocol.specs.Client.{Phase, Client, step, readPage, writePage, readSome, Stores, readStores, writeStores, readPieces, writePieces, lengths}
+use Rattle.protocol.specs.Client.{areas, Fetches, readFetches, writeFetches, readWork, writeWork, workSize, properReserved, readReserved, Retained}
+use Rattle.protocol.specs.Client.{pointerArea, readRetained, writeRetained, retained, clientOf, readClient, writeClient, clientSize, freshClient}
+use Rattle.protocol.proofs.FormatLaws.{Format, format-then, format-check, format-nothing, format-number, format-many, format-each}
+use Rattle.protocol.proofs.FormatLaws.{format-bytes, format-area, as-back, as-only, Each, EachOf, length-area, length-same}
+use Rattle.protocol.proofs.EachLaws.{each-replicate}
+pub use Rattle.protocol.proofs.EachLaws.{each-as}
 use Rattle.protocol.proofs.MeasureLaws.{Passed, passed}
 use Rattle.protocol.proofs.PointerLaws.{GoodVersion, format-version, GoodPointer, format-pointer, length-number, length-version}
 use Rattle.protocol.proofs.DirectoryLaws.{GoodIndex, format-index, length-index}
-use Rattle.protocol.proofs.RowLaws.{pointer-fits, none-good, each-replicate}
+use Rattle.protocol.proofs.RowLaws.{pointer-fits, none-good}
 
 abbrev pub GoodDigest : List ℕ → Type 0
 GoodDigest d = Bytes d × (length d ≡ 32)
@@ -324,14 +328,6 @@ format-client s =
 
 -- ---- what reads is what is good
 
-pub each-as : {A : Type 0} (g h : A → Type 0) → ((a : A) → g a → h a) → (l : List A) → Each g l → Each h l
-each-as g h f [] e = tt
-each-as g h f (a ∷ l) e = (f a (e .0), each-as g h f l (e .1))
-
-length-lengths : (ps : List (List ℕ)) → length (lengths ps) ≡ length ps
-length-lengths [] = refl
-length-lengths (p ∷ ps) = ap suc (length-lengths ps)
-
 pieces-short : (s : Measures) (ps : List (List ℕ)) → EachOf (ReadsPiece s) (lengths ps) ps → Each (ShortPiece s) ps
 pieces-short s [] g = tt
 pieces-short s (p ∷ ps) g = ((g .0 .0 .0 .0, leb-true (length p) (s .f) (g .0 .1)), pieces-short s ps (g .1))
@@ -364,11 +360,11 @@ phase-good s (Phase.fetching p c m ps) g =
       ltb-true m (2 ^ s .n) (t .0),
       ltb-true (count m) (s .k) (t .1),
       pieces-short s ps (x .1),
-      sym (length-lengths ps) ∙ x .0 .1,
+      sym (length-map ps length) ∙ x .0 .1,
     )
 
 -- a map of the nodes fits 2 bytes
-map-fits : (s : Measures) → Passed s → (a : ℕ) → a < 2 ^ s .n → a < 256 ^ 2
+pub map-fits : (s : Measures) → Passed s → (a : ℕ) → a < 2 ^ s .n → a < 256 ^ 2
 map-fits s p a h = omega (arith, p .nodes, pow-mono {j = 16} (p .nodes .1))
 
 -- a page fits a frame of k pieces
@@ -393,12 +389,16 @@ phase-reads s h Phase.picking g = tt
 phase-reads s h (Phase.fetching p c m ps) g = (
   (
     (g .0, ap not (g .1)),
-    (g .2, (map-fits s h m (g .3), ((short-lengths s (h .bytes .1) ps (g .5), length-lengths ps ∙ g .6), short-pieces s ps (g .5)))),
+    (g .2, (map-fits s h m (g .3), ((short-lengths s (h .bytes .1) ps (g .5), length-map ps length ∙ g .6), short-pieces s ps (g .5)))),
   ),
   simp (lt-ltb m (2 ^ s .n) (g .3), lt-ltb (count m) (s .k) (g .4)),
 )
 
 -- ---- lengths
+
+-- the areas that joining takes
+pub length-areas : (s : Measures) (ps : List (List ℕ)) → Each (ShortPiece s) ps → length (areas s ps) ≡ length ps * s .f
+length-areas s = length-same (writeArea (s .f) (λ p. p)) (ShortPiece s) (s .f) (λ p h. length-area (s .f) (λ p. p) p (h .1))
 
 length-pieces : (s : Measures) (ps : List (List ℕ)) → Each (ShortPiece s) ps → length ps ≡ s .n → length (writePieces s ps) ≡ s .n * 2 + s .n * s .f
 unfolding writePieces
@@ -407,8 +407,8 @@ length-pieces s ps g e =
     ∙ omega (
       arith,
       length-same (writeNumber 2) (λ l. Unit {0}) 2 (λ l u. length-number 2 l) (lengths ps) (units (lengths ps)),
-      length-same (writeArea (s .f) (λ p. p)) (ShortPiece s) (s .f) (λ p h. length-area (s .f) (λ p. p) p (h .1)) ps g,
-      ap (λ (x : ℕ). x * 2) (length-lengths ps ∙ e),
+      length-areas s ps g,
+      ap (λ (x : ℕ). x * 2) (length-map ps length ∙ e),
       ap (λ (x : ℕ). x * s .f) e,
     )
   where

@@ -23,32 +23,32 @@ use Rattle.protocol.specs.Nodes.{count, stands, withNode}
 use Rattle.protocol.specs.Pointer.{Pointer, writeVersion}
 use Rattle.protocol.specs.Directory.{writeRecord}
 use Rattle.protocol.specs.Message.{ToClient, answer, readToClient, writeToClient}
-use Rattle.protocol.specs.Client.{Phase, Client, readClient, writeClient, clientSize, lengths, areas}
+use Rattle.protocol.specs.Client.{Phase, Client, writeClient, clientSize, lengths, areas}
 use Rattle.protocol.specs.Deposit.{digestsOf, pointerOf, depositFields}
 use Rattle.protocol.specs.Reading.{counts, matches, allCounted, sameVersion}
 use Rattle.protocol.specs.Answer.{ClientAnswer, refused, waits, scan, update, stores, requests, deposited, empty, page, spent, failed}
-use Rattle.protocol.specs.ClientEvents.{ClientEnd, Step, after, unchanged, onClient, onMessage, withPhase, lay, roomSize}
-use Rattle.protocol.specs.ClientEvents.{acknowledge, storedAt, goOn, joinedAt, ends, counted, repliedAt, messageAt, clientMessage, messageTo}
-use Rattle.protocol.specs.Run.{History, Operation, Call, updateCall, State, Event, Result, Answered, byClient, upd, upd₂, tick, mark, marked, heard, pieceOf, ending, giving}
-use Rattle.protocol.specs.Run.{stays, goes, called, isRefused, told, delivered, carryOut, deliver, lie}
+use Rattle.protocol.specs.ClientEvents.{ClientEnd, Step, after, unchanged, onClient, onMessage, withPhase, lay, roomSize, acknowledge, storedAt}
+use Rattle.protocol.specs.ClientEvents.{goOn, joinedAt, ends, counted, repliedAt, messageAt, clientMessage, messageTo}
+use Rattle.protocol.specs.Run.{History, Operation, Call, updateCall, State, Event, Result, Answered, byClient, upd, upd₂, tick, mark, marked, heard}
+use Rattle.protocol.specs.Run.{pieceOf, ending, giving, stays, goes, called, isRefused, told, delivered, carryOut, deliver, lie}
 use Rattle.protocol.specs.Claim.{Sane, Among, PieceOf, DigestsDiffer, dishonest}
-use Rattle.protocol.proofs.Cells.{by-eq}
+use Rattle.protocol.proofs.Cells.{by-eq, chosen}
 use Rattle.protocol.proofs.FormatLaws.{Each}
+use Rattle.protocol.proofs.EachLaws.{each-set}
 use Rattle.protocol.proofs.MeasureLaws.{Passed, passed as measures}
-use Rattle.protocol.proofs.OwnedKept.{chosen}
-use Rattle.protocol.proofs.ClientLaws.{ShortPiece, GoodPhase}
-use Rattle.protocol.proofs.MessageLaws.{message-to-client}
+use Rattle.protocol.proofs.VersionLaws.{same-eq}
 use Rattle.protocol.proofs.NodeMapLaws.{stands-with, with-below, count-with}
-use Rattle.protocol.proofs.GoodLaws.{pointed-good, some-pointer, piece-short}
-use Rattle.protocol.proofs.ReplyLaws.{same-version, own-matches, matches-digest, enough-match, all-counted, joined-reading, each-set, Picked, known-picked}
-use Rattle.protocol.proofs.Model.{num, ver, Turn, Past, Model, Next, Comes, Quiet, Marked}
-use Rattle.protocol.proofs.Model.{turned, with-toClient, pointed, pointedBy, putBy, raisedTo}
+use Rattle.protocol.proofs.MessageLaws.{message-to-client}
+use Rattle.protocol.proofs.ClientLaws.{ShortPiece, GoodPhase}
+use Rattle.protocol.proofs.Model.{num, ver, Turn, Past, Model, Next, Comes, Quiet, Marked, turned, with-toClient, pointed, pointedBy, putBy, raisedTo}
 use Rattle.protocol.proofs.Invariants.{Storing, Truthful, Fetched, unnum}
 use Rattle.protocol.proofs.RetainingKept.{safe-keeps}
 use Rattle.protocol.proofs.Invariant.{Invariant}
 use Rattle.protocol.proofs.View.{Shows, Follows, ToClientShows, GoodTurn, phaseOf, clientAt, callsOf, returnsOf}
-use Rattle.protocol.proofs.ViewLaws.{read-client, sane-number, sane-quiet, quiet-tick, quiet-heard, stays-follows}
-use Rattle.protocol.proofs.ViewLaws.{goes-shows, unsent, others-turned, own-turned, rows-turned}
+use Rattle.protocol.proofs.ViewLaws.{sane-number, sane-quiet, quiet-heard, stays-follows, goes-shows, unsent, others-turned}
+use Rattle.protocol.proofs.ViewLaws.{silent-follows, quiet-mark, record-reads, own-turned, rows-turned}
+use Rattle.protocol.proofs.GoodLaws.{pointed-good, some-pointer, piece-short}
+use Rattle.protocol.proofs.ReplyLaws.{own-matches, matches-digest, enough-match, all-counted, joined-reading, Picked, known-picked}
 
 -- ---- the history after a message
 
@@ -155,24 +155,9 @@ module _ (z : Measures) (c : ℕ) (message : List ℕ) (tc : ℕ → ℕ → Lis
   answered-differ spent client room out l d = absurd l
   answered-differ failed client room out l d = same-differ z (heard z message (st .history)) _ refl (upd-page _ _ _ refl) (upd-version _ _ _ refl) refl d
 
-  told-differ : (e : ClientEnd) → Leaves (e .answer) → DigestsDiffer z (told z c message tc e st .state .history) → DigestsDiffer z (heard z message (st .history))
+  told-differ : (e : ClientEnd) → Leaves (e .answer) → DigestsDiffer z (told z c message tc e st .state .history)
+      → DigestsDiffer z (heard z message (st .history))
   told-differ e l d = answered-differ (e .answer) (e .client) (e .room) (e .out) l d
-
--- an answer that marks nothing
-upd-same : {A : Type 0} (f : ℕ → A) (i : ℕ) → upd f i (f i) ≡ f
-upd-same f i j o = by-eq {G = upd f i (f i) o ≡ f o} o i (λ g q. rw g (ap f (sym q))) (λ g q. rw g refl) j
-
-quiet-mark : (z : Measures) (c : ℕ) (message : List ℕ) (e : ClientEnd) (h : History)
-    → marked z (h .time) (e .answer) (e .client) (e .out) (h .operation (h .latest c)) ≡ h .operation (h .latest c)
-    → Quiet h (mark z c e (heard z message h))
-quiet-mark z c message e h q =
-    record {
-      time = refl;
-      begun = refl;
-      operations = ap (upd (h .operation) (h .latest c)) q ∙ upd-same (h .operation) (h .latest c);
-      latest = refl;
-      put = refl;
-    }
 
 -- an answer that ends a reading
 given-mark : (z : Measures) (c : ℕ) (message : List ℕ) (e : ClientEnd) (v : Version) (bytes rest : List ℕ) (h : History)
@@ -199,7 +184,9 @@ module _ (z : Measures) (honest : ℕ → Bool) (st : State) (s : Model) (o : Sh
       → marked z (st .history .time) (e .answer) (e .client) (e .out) (st .history .operation (st .history .latest c))
       ≡ st .history .operation (st .history .latest c)
       → Quiet (s .h) (mark z c e (heard z message (st .history)))
-  quiet e f = subst (λ (x : History). Quiet x (mark z c e (heard z message (st .history)))) (o .history) (quiet-mark z c message e (st .history) f)
+  quiet e f =
+      subst (λ (x : History). Quiet x (mark z c e (heard z message (st .history)))) (o .history)
+      (quiet-mark z c e (st .history) (heard z message (st .history) .replied) f)
 
   -- it is passed over
   passed-over : (i : ℕ) (m : ToClient) → Comes honest (s .n) i c m q → (room out : List ℕ)
@@ -306,7 +293,7 @@ module _ (z : Measures) (honest : ℕ → Bool) (st : State) (s : Model) (o : Sh
         go false f d g = passed-over i (ToClient.stored v) comes room out
         go true f true g = passed-over i (ToClient.stored v) comes room out
         go true f false g =
-            counted-in w bytes a e (subst (λ (x : Version). Comes honest (s .n) i c (ToClient.stored x) q) (same-version v w f) comes) g
+            counted-in w bytes a e (subst (λ (x : Version). Comes honest (s .n) i c (ToClient.stored x) q) (same-eq v w f) comes) g
             (decLt (count (withNode a i)) (z .t + z .k))
     stored-follows v (Turn.updating x) e comes = passed-over i (ToClient.stored v) comes room out
     stored-follows v (Turn.updated x) e comes = passed-over i (ToClient.stored v) comes room out
@@ -394,7 +381,8 @@ module _ (z : Measures) (honest : ℕ → Bool) (st : State) (s : Model) (o : Sh
         short-pieces : Each (ShortPiece z) (set ps (i - 1) y)
         short-pieces =
             each-set (ShortPiece z) ps (i - 1) y
-            (subst (ShortPiece z) (sym its) (piece-bytes (z .k) (s .p .pages (ver x)) i, piece-short z p (s .p .pages (ver x)) (pick .long) i)) (good-fetching .5)
+            (subst (ShortPiece z) (sym its) (piece-bytes (z .k) (s .p .pages (ver x)) i, piece-short z p (s .p .pages (ver x)) (pick .long) i))
+            (good-fetching .5)
 
         many-pieces : length (set ps (i - 1) y) ≡ z .n
         many-pieces = length-set ps (i - 1) y ∙ good-fetching .6
@@ -494,7 +482,7 @@ module _ (z : Measures) (honest : ℕ → Bool) (st : State) (s : Model) (o : Sh
           go true f false g d h = passed-over i (answer v y) comes room out
           go true f true g true h = passed-over i (answer v y) comes room out
           go true f true g false h =
-              let w = same-version v (x .version) f in
+              let w = same-eq v (x .version) f in
               counted-follows few long differ x n m ps e g h y (subst (λ (u : Version). readToClient z message ≡ some (answer u y)) w reads)
               (subst (λ (u : Version). Comes honest (s .n) i c (answer u y) q) w comes)
               (subst (λ (u : Version). honest i ≡ true → Truthful z s i c (answer u y)) w truth)
@@ -538,11 +526,11 @@ module _ (z : Measures) (honest : ℕ → Bool) (passed : passes z ≡ true) (fe
   guarded-follows tc false b e f inside =
       rw (passed, e)
       (told-refused tc (unchanged (refused 2) (st .clients c) room out) 2 refl
-      (sane-number ev (byClient (refused 2)) 2 refl (λ x. omega arith) (λ x. omega arith) (λ x. omega arith)))
+      (sane-number ev (byClient (refused 2)) 2 refl refl))
   guarded-follows tc true false e f inside =
       rw (passed, e, f)
       (told-refused tc (unchanged (refused 3) (st .clients c) room out) 3 refl
-      (sane-number ev (byClient (refused 3)) 3 refl (λ x. omega arith) (λ x. omega arith) (λ x. omega arith)))
+      (sane-number ev (byClient (refused 3)) 3 refl refl))
   guarded-follows tc true true e f inside = inside e f
 
   -- what the event does where its record reads
@@ -551,10 +539,9 @@ module _ (z : Measures) (honest : ℕ → Bool) (passed : passes z ≡ true) (fe
       ≡ after z (st .clients c) room out [] (onMessage r (λ m. messageAt z i (clientAt z (s .c) c) room out m))
   unfolding clientMessage
   opened e f r q =
-      let w = o .client c (numbers z c i f .0) in
       simp (passed, e, f)
       (ap (λ r. onClient z (st .clients c) room out r (λ x. onMessage (readToClient z message) (λ m. messageAt z i x room out m)))
-      (ap (readClient z) (w .bytes) ∙ read-client z passed (clientAt z (s .c) c) (w .good)))
+      (record-reads z honest st s o passed c (numbers z c i f .0)))
       ∙ ap (λ r. after z (st .clients c) room out [] (onMessage r (λ m. messageAt z i (clientAt z (s .c) c) room out m))) q
 
   -- a message that reads
@@ -577,7 +564,8 @@ module _ (z : Measures) (honest : ℕ → Bool) (passed : passes z ≡ true) (fe
       in
       subst (λ (w : ClientEnd). Follows z honest s ev (told z c message tc w st)) (sym eq)
       (message-follows z honest st s o ev c (a .0) message q tc shown liars (measures z passed) inv i (a .1) (a .2)
-      room out few (leb-true (z .k * z .f - 4) (length out) long) (subst (λ (h : History). DigestsDiffer z (heard z message h)) (o .history) d) m reads comes truth)
+      room out few (leb-true (z .k * z .f - 4) (length out) long)
+      (subst (λ (h : History). DigestsDiffer z (heard z message h)) (o .history) d) m reads comes truth)
 
 -- ---- the events
 
@@ -641,7 +629,7 @@ module _ (z : Measures) (honest : ℕ → Bool) (passed : passes z ≡ true) (fe
         go : (q : List (List ℕ)) → st .toClient i c ≡ q → DigestsDiffer z (delivered z i c room out q st .state .history)
             → Follows z honest s (deliver i c room out) (delivered z i c room out q st)
         go [] e d =
-            stays-follows z honest st s o ev Answered.nothing (tick (st .history)) (quiet-tick (st .history)) (sane-quiet ev Answered.nothing refl)
+            silent-follows z honest st s o ev
         go (b ∷ r) e d =
             guarded-follows z honest passed few st s o inv ev i c b room out (upd₂ (st .toClient) i c r)
             (enough z (st .clients c) room out) (within z c i) refl refl
@@ -676,7 +664,7 @@ module _ (z : Measures) (honest : ℕ → Bool) (passed : passes z ≡ true) (fe
         go : (b : Bool) → honest i ≡ b → DigestsDiffer z (cond b (stays Answered.nothing (tick (st .history)) st) end .state .history)
             → Follows z honest s ev (cond b (stays Answered.nothing (tick (st .history)) st) end)
         go true h d =
-            stays-follows z honest st s o ev Answered.nothing (tick (st .history)) (quiet-tick (st .history)) (sane-quiet ev Answered.nothing refl)
+            silent-follows z honest st s o ev
         go false h d =
             guarded-follows z honest passed few st s o inv ev i c bytes room out (st .toClient)
             (enough z (st .clients c) room out) (within z c i) refl refl

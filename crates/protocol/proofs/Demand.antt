@@ -1,7 +1,7 @@
 -- The claim holds of every list of events.
 use mathlib.Core.Path.{_≡_}
 use mathlib.Core.Bool.{Bool, true}
-use mathlib.Core.Logic.{_⊎_, inl, inr}
+use mathlib.Core.Logic.{inl, inr}
 use mathlib.Core.List.{List, [], _∷_}
 use Prim.Native.Nat.{ℕ, _≤_}
 use Rattle.protocol.specs.declared.measures.Measures.{Measures}
@@ -10,15 +10,15 @@ use Rattle.protocol.specs.Run.{State, Event, deposit, reading, carry, ha
 use Rattle.protocol.specs.Claim.{Claim, Sane, Lent, AllLent, PieceOf, RunPiece, Differ, DigestsDiffer, dishonest}
 use Rattle.protocol.proofs.MeasureLaws.{passed}
 use Rattle.protocol.proofs.Model.{Model}
-use Rattle.protocol.proofs.Invariant.{Invariant, invariant-kept}
 use Rattle.protocol.proofs.StockLaws.{held-all}
+use Rattle.protocol.proofs.Invariant.{Invariant, invariant-kept}
 use Rattle.protocol.proofs.View.{Shows, Follows}
+use Rattle.protocol.proofs.FreshShows.{freshModel, fresh-shows, fresh-invariant}
 use Rattle.protocol.proofs.StartShows.{deposit-follows, reading-follows}
 use Rattle.protocol.proofs.CarryShows.{carry-follows}
 use Rattle.protocol.proofs.HandShows.{hand-follows}
 use Rattle.protocol.proofs.BringShows.{bring-follows}
 use Rattle.protocol.proofs.DeliverShows.{deliver-follows, lie-follows}
-use Rattle.protocol.proofs.FreshShows.{freshModel, fresh-shows, fresh-invariant}
 use Rattle.protocol.proofs.ClaimHolds.{claim-holds}
 
 module _ (z : Measures) (ok : passes z ≡ true) (honest : ℕ → Bool) (few : dishonest honest (z .n) ≤ z .t) where

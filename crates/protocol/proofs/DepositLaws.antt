@@ -7,20 +7,17 @@ use Prim.Native.Nat.{ℕ, zero, suc, _+_, _-_, _*_, _≤_, _<_}
 use native.Mathlib.Nat.{not-suc-le-zero}
 use native.Mathlib.Omega.{arith}
 use native.Mathlib.Decide.{decLt}
-use borrow.Author.Tests.{le-leb, lt-ltb, le-ltb}
+use borrow.Author.Tests.{lt-ltb, le-ltb}
 use lib.ListN.{length, getD, take, drop, length-drop}
 use lib.Seq.{take-at, drop-append-add}
 use lib.Pow.{pow-pos}
-use Rattle.coding.specs.Pieces.{proper, columns, piece}
-use Rattle.coding.specs.Digest.{pieceDigest}
+use Rattle.coding.specs.Pieces.{columns, piece}
 use Rattle.coding.specs.Split.{SplitEnd, written}
 use Rattle.coding.specs.Join.{pieceIn}
 use Rattle.coding.proofs.BytesLaws.{length-tabulate, getD-tabulate}
 use Rattle.coding.proofs.NodesLaws.{nodes-none}
-use Rattle.coding.proofs.DigestLaws.{length-digest, bytes-digest}
 use Rattle.coding.proofs.SplitLaws.{split-done}
-use Rattle.coding.proofs.RoundTripLaws.{length-piece}
-use Rattle.coding.proofs.RoundTrip.{within, some-columns, area-piece, piece-bytes}
+use Rattle.coding.proofs.RoundTrip.{area-piece}
 use Rattle.protocol.specs.declared.measures.Measures.{Measures}
 use Rattle.protocol.specs.declared.version.Version.{Version}
 use Rattle.protocol.specs.Measures.{passes}
@@ -32,14 +29,13 @@ use Rattle.protocol.specs.Client.{Phase}
 use Rattle.protocol.specs.Deposit.{highest, digestsOf}
 use Rattle.protocol.specs.Answer.{stores}
 use Rattle.protocol.specs.ClientEvents.{roomSize, storesRoom, messageTo}
-use Rattle.protocol.proofs.FormatLaws.{Each}
 use Rattle.protocol.proofs.MeasureLaws.{passed}
 use Rattle.protocol.proofs.PointerLaws.{length-version}
-use Rattle.protocol.proofs.MessageLaws.{GoodNamedVersion, GoodStored}
-use Rattle.protocol.proofs.ClientLaws.{GoodDigest, GoodPhase}
+use Rattle.protocol.proofs.MessageLaws.{GoodNamedVersion}
+use Rattle.protocol.proofs.ClientLaws.{GoodPhase}
 use Rattle.protocol.proofs.Model.{Rows, Above}
 use Rattle.protocol.proofs.View.{rowAt, rowsAt}
-use Rattle.protocol.proofs.HandLaws.{each-tabulate}
+use Rattle.protocol.proofs.GoodLaws.{proper-passed, digests-good, length-digests}
 
 -- ---- the sequence drawn
 
@@ -70,21 +66,6 @@ highest-rows z a w l =
 
 -- ---- the store messages
 
-pub passes-proper : (z : Measures) → passes z ≡ true → proper (z .n) (z .k) (z .f) ≡ true
-unfolding proper
-passes-proper z h =
-    let p = passed z h in
-    let k : z .k ≤ z .n = omega (arith, p .enough) in
-    simp (
-      le-leb 1 (z .n) (p .nodes .0),
-      le-leb (z .n) 16 (p .nodes .1),
-      le-leb 1 (z .k) (p .parts),
-      le-leb (z .k) (z .n) k,
-      le-leb 1 (z .f) (p .bytes .0),
-      le-leb (z .f) 4096 (p .bytes .1),
-      le-leb 4 (z .k * z .f) (p .frame),
-    )
-
 -- tag and version have 6 bytes
 length-front : (v : Version) → length (writeToNode (ToNode.store v [])) ≡ 6
 unfolding writeToNode
@@ -98,7 +79,7 @@ module _ (z : Measures) (passes : passes z ≡ true) (v : Version) (bytes room :
   stores-room : storesRoom z v bytes room ≡ writeToNode (ToNode.store v []) ++ written (z .k) (z .f) bytes (drop 6 room) (z .n)
   stores-room =
       ap (λ (x : SplitEnd). writeToNode (ToNode.store v []) ++ x .room)
-      (split-done (z .n) (z .k) (z .f) bytes (drop 6 room) (passes-proper z passes) fits short)
+      (split-done (z .n) (z .k) (z .f) bytes (drop 6 room) (proper-passed z (passed z passes)) fits short)
 
   -- what is sent to node i is its piece
   pub stores-sent : (i : ℕ) → 1 ≤ i → i ≤ z .n
@@ -112,36 +93,14 @@ module _ (z : Measures) (passes : passes z ≡ true) (v : Version) (bytes room :
       let d : drop (6 + at) (f ++ r) ≡ drop at r = ap (λ (x : ℕ). drop (x + at) (f ++ r)) (sym (length-front v)) ∙ drop-append-add f r at in
       ap (λ (x : List ℕ). messageTo z (stores v len) x i) stores-room
       ∙ ap₂ (λ (x : List ℕ) (y : List ℕ). some (x ++ take len y)) (take-at f r 6 (length-front v)) d
-      ∙ ap (λ (x : List ℕ). some (f ++ x)) (sym (area-piece (z .n) (z .k) (z .f) bytes (drop 6 room) (passes-proper z passes) fits short i lo up))
+      ∙ ap (λ (x : List ℕ). some (f ++ x)) (sym (area-piece (z .n) (z .k) (z .f) bytes (drop 6 room) (proper-passed z (passed z passes)) fits short i lo up))
       ∙ ap (λ (x : List ℕ). some (1 ∷ (x ++ piece (z .k) bytes i))) (append-nil (writeVersion v))
 
-  -- and it is well formed
-  pub piece-good : (i : ℕ) → GoodStored z (piece (z .k) bytes i)
-  piece-good i =
-      let p = passes-proper z passes in (
-        piece-bytes (z .k) bytes i,
-        rw (length-piece (z .k) bytes i)
-            (simp (
-              le-leb 1 (columns (z .k) (length bytes)) (some-columns (z .n) (z .k) (z .f) bytes (drop 6 room) p fits short),
-              le-leb (columns (z .k) (length bytes)) (z .f) (within (z .n) (z .k) (z .f) bytes (drop 6 room) p fits short),
-            )),
-      )
-
 -- ---- the record after it
-
-pub digests-good : (z : Measures) (v : Version) (bytes : List ℕ) → Each GoodDigest (digestsOf z v bytes) × (length (digestsOf z v bytes) ≡ z .n)
-unfolding digestsOf
-digests-good z v bytes =
-    let f : ℕ → List ℕ = λ j. pieceDigest (writeVersion v) (j + 1) (piece (z .k) bytes (j + 1)) in (
-      each-tabulate GoodDigest (z .n) f
-          (λ j l. (bytes-digest (writeVersion v) (j + 1) (piece (z .k) bytes (j + 1)), length-digest (writeVersion v) (j + 1) (piece (z .k) bytes (j + 1)))),
-      length-tabulate (z .n) f,
-    )
 
 -- no node has acknowledged it yet
 pub storing-good : (z : Measures) → passes z ≡ true → (v : Version) (bytes : List ℕ) → GoodNamedVersion z v
     → GoodPhase z (Phase.storing v 0 (digestsOf z v bytes))
 storing-good z h v bytes g =
-    let d = digests-good z v bytes in
     let none : count 0 ≡ 0 = ap length (nodes-none 16) in
-    (g .0, g .1, pow-pos (z .n), omega (arith, passed z h .parts), d .0, d .1)
+    (g .0, g .1, pow-pos (z .n), omega (arith, passed z h .parts), digests-good z v bytes, length-digests z v bytes)

@@ -14,8 +14,8 @@ use Rattle.protocol.specs.declared.measures.Measures.{Measures}
 use Rattle.protocol.specs.declared.version.ReadingIndex.{ReadingIndex}
 use Rattle.protocol.specs.Format.{both, given, mapped, readNothing, readNumber, writeNumber, readMany, writeMany}
 use Rattle.protocol.specs.Pointer.{readPointer, writePointer}
-use Rattle.protocol.specs.Directory.{Field, pointers, indices, Content, pointersOf, indicesOf, fields, readIndex, writeIndex, readContent, writeContent}
-use Rattle.protocol.specs.Directory.{readFields, writeFields, mapOf, readRecord, writeRecord, pointersIn, indicesIn}
+use Rattle.protocol.specs.Directory.{Field, pointers, indices, Content, pointersOf, indicesOf, fields, readIndex, writeIndex, readContent}
+use Rattle.protocol.specs.Directory.{writeContent, readFields, writeFields, mapOf, readRecord, writeRecord, pointersIn, indicesIn}
 use Rattle.protocol.proofs.FormatLaws.{Format, format-then, format-check, format-as, format-nothing, format-number, format-many, Each}
 use Rattle.protocol.proofs.PointerLaws.{GoodPointer, format-pointer, length-number}
 
@@ -42,11 +42,13 @@ GoodContent s (indices n) (indicesOf l) = Each GoodIndex l × (length l ≡ n)
 pub format-content : (s : Measures) (f : Field) → Format Content (readContent s f) writeContent (GoodContent s f)
 unfolding readContent writeContent
 format-content s (pointers n) =
-    format-as (readMany (readPointer s) n) (writeMany writePointer) (λ l. Each (GoodPointer s) l × (length l ≡ n)) pointersOf (λ c. pointersIn (some c)) writeContent
+    format-as (readMany (readPointer s) n) (writeMany writePointer) (λ l. Each (GoodPointer s) l × (length l ≡ n))
+    pointersOf (λ c. pointersIn (some c)) writeContent
     (GoodContent s (pointers n)) (λ l h. (h, refl)) back (format-many (readPointer s) writePointer (GoodPointer s) (format-pointer s) n)
   where
     back : (c : Content) → GoodContent s (pointers n) c
-        → (Each (GoodPointer s) (pointersIn (some c)) × (length (pointersIn (some c)) ≡ n)) × (pointersOf (pointersIn (some c)) ≡ c) × (writeContent c ≡ writeMany writePointer (pointersIn (some c)))
+        → (Each (GoodPointer s) (pointersIn (some c)) × (length (pointersIn (some c)) ≡ n)) × (pointersOf (pointersIn (some c)) ≡ c)
+        × (writeContent c ≡ writeMany writePointer (pointersIn (some c)))
     back (pointersOf l) h = (h, refl, refl)
     back (indicesOf l) h = absurd h
 format-content s (indices n) =
@@ -54,7 +56,8 @@ format-content s (indices n) =
     (GoodContent s (indices n)) (λ l h. (h, refl)) back (format-many readIndex writeIndex GoodIndex format-index n)
   where
     back : (c : Content) → GoodContent s (indices n) c
-        → (Each GoodIndex (indicesIn (some c)) × (length (indicesIn (some c)) ≡ n)) × (indicesOf (indicesIn (some c)) ≡ c) × (writeContent c ≡ writeMany writeIndex (indicesIn (some c)))
+        → (Each GoodIndex (indicesIn (some c)) × (length (indicesIn (some c)) ≡ n)) × (indicesOf (indicesIn (some c)) ≡ c)
+        × (writeContent c ≡ writeMany writeIndex (indicesIn (some c)))
     back (pointersOf l) h = absurd h
     back (indicesOf l) h = (h, refl, refl)
 

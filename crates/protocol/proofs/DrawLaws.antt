@@ -8,8 +8,8 @@ use native.Mathlib.Omega.{arith}
 use Rattle.protocol.specs.declared.measures.Measures.{Measures}
 use Rattle.protocol.specs.declared.version.Version.{Version}
 use Rattle.protocol.specs.Run.{upd}
-use Rattle.protocol.proofs.MeasureLaws.{Passed}
 use Rattle.protocol.proofs.Cells.{by-eq}
+use Rattle.protocol.proofs.MeasureLaws.{Passed}
 use Rattle.protocol.proofs.Model.{num, Rows, Turn, Model, last, Above}
 use Rattle.protocol.proofs.Invariants.{Owned, Drawing}
 use Rattle.protocol.proofs.PastLaws.{draw-fresh}

@@ -28,9 +28,10 @@ use Rattle.protocol.proofs.Model.{Rows, Turn, Model, Past, Nodes, Next,
 use Rattle.protocol.proofs.Invariants.{Own}
 use Rattle.protocol.proofs.Invariant.{Invariant}
 use Rattle.protocol.proofs.View.{Shows, Follows, GoodRows, GoodTurn, phaseOf, clientAt, rowsAt, callsOf, returnsOf}
-use Rattle.protocol.proofs.ViewLaws.{sane-number, sane-quiet, goes-shows, unsent, own-turned, rows-turned}
-use Rattle.protocol.proofs.HandLaws.{sent-shows, quiet-mark, others-answered, update-opened, update-refused, scan-opened, scan-refused}
-use Rattle.protocol.proofs.DepositLaws.{highest-rows, stores-sent, piece-good, storing-good}
+use Rattle.protocol.proofs.ViewLaws.{sane-number, sane-quiet, goes-shows, unsent, own-turned, rows-turned, quiet-mark}
+use Rattle.protocol.proofs.GoodLaws.{piece-stored}
+use Rattle.protocol.proofs.DepositLaws.{highest-rows, stores-sent, storing-good}
+use Rattle.protocol.proofs.HandLaws.{sent-shows, others-answered, update-opened, update-refused, scan-opened, scan-refused}
 
 -- ---- an update's answer
 
@@ -72,9 +73,10 @@ module _ (z : Measures) (honest : ℕ → Bool) (passed : passes z ≡ true) (st
 
   quiet : (t : Turn) → Quiet (s .h) (mark z c (asks t) (st .history))
   unfolding asks
-  quiet t = rw (o .history) (quiet-mark z c (asks t) (s .h) refl)
+  quiet t = rw (o .history) (quiet-mark z c (asks t) (s .h) (s .h .replied) refl)
 
-  pub updated-follows : (x : Pointer) → s .c .turn c ≡ Turn.updated x → Follows z honest s (hand c room) (returned z c [] (updateAnswer z c (st .clients c) room) st)
+  pub updated-follows : (x : Pointer) → s .c .turn c ≡ Turn.updated x
+      → Follows z honest s (hand c room) (returned z c [] (updateAnswer z c (st .clients c) room) st)
   unfolding asks
   updated-follows x e = go (decLe (roomSize z) (length room))
     where
@@ -129,7 +131,7 @@ module _ (z : Measures) (honest : ℕ → Bool) (passed : passes z ≡ true) (st
             refl
             (λ i t lo up. unsent z spentEnd i (st .toNode c i) (s .n .toNode c i) refl (o .toNode c i l t lo up))
             (λ j i ne. refl) (o .toClient) (o .liars);
-        sane = sane-number (hand c room) (byClient spent) 7 refl (λ x. omega arith) (λ x. omega arith) (λ x. omega arith);
+        sane = sane-number (hand c room) (byClient spent) 7 refl refl;
       }
 
   -- a version is drawn and its pieces are sent
@@ -176,7 +178,7 @@ module _ (z : Measures) (honest : ℕ → Bool) (passed : passes z ≡ true) (st
             (λ i x lo up.
             rw (eq-eqb c c refl)
             (sent-shows z drawnEnd i lo up (ToNode.store v (piece (z .k) bytes i)) (stores-sent z passed v bytes room (page .1) enough i lo up)
-            (good-version few, piece-good z passed v bytes room (page .1) enough i) (st .toNode c i) (s .n .toNode c i) (o .toNode c i l x lo up)))
+            (good-version few, piece-stored z (measures z passed) bytes (page .1) i) (st .toNode c i) (s .n .toNode c i) (o .toNode c i l x lo up)))
             (λ j i ne. rw (ne-eqb j c ne) refl) (o .toClient) (o .liars);
         sane = sane-quiet (hand c room) (byClient (drawnEnd .answer)) refl;
       }
@@ -193,6 +195,7 @@ module _ (z : Measures) (honest : ℕ → Bool) (passed : passes z ≡ true) (st
       → Follows z honest s (hand c room) (returned z c [] (scanAnswer z c (st .clients c) (writeDirectory z (rowsAt z a)) room) st)
   drawn-follows b = go (decLe (roomSize z) (length room))
     where
-      go : Dec (roomSize z ≤ length room) → Follows z honest s (hand c room) (returned z c [] (scanAnswer z c (st .clients c) (writeDirectory z (rowsAt z a)) room) st)
+      go : Dec (roomSize z ≤ length room)
+          → Follows z honest s (hand c room) (returned z c [] (scanAnswer z c (st .clients c) (writeDirectory z (rowsAt z a)) room) st)
       go (no short) = scan-refused z honest passed st s o c l room [] a good-rows (omega arith)
       go (yes enough) = known enough (ltb (highest (rowsAt z a) .0) 4294967295) refl

@@ -1,4 +1,4 @@
--- Every step keeps what is known of the versions drawn.
+-- What is known of the versions drawn: every step keeps `Drawing`.
 use mathlib.Core.Path.{_≡_, refl, sym, ap, _∙_}
 use mathlib.Core.Bool.{Bool, true}
 use mathlib.Core.Logic.{_⊎_, inl, inr}
@@ -12,29 +12,11 @@ use Rattle.protocol.specs.declared.version.Version.{Version}
 use Rattle.protocol.specs.Nodes.{count, withNode}
 use Rattle.protocol.specs.Pointer.{Pointer, nonePointer}
 use Rattle.protocol.specs.Run.{History}
+use Rattle.protocol.proofs.Cells.{by-eq}
 use Rattle.protocol.proofs.MeasureLaws.{Passed}
 use Rattle.protocol.proofs.NodeMapLaws.{with-below}
-use Rattle.protocol.proofs.Cells.{by-eq}
-use Rattle.protocol.proofs.Model.{
-  num,
-  ver,
-  Rows,
-  Turn,
-  Clients,
-  Shown,
-  Nodes,
-  Past,
-  Model,
-  newest,
-  last,
-  turned,
-  frozenBy,
-  drawnBy,
-  pointedBy,
-  pointed,
-  Above,
-  Next,
-}
+use Rattle.protocol.proofs.Model.{num, ver, Rows, Turn, Clients, Shown, Nodes, Past, Model, newest, last}
+use Rattle.protocol.proofs.Model.{turned, frozenBy, drawnBy, pointedBy, pointed, Above, Next}
 use Rattle.protocol.proofs.Invariants.{Storing, Owned, Pointed, Draws, Drawing}
 use Rattle.protocol.proofs.VersionNumbers.{num-client, num-sequence, unnum-num}
 use Rattle.protocol.proofs.PastLaws.{client-fits, pointed-version, draw-fresh}

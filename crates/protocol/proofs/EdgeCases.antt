@@ -1,24 +1,23 @@
 -- Document 01's edges hold of the definitions.
-use mathlib.Core.Path.{_≡_, refl, sym, ap, subst, _∙_}
+use mathlib.Core.Path.{_≡_, refl, ap, _∙_}
 use mathlib.Core.Bool.{Bool, true, false, cond}
 use mathlib.Core.List.{List, [], _∷_}
 use mathlib.Core.Option.{Option, some, none}
 use Prim.Native.Nat.{ℕ, zero, suc, _*_, _≤_, _<_}
 use native.Mathlib.Omega.{arith}
-use borrow.Author.Tests.{le-leb, lt-ltb, le-ltb}
-use lib.Dec.{leb, ltb}
+use borrow.Author.Tests.{le-leb, lt-ltb}
+use lib.Dec.{ltb}
 use lib.ListN.{length, getD, replicate}
-use Rattle.coding.specs.Pieces.{columns}
 use Rattle.coding.proofs.EdgeCases.{edges as coding-edges}
 use Rattle.protocol.specs.declared.measures.Measures.{Measures}
 use Rattle.protocol.specs.declared.version.ReadingIndex.{ReadingIndex}
 use Rattle.protocol.specs.declared.version.Sequence.{Sequence}
 use Rattle.protocol.specs.Format.{Read, readNumber, whole}
-use Rattle.protocol.specs.Measures.{passes, rowSize}
+use Rattle.protocol.specs.Measures.{passes}
 use Rattle.protocol.specs.Version.{below, nextSequence}
 use Rattle.protocol.specs.Pointer.{Pointer, nonePointer}
 use Rattle.protocol.specs.Directory.{Row, readRecord, readDirectory, freshRow, freshDirectory}
-use Rattle.protocol.specs.Client.{Phase, Client, readClient, clientSize}
+use Rattle.protocol.specs.Client.{Phase, Client, clientSize}
 use Rattle.protocol.specs.Deposit.{highest}
 use Rattle.protocol.specs.Reading.{candidate, pick}
 use Rattle.protocol.specs.Answer.{refuses, empty}
@@ -64,7 +63,8 @@ fresh-pick : (s : Measures) (own : ℕ) (i : ReadingIndex) (n : ℕ) → pick ow
 unfolding pick
 fresh-pick s own i zero = refl
 fresh-pick s own i (suc n) =
-    ap (λ (p : Pointer). cond (below (p .version) (pick own i (replicate n (freshRow s)) .version)) (pick own i (replicate n (freshRow s))) p) (fresh-offer s own i)
+    ap (λ (p : Pointer). cond (below (p .version) (pick own i (replicate n (freshRow s)) .version)) (pick own i (replicate n (freshRow s))) p)
+    (fresh-offer s own i)
     ∙ ap (λ (p : Pointer). cond (below (nonePointer .version) (p .version)) p nonePointer) (fresh-pick s own i n)
 
 fresh-highest : (s : Measures) (n : ℕ) → highest (replicate n (freshRow s)) ≡ record { 0 = 0 }
@@ -76,7 +76,8 @@ fresh-highest s (suc n) = ap (λ (q : Sequence). cond (ltb (q .0) 0) (record { 0
 answered : (s : Measures) (own : ℕ) (client rows room : List ℕ) (c : Client) (l : List Row) (h : Handed s own client rows room c l) (p : Phase) → c .phase ≡ p
     → scanAnswer s own client rows room .answer ≡ after s client room [] (h .record-rest) (scannedAt s own c room l p) .answer
 answered s own client rows room c l h p e =
-    ap (λ (x : ClientEnd). x .answer) (handed s own client rows room c l h ∙ ap (λ (y : Phase). after s client room [] (h .record-rest) (scannedAt s own c room l y)) e)
+    ap (λ (x : ClientEnd). x .answer)
+    (handed s own client rows room c l h ∙ ap (λ (y : Phase). after s client room [] (h .record-rest) (scannedAt s own c room l y)) e)
 
 nothing : (s : Measures) (own : ℕ) (client rows room : List ℕ) (c : Client) → Handed s own client rows room c (freshDirectory s)
     → c .phase ≡ Phase.picking → scanAnswer s own client rows room .answer ≡ empty
@@ -92,7 +93,8 @@ drawn s own client rows room bytes c l h q e f =
     answered s own client rows room c l h (Phase.scanning bytes) e
     ∙ ap (λ (x : Sequence). after s client room [] (h .record-rest) (draw s own c room bytes (nextSequence x)) .answer) f
 
-wrong : (s : Measures) (own : ℕ) (table rest : List ℕ) (r : Option (Read (List Row))) → onTable s own table r (whole (readRecord s) (0x10 ∷ rest)) .answer ≡ refuses 4
+wrong : (s : Measures) (own : ℕ) (table rest : List ℕ) (r : Option (Read (List Row)))
+    → onTable s own table r (whole (readRecord s) (0x10 ∷ rest)) .answer ≡ refuses 4
 unfolding readRecord readNumber
 wrong s own table rest none = refl
 wrong s own table rest (some r) = refl

@@ -1,4 +1,4 @@
--- What a reading has fetched stays the deposit's pieces.
+-- What a reading has fetched are its deposit's pieces: every step keeps `Fetching`.
 use mathlib.Core.Path.{_≡_, refl, sym, ap, _∙_}
 use mathlib.Core.Bool.{Bool, true, false, true≢false}
 use mathlib.Core.List.{List, []}
@@ -13,8 +13,8 @@ use Rattle.protocol.specs.declared.measures.Measures.{Measures}
 use Rattle.protocol.specs.Nodes.{count, stands, withNode}
 use Rattle.protocol.specs.Pointer.{Pointer}
 use Rattle.protocol.specs.Run.{upd}
-use Rattle.protocol.proofs.MeasureLaws.{Passed}
 use Rattle.protocol.proofs.Cells.{by-eq}
+use Rattle.protocol.proofs.MeasureLaws.{Passed}
 use Rattle.protocol.proofs.NodeMapLaws.{with-node, with-others, stands-none, with-below}
 use Rattle.protocol.proofs.Model.{num, ver, Turn, Clients, Past, Model, shownWritten, rowsOf, begunBy, drawnBy, pointedBy, pointed, Next}
 use Rattle.protocol.proofs.Invariants.{Known, Own, Owned, Drawing, Fetched, FetchedAt, Fetching}
@@ -74,8 +74,8 @@ fetched-none z honest ok p x =
 
 module _ (z : Measures) (honest : ℕ → Bool) (p : Past) (x : Pointer) (n m : ℕ) (ps : List (List ℕ)) (i : ℕ) (lo : 1 ≤ i) (up : i ≤ z .n) where
   -- a reply of a dishonest node that does not match is counted
-  fetched-missed : honest i ≡ false → stands n i ≡ false → Fetched z honest p x n m ps → Fetched z honest p x (withNode n i) m ps
-  fetched-missed un st f =
+  fetched-missed : honest i ≡ false → Fetched z honest p x n m ps → Fetched z honest p x (withNode n i) m ps
+  fetched-missed un f =
       record {
         pieces = f .pieces;
         matching = λ j hi l u s.
@@ -149,7 +149,7 @@ fetching-kept z honest ok s t (Next.formed i c v b a qs h q l lo up e co st en) 
     turn-kept z honest s o f (pointedBy (s .p) (num v) (pointed z v b (withNode a i))) (λ u g. refl) c (Turn.updating (pointed z v b (withNode a i))) tt
 fetching-kept z honest ok s t (Next.missed i c x n m ps y qs h q l lo up e co hi sn st) o d f =
     turn-kept z honest s o f (s .p) (λ v g. refl) c (Turn.fetching x (withNode n i) m ps)
-    (fetched-missed z honest (s .p) x n m ps i lo up hi st (rw e at (f c l)))
+    (fetched-missed z honest (s .p) x n m ps i lo up hi (rw e at (f c l)))
 fetching-kept z honest ok s t (Next.matched i c x n m ps b qs h q l lo up e co sn st eb few) o d f =
     turn-kept z honest s o f (s .p) (λ v g. refl) c (Turn.fetching x (withNode n i) (withNode m i) (set ps (i - 1) b))
     (fetched-matched z honest (s .p) x n m ps i lo up b eb few (rw e at (f c l)))

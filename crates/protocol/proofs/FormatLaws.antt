@@ -6,17 +6,18 @@ use mathlib.Core.Option.{Option, some, none}
 use Prim.Native.Nat.{ℕ, zero, suc, _+_, _-_, _*_, _/_, _%_, _^_, _<_, _≤_}
 use native.Mathlib.Nat.{div-lt-iff-lt-mul, div-add-mod', pow-suc, suc-mul}
 use native.Mathlib.Omega.{arith}
-use borrow.Author.Tests.{le-leb, lt-leb, eq-eqb, eqb-true}
 use native.Mathlib.Decide.{decLe}
+use borrow.Author.Tests.{le-leb, lt-leb, eq-eqb, eqb-true}
 use lib.Dec.{leb, eqb}
 use lib.ListN.{length, getD, take, drop, replicate, length-replicate, length-append, take-append-drop}
 use lib.Seq.{take-at, drop-at, length-take-le, ext-getD}
 use Rattle.coding.specs.Nodes.{all}
+use Rattle.coding.specs.Bytes.{Bytes}
 use Rattle.coding.proofs.BytesLaws.{zeros-at}
 use Rattle.coding.proofs.PageLaws.{none≢some, some-eq, all-at, all-from}
 use Rattle.coding.proofs.PolynomialLaws.{bytes-take}
-use Rattle.coding.specs.Bytes.{Bytes}
-use Rattle.protocol.specs.Format.{Read, Reader, bind, check, both, given, mapped, readNothing, readByte, readNumber, writeNumber, readMany, writeMany, readEach, readBytes, readZeros, readArea, writeArea}
+use Rattle.protocol.specs.Format.{Read, Reader, bind, check, both, given, mapped, readNothing, readByte, readNumber, writeNumber}
+use Rattle.protocol.specs.Format.{readMany, writeMany, readEach, readBytes, readZeros, readArea, writeArea}
 
 -- a reader and a writer that undo each other on the values that are good
 pub record Format (A : Type 0) (read : Reader A) (write : A → List ℕ) (good : A → Type 0) : Type 0 where
@@ -31,7 +32,8 @@ bytes-rest (x ∷ p) s b = bytes-rest p s (λ i. b (suc i))
 -- two formats, one after the other, where the second may go by the first one's value
 module _ {A B C : Type 0} (ra : Reader A) (wa : A → List ℕ) (ga : A → Type 0) (rb : A → Reader B) (wb : A → B → List ℕ) (gb : A → B → Type 0)
     (make : A → B → C) (first : C → A) (second : C → B)
-    (made : (c : C) → make (first c) (second c) ≡ c) (one : (a : A) (b : B) → ga a → gb a b → first (make a b) ≡ a) (two : (a : A) (b : B) → second (make a b) ≡ b)
+    (made : (c : C) → make (first c) (second c) ≡ c) (one : (a : A) (b : B) → ga a → gb a b → first (make a b) ≡ a)
+    (two : (a : A) (b : B) → second (make a b) ≡ b)
     (fa : Format A ra wa ga) (fb : (a : A) → Format B (rb a) (wb a) (gb a)) where
   pub format-then : Format C
       (both ra rb make)
@@ -52,7 +54,8 @@ module _ {A B C : Type 0} (ra : Reader A) (wa : A → List ℕ) (ga : A → Type
     where
       ends : (s : List ℕ) (r : Read C) (a : Read A) → Bytes s → ra s ≡ some a → (b : Option (Read B)) → rb (a .value) (a .rest) ≡ b
           → bind b (λ b u. some (record { value = make (a .value) b; rest = u })) ≡ some r
-          → (ga (first (r .value)) × gb (first (r .value)) (second (r .value))) × (s ≡ (wa (first (r .value)) ++ wb (first (r .value)) (second (r .value))) ++ r .rest)
+          → (ga (first (r .value)) × gb (first (r .value)) (second (r .value)))
+          × (s ≡ (wa (first (r .value)) ++ wb (first (r .value)) (second (r .value))) ++ r .rest)
       ends s r a b p none q e = absurd (none≢some e)
       ends s r a b p (some y) q e =
           let x = fa .only s a b p in
@@ -65,7 +68,8 @@ module _ {A B C : Type 0} (ra : Reader A) (wa : A → List ℕ) (ga : A → Type
 
       parts : (s : List ℕ) (r : Read C) → Bytes s → (a : Option (Read A)) → ra s ≡ a
           → bind a (λ a t. bind (rb a t) (λ b u. some (record { value = make a b; rest = u }))) ≡ some r
-          → (ga (first (r .value)) × gb (first (r .value)) (second (r .value))) × (s ≡ (wa (first (r .value)) ++ wb (first (r .value)) (second (r .value))) ++ r .rest)
+          → (ga (first (r .value)) × gb (first (r .value)) (second (r .value)))
+          × (s ≡ (wa (first (r .value)) ++ wb (first (r .value)) (second (r .value))) ++ r .rest)
       parts s r b none p e = absurd (none≢some e)
       parts s r b (some a) p e = ends s r a b p (rb (a .value) (a .rest)) refl e
 

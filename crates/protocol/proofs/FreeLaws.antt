@@ -26,11 +26,11 @@ use Rattle.protocol.specs.Message.{ToNode, writeToNode}
 use Rattle.protocol.specs.Client.{Phase, Client}
 use Rattle.protocol.specs.Deposit.{noticed, frozenAfter, replaced, insert, stillRetained, freeList, freed}
 use Rattle.protocol.specs.ClientEvents.{roomSize}
+use Rattle.protocol.proofs.Cells.{is-false}
 use Rattle.protocol.proofs.FormatLaws.{Each, length-same}
+use Rattle.protocol.proofs.VersionLaws.{neither-below, same-eq, eq-same}
 use Rattle.protocol.proofs.PointerLaws.{length-version}
-use Rattle.protocol.proofs.VersionLaws.{neither-below}
 use Rattle.protocol.proofs.NodeLaws.{keep-ascending}
-use Rattle.protocol.proofs.PlaysLaws.{same-eq, eq-same}
 use Rattle.protocol.proofs.Model.{Rows, Clients, notices, frozenBy, Replaced, Retains, Frees}
 use Rattle.protocol.proofs.View.{clientAt, rowAt, rowsAt}
 
@@ -369,7 +369,7 @@ module _ (z : Measures) (k : Clients) (a : Rows) (c : ℕ) (x : Pointer) where
         replaced = λ v e. gone-from z k a c x v (z .m) (omega arith) (parts v e .0);
         left = λ v e r. true≢false (sym (listed-there v none kept (retained-to z (frozenBy k c x a) c v r)) ∙ parts v e .1);
         proper = λ v e n. true≢false (sym (listed-here v none kept (sym n)) ∙ parts v e .1);
-        all = λ v r nr nn. freed-listed v ∙ rw (gone-to z k a c x v r) (ap not (unkept v nr nn (listed v (none ∷ kept)) refl));
+        all = λ v r nr nn. freed-listed v ∙ rw (gone-to z k a c x v r) (ap not (is-false (listed v (none ∷ kept)) (unkept v nr nn)));
       }
     where
       parts : (v : Version) → listed v (freed z c (clientAt z k c) (rowsAt z a) x) ≡ true
@@ -378,9 +378,8 @@ module _ (z : Measures) (k : Clients) (a : Rows) (c : ℕ) (x : Pointer) where
           let y = and-true (listed v (gone z k a c x (z .m))) (not (listed v (none ∷ kept))) (sym (freed-listed v) ∙ e) in
           (y .0, not-true (listed v (none ∷ kept)) (y .1))
 
-      unkept : (v : Version) → (Retains z (frozenBy k c x a) c v → ⊥) → (v ≡ none → ⊥) → (b : Bool) → listed v (none ∷ kept) ≡ b → b ≡ false
-      unkept v nr nn false e = refl
-      unkept v nr nn true e = absurd (go (listed-split v none kept e))
+      unkept : (v : Version) → (Retains z (frozenBy k c x a) c v → ⊥) → (v ≡ none → ⊥) → listed v (none ∷ kept) ≡ true → ⊥
+      unkept v nr nn e = go (listed-split v none kept e)
         where
           go : (none ≡ v) ⊎ (listed v kept ≡ true) → ⊥
           go (inl h) = nn (sym h)

@@ -6,13 +6,11 @@ use mathlib.Core.List.{[], _∷_, _++_}
 use Prim.Native.Nat.{ℕ, zero, suc, _<_}
 use native.Mathlib.Omega.{arith}
 use native.Mathlib.Numerals.{add-one}
-use borrow.Author.Tests.{le-leb}
 use lib.ListN.{replicate, replicate-append-replicate}
 use Rattle.coding.specs.Bytes.{tabulate}
 use Rattle.protocol.specs.declared.measures.Measures.{Measures}
 use Rattle.protocol.specs.declared.version.Version.{Version}
 use Rattle.protocol.specs.declared.version.ReadingIndex.{ReadingIndex}
-use Rattle.protocol.specs.Measures.{places}
 use Rattle.protocol.specs.Version.{none as noVersion, ascending}
 use Rattle.protocol.specs.Pointer.{nonePointer}
 use Rattle.protocol.specs.Directory.{writeDirectory, freshRow, freshDirectory}
@@ -21,7 +19,7 @@ use Rattle.protocol.specs.Client.{writeClient, freshClient}
 use Rattle.protocol.specs.Run.{fresh}
 use Rattle.protocol.proofs.MeasureLaws.{Passed}
 use Rattle.protocol.proofs.RowLaws.{GoodRow, fresh-good}
-use Rattle.protocol.proofs.NodeTableLaws.{GoodTable}
+use Rattle.protocol.proofs.NodeLaws.{empty-good}
 use Rattle.protocol.proofs.ClientLaws.{GoodClient, fresh-client}
 use Rattle.protocol.proofs.Model.{Turn, Model, rowsOf}
 use Rattle.protocol.proofs.Invariants.{Known, KnownVersion, Lag, Keeps}
@@ -75,10 +73,6 @@ row-is z w i =
 
 rows-are : (z : Measures) → rowsAt z (rowsOf (freshModel z)) ≡ freshDirectory z
 rows-are z = ap (tabulate (z .m)) (λ i w. row-is z w i) ∙ tabulate-same (z .m) (freshRow z)
-
-empty-good : (z : Measures) → GoodTable z []
-unfolding ascending
-empty-good z = ((omega arith, le-leb 0 (places z) (omega arith)), (((tt, refl), refl), tt))
 
 pub fresh-shows : (z : Measures) (honest : ℕ → Bool) → Shows z honest (fresh z) (freshModel z)
 fresh-shows z honest =

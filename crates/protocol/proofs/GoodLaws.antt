@@ -1,20 +1,18 @@
 -- What the invariants say of forms: pointers that deposits formed, and the pieces and digests of pages, are well formed.
-use mathlib.Core.Path.{_≡_, sym, ap, subst, _∙_}
+use mathlib.Core.Path.{_≡_, sym, subst, _∙_}
 use mathlib.Core.Bool.{true, false}
 use mathlib.Core.Logic.{_⊎_, inl, inr}
-use mathlib.Core.List.{List, [], _∷_, map}
-use Prim.Native.Nat.{ℕ, zero, suc, _+_, _-_, _*_, _^_, _<_, _≤_}
+use mathlib.Core.List.{List, [], map}
+use Prim.Native.Nat.{ℕ, _+_, _-_, _*_, _^_, _<_, _≤_}
 use native.Mathlib.Nat.{le-refl}
 use native.Mathlib.Decide.{ℕ-discrete}
 use native.Mathlib.Omega.{arith}
 use borrow.Author.Tests.{le-leb, lt-ltb, eq-eqb, ne-eqb}
-use lib.Pow.{pow-mono}
-use lib.ListN.{length, getD, replicate, length-replicate, length-map, List·getD-map}
-use Rattle.coding.specs.Bytes.{tabulate}
+use lib.ListN.{length, getD, replicate, length-replicate, length-map}
 use Rattle.coding.specs.Pieces.{proper, piece}
 use Rattle.coding.specs.Digest.{pieceDigest}
 use Rattle.coding.specs.Nodes.{nodesOf}
-use Rattle.coding.proofs.BytesLaws.{length-tabulate, getD-tabulate}
+use Rattle.coding.proofs.BytesLaws.{length-tabulate}
 use Rattle.coding.proofs.NodesLaws.{nodes-within}
 use Rattle.coding.proofs.DigestLaws.{length-digest, bytes-digest}
 use Rattle.coding.proofs.RoundTripLaws.{length-piece}
@@ -25,34 +23,16 @@ use Rattle.protocol.specs.Nodes.{nodesIn, count}
 use Rattle.protocol.specs.Pointer.{Pointer, nonePointer, isNone, properPointer, writeVersion}
 use Rattle.protocol.specs.Deposit.{digestsOf, pointerOf}
 use Rattle.protocol.proofs.FormatLaws.{Each}
+use Rattle.protocol.proofs.EachLaws.{each-at, each-map, each-tabulate}
 use Rattle.protocol.proofs.MeasureLaws.{Passed}
 use Rattle.protocol.proofs.PointerLaws.{GoodPointer}
 use Rattle.protocol.proofs.RowLaws.{none-good}
-use Rattle.protocol.proofs.ClientLaws.{GoodDigest}
-use Rattle.protocol.proofs.MessageLaws.{GoodStored}
 use Rattle.protocol.proofs.NodeMapLaws.{nodes-all}
+use Rattle.protocol.proofs.MessageLaws.{GoodStored}
+use Rattle.protocol.proofs.ClientLaws.{GoodDigest, map-fits}
 use Rattle.protocol.proofs.Model.{ver, Model, pointed}
 use Rattle.protocol.proofs.Invariants.{Known, Drawing, Pointed, unnum}
-
--- ---- entries by place
-
-pub each-from : {A : Type 0} (g : A → Type 0) (d : A) (l : List A) → ((i : ℕ) → i < length l → g (getD l i d)) → Each g l
-each-from g d [] h = tt
-each-from g d (a ∷ l) h = (h 0 (omega arith), each-from g d l (λ i b. h (suc i) (omega arith)))
-
-pub each-at : {A : Type 0} (g : A → Type 0) (d : A) (l : List A) → Each g l → (i : ℕ) → i < length l → g (getD l i d)
-each-at g d [] e i h = absurd (omega arith)
-each-at g d (a ∷ l) e zero h = e .0
-each-at g d (a ∷ l) e (suc i) h = each-at g d l (e .1) i (omega arith)
-
-pub each-tabulate : {A : Type 0} (g : A → Type 0) (n : ℕ) (f : ℕ → A) → ((i : ℕ) → i < n → g (f i)) → Each g (tabulate n f)
-each-tabulate g n f h =
-    each-from g (f 0) (tabulate n f) (λ i b.
-    let l : i < n = rw (length-tabulate n f) at b in subst g (sym (getD-tabulate n f i (f 0) l)) (h i l))
-
-pub each-map : {A B : Type 0} (g : B → Type 0) (f : A → B) (d : A) (l : List A) → ((i : ℕ) → i < length l → g (f (getD l i d))) → Each g (map f l)
-each-map g f d l h =
-    each-from g (f d) (map f l) (λ i b. subst g (sym (List·getD-map f l i d)) (h i (rw (length-map l f) at b)))
+use Rattle.protocol.proofs.PastLaws.{some-formed}
 
 -- ---- pieces of a page that fits
 
@@ -115,9 +95,8 @@ pub pointed-good : (z : Measures) → Passed z → (v : Version) (page : List �
     → a < 2 ^ z .n → count a ≡ z .t + z .k → GoodPointer z (pointed z v page a)
 unfolding pointerOf properPointer
 pointed-good z p v page a one fits writer bits enough =
-    let m : a < 256 ^ 2 = omega (arith, p .nodes, pow-mono {j = 16} (p .nodes .1)) in
     let c : v .client < 256 = omega (arith, p .clients .1) in (
-      ((fits, c), (m, (named, length-map (nodesIn a) _))),
+      ((fits, c), (map-fits z p a bits, (named, length-map (nodesIn a) _))),
       simp (
         ne-eqb (v .sequence .0) 0 (λ q. omega arith),
         le-leb 1 (v .sequence .0) one,
@@ -137,14 +116,15 @@ pointed-good z p v page a one fits writer bits enough =
     named : Each GoodDigest (map (λ i. getD (digestsOf z v page) (i - 1) []) (nodesIn a))
     named =
         each-map GoodDigest (λ i. getD (digestsOf z v page) (i - 1) []) 0 (nodesIn a)
-        (λ i l. each-at GoodDigest [] (digestsOf z v page) (digests-good z v page) (getD (nodesIn a) i 0 - 1) (omega (arith, among i l, length-digests z v page)))
+        (λ i l.
+        each-at GoodDigest [] (digestsOf z v page) (digests-good z v page) (getD (nodesIn a) i 0 - 1) (omega (arith, among i l, length-digests z v page)))
 
 pub known-good : (z : Measures) → Passed z → (s : Model) → Drawing z s → (w : ℕ) → w < z .m → (x : Pointer) → Known (s .p) w x → GoodPointer z x
 known-good z p s o w l x (Known.absent e) = subst (GoodPointer z) (sym e) (none-good z)
 known-good z p s o w l x (Known.formed d e c h) = go (o (ver x) d .pointer)
   where
     go : (s .p .pointers (ver x) ≡ nonePointer) ⊎ Pointed z (s .p) (ver x) → GoodPointer z x
-    go (inl q) = let n : ver x ≡ 255 = ap ver (sym e ∙ q) in absurd (omega arith)
+    go (inl q) = absurd (some-formed (s .p) x e h q)
     go (inr q) =
         let y = o (ver x) d in
         subst (GoodPointer z) (sym (q .pointer) ∙ e)

@@ -1,5 +1,5 @@
 -- Answers of directory calls handed to their clients are steps of the model.
-use mathlib.Core.Path.{_≡_, refl, sym, ap, _∙_}
+use mathlib.Core.Path.{_≡_, refl, ap}
 use mathlib.Core.Bool.{Bool, true, false, _&&_}
 use mathlib.Core.List.{List, [], _∷_}
 use Prim.Native.Nat.{ℕ, _*_, _≤_, _<_}
@@ -14,11 +14,11 @@ use Rattle.protocol.specs.Measures.{passes, rowSize}
 use Rattle.protocol.specs.Client.{clientSize}
 use Rattle.protocol.specs.Answer.{refused}
 use Rattle.protocol.specs.ClientEvents.{ClientEnd, roomSize, unchanged, updateAnswer, scanAnswer}
-use Rattle.protocol.specs.Run.{State, Return, updated, rows, Event, nothing, tick, stays, returned, handed, carryOut, hand}
+use Rattle.protocol.specs.Run.{State, Return, updated, rows, returned, handed, carryOut, hand}
 use Rattle.protocol.proofs.Model.{Turn, Model}
 use Rattle.protocol.proofs.Invariant.{Invariant}
 use Rattle.protocol.proofs.View.{Shows, Follows, returnsOf}
-use Rattle.protocol.proofs.ViewLaws.{sane-quiet, quiet-tick, stays-follows}
+use Rattle.protocol.proofs.ViewLaws.{ordinary, silent-follows}
 use Rattle.protocol.proofs.HandLaws.{returned-refused}
 use Rattle.protocol.proofs.DrawShows.{updated-follows, raised-follows, drawn-follows}
 use Rattle.protocol.proofs.ScanShows.{frozen-follows, picked-follows}
@@ -26,20 +26,14 @@ use Rattle.protocol.proofs.ScanShows.{frozen-follows, picked-follows}
 module _ (z : Measures) (honest : ℕ → Bool) (passed : passes z ≡ true) (st : State) (s : Model) (o : Shows z honest st s) where
   -- nothing is under way
   still : (c : ℕ) (room : List ℕ) → Follows z honest s (hand c room) (handed z c room [] st)
-  still c room =
-      stays-follows z honest st s o (hand c room) nothing (tick (st .history)) (quiet-tick (st .history)) (sane-quiet (hand c room) nothing refl)
+  still c room = silent-follows z honest st s o (hand c room)
+
+  -- an answer that is refused
+  refusal : (c : ℕ) (room : List ℕ) (q : List Return) (e : ClientEnd) (n : ℕ) → ordinary n ≡ true → e ≡ unchanged (refused n) (st .clients c) room []
+      → Follows z honest s (hand c room) (returned z c q e st)
+  refusal c room q e n p f = returned-refused z honest passed st s o (hand c room) c q e n (ap (λ (x : ClientEnd). x .answer) f) p
 
   -- a client number out of bounds is 3, or 2 where a slice is too short
-  refusal : (c : ℕ) (room : List ℕ) (q : List Return) (e : ClientEnd) → e ≡ unchanged (refused 3) (st .clients c) room []
-      → Follows z honest s (hand c room) (returned z c q e st)
-  refusal c room q e f =
-      returned-refused z honest passed st s o (hand c room) c q e 3 (ap (λ (x : ClientEnd). x .answer) f) (λ x. omega arith) (λ x. omega arith) (λ x. omega arith)
-
-  short : (c : ℕ) (room : List ℕ) (q : List Return) (e : ClientEnd) → e ≡ unchanged (refused 2) (st .clients c) room []
-      → Follows z honest s (hand c room) (returned z c q e st)
-  short c room q e f =
-      returned-refused z honest passed st s o (hand c room) c q e 2 (ap (λ (x : ClientEnd). x .answer) f) (λ x. omega arith) (λ x. omega arith) (λ x. omega arith)
-
   stranger : (c : ℕ) (room : List ℕ) → z .m ≤ c → (q : List Return) → Follows z honest s (hand c room) (handed z c room q st)
   unfolding updateAnswer scanAnswer
   stranger c room l [] = still c room
@@ -47,17 +41,18 @@ module _ (z : Measures) (honest : ℕ → Bool) (passed : passes z ≡ true) (st
     where
       go : (b : Bool) → (leb (clientSize z) (length (st .clients c)) && leb (roomSize z) (length room)) ≡ b
           → Follows z honest s (hand c room) (returned z c q (updateAnswer z c (st .clients c) room) st)
-      go true e = refusal c room q (updateAnswer z c (st .clients c) room) (simp (passed, e, le-ltb c (z .m) l))
-      go false e = short c room q (updateAnswer z c (st .clients c) room) (simp (passed, e))
+      go true e = refusal c room q (updateAnswer z c (st .clients c) room) 3 refl (simp (passed, e, le-ltb c (z .m) l))
+      go false e = refusal c room q (updateAnswer z c (st .clients c) room) 2 refl (simp (passed, e))
   stranger c room l (rows b ∷ q) =
       go (leb (clientSize z) (length (st .clients c)) && (leb (z .m * rowSize z) (length b) && leb (roomSize z) (length room))) refl
     where
       go : (x : Bool) → (leb (clientSize z) (length (st .clients c)) && (leb (z .m * rowSize z) (length b) && leb (roomSize z) (length room))) ≡ x
           → Follows z honest s (hand c room) (returned z c q (scanAnswer z c (st .clients c) b room) st)
-      go true e = refusal c room q (scanAnswer z c (st .clients c) b room) (simp (passed, e, le-ltb c (z .m) l))
-      go false e = short c room q (scanAnswer z c (st .clients c) b room) (simp (passed, e))
+      go true e = refusal c room q (scanAnswer z c (st .clients c) b room) 3 refl (simp (passed, e, le-ltb c (z .m) l))
+      go false e = refusal c room q (scanAnswer z c (st .clients c) b room) 2 refl (simp (passed, e))
 
   module _ (inv : Invariant z honest s) (c : ℕ) (l : c < z .m) (room : List ℕ) (b : Bytes room) where
+    -- by the client's turn
     at-turn : (t : Turn) → s .c .turn c ≡ t → Follows z honest s (hand c room) (handed z c room (returnsOf z t) st)
     at-turn Turn.idle e = still c room
     at-turn (Turn.scanning bytes) e = still c room

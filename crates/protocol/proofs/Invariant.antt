@@ -6,16 +6,16 @@ use Rattle.protocol.proofs.MeasureLaws.{Passed}
 use Rattle.protocol.proofs.Model.{Model, Next}
 use Rattle.protocol.proofs.Invariants.{Owned, Drawing, Lagging, Retaining, Stocking, Arriving, Fetching}
 use Rattle.protocol.proofs.Chronicle.{Recording, Putting, Ordering}
+use Rattle.protocol.proofs.LaggingKept.{lagging-kept}
 use Rattle.protocol.proofs.OwnedKept.{owned-kept}
 use Rattle.protocol.proofs.DrawingKept.{drawing-kept}
-use Rattle.protocol.proofs.LaggingKept.{lagging-kept}
 use Rattle.protocol.proofs.RetainingKept.{retaining-kept}
 use Rattle.protocol.proofs.StockingKept.{stocking-kept}
 use Rattle.protocol.proofs.ArrivingKept.{arriving-kept}
 use Rattle.protocol.proofs.FetchingKept.{fetching-kept}
-use Rattle.protocol.proofs.RecordingKept.{recording-kept}
-use Rattle.protocol.proofs.PuttingKept.{putting-kept}
 use Rattle.protocol.proofs.OrderingKept.{ordering-kept}
+use Rattle.protocol.proofs.PuttingKept.{putting-kept}
+use Rattle.protocol.proofs.RecordingKept.{recording-kept}
 
 pub record Invariant (z : Measures) (honest : ℕ → Bool) (s : Model) : Type 0 where
   pub owned : Owned z s

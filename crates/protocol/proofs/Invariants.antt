@@ -1,18 +1,16 @@
 -- What holds of every model that a run comes to: the groups of invariants, each a record.
 use mathlib.Core.Path.{_≡_}
-use mathlib.Core.Bool.{Bool, true, false, cond, not, _&&_, _||_}
+use mathlib.Core.Bool.{Bool, true, false, not, _&&_, _||_}
 use mathlib.Core.Logic.{_⊎_}
-use mathlib.Core.List.{List, [], _∷_, _++_, map}
-use mathlib.Core.Option.{Option, some, none as nothing}
+use mathlib.Core.List.{List, [], _∷_}
 use Prim.Native.Nat.{ℕ, _+_, _-_, _*_, _/_, _%_, _^_, _≤_, _<_}
-use lib.Dec.{eqb, ltb}
 use lib.ListN.{length, getD}
 use Rattle.coding.specs.Bytes.{Bytes}
 use Rattle.coding.specs.Pieces.{piece}
 use Rattle.protocol.specs.declared.measures.Measures.{Measures}
 use Rattle.protocol.specs.declared.version.Version.{Version}
 use Rattle.protocol.specs.Version.{none as noVersion}
-use Rattle.protocol.specs.Nodes.{count, stands, withNode}
+use Rattle.protocol.specs.Nodes.{count, stands}
 use Rattle.protocol.specs.Pointer.{Pointer, nonePointer}
 use Rattle.protocol.specs.NodeTable.{Held, inOrder}
 use Rattle.protocol.specs.Node.{handBack, listed}
@@ -20,7 +18,7 @@ use Rattle.protocol.specs.NodeEvents.{isHeld}
 use Rattle.protocol.specs.Message.{ToNode, ToClient}
 use Rattle.protocol.specs.Reading.{sameVersion}
 use Rattle.protocol.proofs.FormatLaws.{Each}
-use Rattle.protocol.proofs.Model.{num, ver, Rows, Turn, Clients, Shown, Nodes, Past, Model, shownWritten, shownReading, offer, last, pointed}
+use Rattle.protocol.proofs.Model.{num, ver, Turn, Clients, Nodes, Past, Model, shownReading, offer, last, pointed}
 
 -- ---- pointers and versions of a client
 

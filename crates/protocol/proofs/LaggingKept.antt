@@ -9,10 +9,10 @@ use Rattle.coding.proofs.Cases.{and-true}
 use Rattle.protocol.specs.declared.measures.Measures.{Measures}
 use Rattle.protocol.specs.Pointer.{Pointer}
 use Rattle.protocol.specs.Run.{History, upd}
-use Rattle.protocol.proofs.MeasureLaws.{Passed}
 use Rattle.protocol.proofs.Cells.{by-eq}
-use Rattle.protocol.proofs.Model.{Turn, Rows, Clients, Shown, Nodes, Past, Model, Next}
-use Rattle.protocol.proofs.Model.{raisedTo, shownReading, notices, turned, raisedBy, frozenBy, published}
+use Rattle.protocol.proofs.MeasureLaws.{Passed}
+use Rattle.protocol.proofs.Model.{Turn, Rows, Clients, Shown, Nodes, Past, Model, Next, raisedTo}
+use Rattle.protocol.proofs.Model.{shownReading, notices, turned, raisedBy, frozenBy, published}
 use Rattle.protocol.proofs.Invariants.{Unput, Lag, Seen, Lagging, Owned}
 
 -- ---- of the clients alone

@@ -1,10 +1,17 @@
--- Members of a list with one more at its end.
-use mathlib.Core.Path.{_≡_, refl}
+-- Members of a list: of its first entry and its rest, and of one more at its end.
+use mathlib.Core.Path.{_≡_, refl, subst}
 use mathlib.Core.Logic.{_⊎_, inl, inr}
 use mathlib.Core.List.{List, [], _∷_, _++_}
 use Rattle.protocol.proofs.Invariants.{Member}
 
 module _ {A : Type 0} (x : A) where
+  pub member-first : (a : A) (l : List A) → a ≡ x → Member x (a ∷ l)
+  member-first a l e = subst (λ y. Member y (a ∷ l)) e (Member.here l)
+
+  pub member-cases : (a : A) (l : List A) → Member x (a ∷ l) → (x ≡ a) ⊎ Member x l
+  member-cases a l (Member.here r) = inl refl
+  member-cases a l (Member.there c r m) = inr m
+
   pub member-left : (l r : List A) → Member x l → Member x (l ++ r)
   member-left _ r (Member.here l) = Member.here (l ++ r)
   member-left _ r (Member.there b l m) = Member.there b (l ++ r) (member-left l r m)

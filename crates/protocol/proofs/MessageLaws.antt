@@ -18,8 +18,8 @@ use Rattle.protocol.specs.declared.version.Version.{Version}
 use Rattle.protocol.specs.Format.{Reader, Read, given, readMany, writeMany, chain, whole, endWith}
 use Rattle.protocol.specs.Version.{ascending}
 use Rattle.protocol.specs.Pointer.{readVersion, writeVersion}
-use Rattle.protocol.specs.Message.{properVersion, readProper, ToNode, ToClient, readStored, readVersions, readAnswer, writeAnswer, answer}
-use Rattle.protocol.specs.Message.{readToNode, writeToNode, readToClient, writeToClient}
+use Rattle.protocol.specs.Message.{properVersion, readProper, ToNode, ToClient, readStored, readVersions, readAnswer}
+use Rattle.protocol.specs.Message.{writeAnswer, answer, readToNode, writeToNode, readToClient, writeToClient}
 use Rattle.protocol.proofs.FormatLaws.{Format, format-check, format-many, Each, bytes-rest}
 use Rattle.protocol.proofs.PointerLaws.{GoodVersion, format-version, length-version}
 
@@ -119,7 +119,9 @@ message-answer = record { back = back; only = λ s a b e. only s a b e }
       where
         go : Dec (x ≡ 1) → GoodAnswer a × ((x ∷ p) ≡ writeAnswer a)
         go (yes h) =
-            let z : some (some p) ≡ some a = sym (ap (λ (c : Bool). cond c (some (some p)) (cond (eqb x 0 && eqb (length p) 0) (some none) none)) (eq-eqb x 1 h)) ∙ e in
+            let z : some (some p) ≡ some a =
+            sym (ap (λ (c : Bool). cond c (some (some p)) (cond (eqb x 0 && eqb (length p) 0) (some none) none)) (eq-eqb x 1 h)) ∙ e
+            in
             rw (← some-eq z) ((λ i. b (suc i)), rw h)
         go (no h) =
             let z : cond (eqb x 0 && eqb (length p) 0) (some none) none ≡ some a =
@@ -209,7 +211,9 @@ message-to-node s = record { back = back; only = λ b m bs e. only b m bs e }
             (format-proper s) (λ v. message-stored s) b m bb (tag-is x 1 _ _ m h e)
             in rw (y .4) ((y .2, y .3), λ i. h i ∷ y .5 i)
         go (no h) (yes j) k =
-            let y = one-part (whole (readProper s)) writeVersion (GoodNamedVersion s) ToNode.request alone-version b m bb (tag-is x 2 _ _ m j (tag-not x 1 _ _ m h e)) in
+            let y =
+            one-part (whole (readProper s)) writeVersion (GoodNamedVersion s) ToNode.request alone-version b m bb (tag-is x 2 _ _ m j (tag-not x 1 _ _ m h e))
+            in
             rw (y .2) (y .1, λ i. j i ∷ y .3 i)
         go (no h) (no j) (yes k) =
             let y = one-part (readVersions s) (writeMany writeVersion) (GoodVersions s) ToNode.free (message-versions s) b m bb

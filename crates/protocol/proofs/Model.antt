@@ -2,12 +2,11 @@
 -- What a client waits for and what is under way between it and the directory is one value, `Turn`.
 use mathlib.Core.Path.{_≡_}
 use mathlib.Core.Bool.{Bool, true, false, cond, not, _&&_}
-use mathlib.Core.Logic.{_⊎_}
-use mathlib.Core.List.{List, [], _∷_, _++_, map}
-use mathlib.Core.Option.{Option, some, none as nothing}
-use Prim.Native.Nat.{ℕ, _+_, _-_, _*_, _/_, _%_, _^_, _≤_, _<_}
+use mathlib.Core.List.{List, [], _∷_, _++_}
+use mathlib.Core.Option.{some, none as nothing}
+use Prim.Native.Nat.{ℕ, _+_, _-_, _*_, _^_, _≤_, _<_}
 use lib.Dec.{eqb, ltb}
-use lib.ListN.{length, getD, replicate, set}
+use lib.ListN.{length, replicate, set}
 use Rattle.coding.specs.Bytes.{Bytes}
 use Rattle.coding.specs.Pieces.{piece}
 use Rattle.protocol.specs.declared.measures.Measures.{Measures}
@@ -423,7 +422,8 @@ pub data Next (z : Measures) (honest : ℕ → Bool) (s : Model) : Model → Typ
         h = h;
       })
   -- the k-th one ends the reading
-  ended : (i c : ℕ) (x : Pointer) (n m : ℕ) (ps : List (List ℕ)) (y : ToClient) (q : ℕ → ℕ → List ToClient) (h : History) → Marked (s .h) h c (λ o. ending (s .h .time) (giving (s .p .pages (ver x)) o))
+  ended : (i c : ℕ) (x : Pointer) (n m : ℕ) (ps : List (List ℕ)) (y : ToClient) (q : ℕ → ℕ → List ToClient) (h : History)
+      → Marked (s .h) h c (λ o. ending (s .h .time) (giving (s .p .pages (ver x)) o))
       → c < z .m
       → s .c .turn c ≡ fetching x n m ps → Comes honest (s .n) i c y q
       → Next z honest s (record { c = turned (s .c) c idle; d = s .d; n = with-toClient (s .n) q; p = s .p; h = h })

@@ -5,22 +5,23 @@ use mathlib.Core.List.{List, [], _∷_, _++_}
 use mathlib.Core.Option.{some, none}
 use Prim.Native.Nat.{ℕ, suc, _+_, _≤_, _^_, _<_}
 use native.Mathlib.Omega.{arith}
+use borrow.Author.Tests.{leb-true, le-leb}
 use lib.ListN.{length, length-append}
 use lib.Dec.{leb, ltb}
-use borrow.Author.Tests.{leb-true, le-leb}
-use Rattle.protocol.proofs.NodeTableLaws.{GoodHeld, FitsPlace, GoodTable, format-table}
-use Rattle.protocol.proofs.PointerLaws.{length-number, length-version}
+use Rattle.coding.proofs.Cases.{and-true}
+use Rattle.protocol.specs.declared.measures.Measures.{Measures}
+use Rattle.protocol.specs.declared.version.Version.{Version}
 use Rattle.protocol.specs.Pointer.{writeVersion}
 use Rattle.protocol.specs.Format.{writeNumber}
 use Rattle.protocol.specs.Measures.{places, placeSize}
-use Rattle.protocol.specs.declared.measures.Measures.{Measures}
-use Rattle.coding.proofs.Cases.{and-true}
-use Rattle.protocol.specs.declared.version.Version.{Version}
 use Rattle.protocol.specs.Version.{below, ascending}
 use Rattle.protocol.specs.NodeTable.{Held, inOrder, writePiece, writeHeld, readTable, writeTable}
 use Rattle.protocol.specs.Node.{keep, handBack, listed, release}
 use Rattle.protocol.proofs.FormatLaws.{Each}
-use Rattle.protocol.proofs.VersionLaws.{Below, below-true, true-below, below-trans, below-irrefl, neither-below}
+use Rattle.protocol.proofs.VersionLaws.{Below, below-true, true-below, below-trans, neither-below}
+pub use Rattle.protocol.proofs.VersionLaws.{not-below-self, not-below-back}
+use Rattle.protocol.proofs.PointerLaws.{length-number, length-version}
+use Rattle.protocol.proofs.NodeTableLaws.{GoodHeld, FitsPlace, GoodTable, format-table}
 
 -- a version is below the first one of a list
 abbrev First : Version → List Held → Type 0
@@ -130,20 +131,6 @@ module _ (v : Version) (x : Held) (l : List Held) where
   unfolding handBack
   hand-same p q = simp (p, q)
 
-pub not-below-self : (v : Version) → below v v ≡ false
-not-below-self v = go (below v v) refl
-  where
-    go : (b : Bool) → below v v ≡ b → b ≡ false
-    go true e = absurd (below-irrefl v (below-true v v e))
-    go false e = refl
-
-pub not-below-back : (a b : Version) → below a b ≡ true → below b a ≡ false
-not-below-back a b e = go (below b a) refl
-  where
-    go : (c : Bool) → below b a ≡ c → c ≡ false
-    go true f = absurd (below-irrefl a (below-trans a b a (below-true a b e) (below-true b a f)))
-    go false f = refl
-
 -- what was stored is handed back
 pub hand-kept : (h : Held) (l : List Held) → handBack (h .version) (keep h l) ≡ some (h .piece)
 unfolding keep
@@ -180,7 +167,8 @@ hand-other v h (x ∷ l) e d = go (hand-other v h l (split-ascending x l e .1) d
     go ih (less p) (less r) o =
         rw (keep-less h x l p)
         (hand-less v h (x ∷ l) r
-        ∙ sym (hand-less v x l (true-below v (x .version) (below-trans v (h .version) (x .version) (below-true v (h .version) r) (below-true (h .version) (x .version) p)))))
+        ∙ sym (hand-less v x l (true-below v (x .version)
+        (below-trans v (h .version) (x .version) (below-true v (h .version) r) (below-true (h .version) (x .version) p)))))
     go ih (less p) (more r s) o = rw (keep-less h x l p) (hand-more v h (x ∷ l) r s)
     go ih (less p) (same r s) o = absurd (d (neither-below v (h .version) r s))
     go ih (more p q) k (less a) = rw (keep-more h x l p q) (hand-less v x (keep h l) a ∙ sym (hand-less v x l a))
@@ -302,7 +290,8 @@ good-table : (s : Measures) (l : List Held) → Each (FitsPlace s) l → inOrder
 good-table s l e a n p = ((omega arith, le-leb (length l) (places s) n), (((e, refl), a), tt))
 
 -- a table stays well formed: storing where there is room, dropping always
-pub keep-good : (s : Measures) (h : Held) (l : List Held) → places s < 256 ^ 2 → GoodHeld s h → GoodTable s l → length (keep h l) ≤ places s → GoodTable s (keep h l)
+pub keep-good : (s : Measures) (h : Held) (l : List Held) → places s < 256 ^ 2 → GoodHeld s h → GoodTable s l → length (keep h l) ≤ places s
+    → GoodTable s (keep h l)
 keep-good s h l p g t n =
     good-table s (keep h l) (keep-each (FitsPlace s) h l (held-fits s h g) (t .1 .0 .0 .0)) (keep-ascending h l (t .1 .0 .1)) n p
 
@@ -311,7 +300,10 @@ release-good s vs l p t =
     good-table s (release vs l) (release-each (FitsPlace s) vs l (t .1 .0 .0 .0)) (release-ascending vs l (t .1 .0 .1))
     (omega (arith, release-length vs l, leb-true (length l) (places s) (t .0 .1))) p
 
+pub empty-good : (s : Measures) → GoodTable s []
+unfolding ascending
+empty-good s = ((omega arith, le-leb 0 (places s) (omega arith)), (((tt, refl), refl), tt))
+
 -- a fresh table shows no piece
 pub fresh-table : (s : Measures) → places s < 256 ^ 2 → (rest : List ℕ) → readTable s (writeTable s [] ++ rest) ≡ some (record { value = []; rest = rest })
-unfolding ascending
-fresh-table s p rest = format-table s .back [] (good-table s [] tt refl (omega arith) p) rest
+fresh-table s p = format-table s .back [] (empty-good s)

@@ -134,6 +134,14 @@ length-nodes map n = go (ℕ-discrete (bit map n) 1)
     go (yes h) = rw (eq-eqb (bit map n) 1 h) (length-append (nodesOf map n) (suc n ∷ []) ∙ omega arith)
     go (no h) = rw (ne-eqb (bit map n) 1 h) (length-append (nodesOf map n) [] ∙ omega arith)
 
+-- the same, said of the node's place in the map
+pub count-step : (map n : ℕ) → length (nodesOf map (suc n)) ≡ length (nodesOf map n) + cond (stands map (suc n)) 1 0
+count-step map n = go (stands map (suc n)) refl
+  where
+    go : (b : Bool) → stands map (suc n) ≡ b → length (nodesOf map (suc n)) ≡ length (nodesOf map n) + cond b 1 0
+    go true e = omega (arith, length-nodes map n, stands-bit map (suc n) e, bit-before map n)
+    go false e = omega (arith, length-nodes map n, falls-bit map (suc n) e, bit-before map n)
+
 count-before : (map i n : ℕ) → bit map i ≡ 0 → n ≤ i → length (nodesOf (map + 2 ^ i) n) ≡ length (nodesOf map n)
 unfolding nodesOf
 count-before map i zero h l = refl

@@ -13,8 +13,10 @@ use Rattle.protocol.specs.declared.measures.Measures.{Measures}
 use Rattle.protocol.specs.Format.{both, given, readNumber, writeNumber, readBytes, readMany, writeMany, readZeros, readArea, writeArea}
 use Rattle.protocol.specs.Measures.{places, placeSize}
 use Rattle.protocol.specs.Pointer.{readVersion, writeVersion}
-use Rattle.protocol.specs.NodeTable.{Held, properHeld, readPiece, writePiece, readHeld, writeHeld, inOrder, readPlaces, writePlaces, readTable, writeTable}
-use Rattle.protocol.proofs.FormatLaws.{Format, format-then, format-check, format-number, format-many, format-bytes, format-zeros, format-area, Each, length-area, length-same}
+use Rattle.protocol.specs.NodeTable.{Held, properHeld, readPiece, writePiece, readHeld, writeHeld, inOrder}
+use Rattle.protocol.specs.NodeTable.{readPlaces, writePlaces, readTable, writeTable}
+use Rattle.protocol.proofs.FormatLaws.{Format, format-then, format-check, format-number, format-many, format-bytes}
+use Rattle.protocol.proofs.FormatLaws.{format-zeros, format-area, Each, length-area, length-same}
 use Rattle.protocol.proofs.PointerLaws.{GoodVersion, format-version, length-number}
 
 abbrev pub GoodPiece : List ℕ → Type 0

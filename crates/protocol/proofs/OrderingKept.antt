@@ -15,8 +15,8 @@ use Rattle.protocol.specs.declared.version.Version.{Version}
 use Rattle.protocol.specs.Nodes.{withNode}
 use Rattle.protocol.specs.Pointer.{Pointer, nonePointer}
 use Rattle.protocol.specs.Run.{History, Operation, Put, begin, upd, bearing, ending, giving}
-use Rattle.protocol.proofs.MeasureLaws.{Passed}
 use Rattle.protocol.proofs.Cells.{by-eq}
+use Rattle.protocol.proofs.MeasureLaws.{Passed}
 use Rattle.protocol.proofs.Model.{num, ver, Rows, Turn, Clients, Shown, Nodes, Past, Model, putBy, shownWritten, rowsOf, offer, notices}
 use Rattle.protocol.proofs.Model.{turned, frozenBy, begunBy, pointed, Picks, choosing, Marks, Quiet, Marked, Next}
 use Rattle.protocol.proofs.Invariants.{Known, Forming, Own, Owned, Drawing, Lag, Lagging}

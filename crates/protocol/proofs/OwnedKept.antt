@@ -1,6 +1,6 @@
--- Every step keeps what is known of the clients' pointers and turns.
+-- What is known of the clients' pointers and turns: every step keeps `Owned`.
 use mathlib.Core.Path.{_≡_, refl, sym, ap, _∙_}
-use mathlib.Core.Bool.{Bool, true, false, cond}
+use mathlib.Core.Bool.{Bool, cond}
 use mathlib.Core.List.{List}
 use Prim.Native.Nat.{ℕ, _^_, _≤_, _<_}
 use native.Mathlib.Omega.{arith}
@@ -13,50 +13,17 @@ use Rattle.protocol.specs.declared.version.Version.{Version}
 use Rattle.protocol.specs.Nodes.{withNode}
 use Rattle.protocol.specs.Pointer.{Pointer}
 use Rattle.protocol.specs.Deposit.{pointerOf}
-use Rattle.protocol.specs.Run.{History, upd}
+use Rattle.protocol.specs.Run.{History}
+use Rattle.protocol.proofs.Cells.{by-eq, chosen}
 use Rattle.protocol.proofs.MeasureLaws.{Passed}
 use Rattle.protocol.proofs.NodeMapLaws.{with-below}
-use Rattle.protocol.proofs.Cells.{by-eq}
-use Rattle.protocol.proofs.Model.{
-  num,
-  ver,
-  Rows,
-  Turn,
-  Clients,
-  Shown,
-  Nodes,
-  Past,
-  Model,
-  putBy,
-  shownWritten,
-  rowsOf,
-  offer,
-  turned,
-  frozenBy,
-  drawnBy,
-  pointedBy,
-  pointed,
-  Picks,
-  notices,
-  Next,
-}
+use Rattle.protocol.proofs.Model.{num, ver, Rows, Turn, Clients, Shown, Nodes, Past, Model, putBy, shownWritten, rowsOf, offer}
+use Rattle.protocol.proofs.Model.{turned, frozenBy, drawnBy, pointedBy, pointed, Picks, notices, Next}
 use Rattle.protocol.proofs.Invariants.{Known, KnownVersion, Storing, Forming, Own, Owned, Drawing}
 use Rattle.protocol.proofs.VersionNumbers.{num-client}
-use Rattle.protocol.proofs.PastLaws.{
-  client-fits,
-  Later,
-  Stays,
-  later-same,
-  drawn-stays,
-  drawn-later,
-  pointed-stays,
-  pointed-later,
-  formed-kept,
-  known-kept,
-  version-kept,
-  pointer-version,
-  draw-fresh,
-}
+use Rattle.protocol.proofs.PastLaws.{client-fits, Later, Stays, later-same, drawn-stays, drawn-later, pointed-stays}
+use Rattle.protocol.proofs.PastLaws.{pointed-later, formed-kept, known-kept, version-kept, pointer-version, draw-fresh}
+use Rattle.protocol.proofs.LaggingKept.{moved}
 
 -- a known pointer or version of client w, no higher than a number
 abbrev KnownTo : Past → ℕ → ℕ → Pointer → Type 0
@@ -109,10 +76,6 @@ module _ (z : Measures) (p q : Past) (k l : Clients) (w : ℕ) (g : Later p q) (
 
 -- ---- one client's turn changes
 
-abbrev moved : Clients → ℕ → Turn → (ℕ → ℕ) → Clients
-moved k c t r =
-    record { turn = upd (k .turn) c t; written = k .written; frozen = k .frozen; reserved = k .reserved; indices = k .indices; reading = r }
-
 -- the past goes on, and the directory shows other known pointers perhaps
 moved-owned : (z : Measures) (s : Model) (c : ℕ) (t : Turn) {r : ℕ → ℕ} {d : Shown} {n : Nodes} {p : Past} {h : History}
     → Passed z → Later (s .p) p → ((w : ℕ) → w < z .m → (w ≡ c → ⊥) → Stays (s .p) p w)
@@ -152,10 +115,6 @@ nodes-owned z s o =
     record { own = o .own; written = o .written; frozen = o .frozen; reserved = o .reserved; shown = o .shown; self = o .self }
 
 -- ---- what a scan shows is known
-
-pub chosen : {A : Type 0} (P : A → Type 0) (b : Bool) (x y : A) → P x → P y → P (cond b x y)
-chosen P true x y h k = h
-chosen P false x y h k = k
 
 pub forming-known : (p : Past) (k : Clients) (w : ℕ) (x : Pointer) → Forming p k w x → Known p w x
 forming-known p k w x o = Known.formed (o .drawn) (o .pointer) (o .client) (o .proper)

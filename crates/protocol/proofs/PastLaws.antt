@@ -1,6 +1,6 @@
 -- What is known of the past stays known: when a version is drawn, and when its pointer is formed.
 use mathlib.Core.Path.{_≡_, refl, sym, ap, _∙_}
-use mathlib.Core.Bool.{Bool, true, false, true≢false}
+use mathlib.Core.Bool.{true, false, true≢false}
 use mathlib.Core.Logic.{_⊎_, inl, inr}
 use mathlib.Core.List.{List}
 use Prim.Native.Nat.{ℕ, _%_, _≤_, _<_}
@@ -11,8 +11,8 @@ use Rattle.protocol.specs.declared.measures.Measures.{Measures}
 use Rattle.protocol.specs.declared.version.Version.{Version}
 use Rattle.protocol.specs.Pointer.{Pointer, nonePointer}
 use Rattle.protocol.specs.Deposit.{pointerOf}
+use Rattle.protocol.proofs.Cells.{by-eq, is-false}
 use Rattle.protocol.proofs.MeasureLaws.{Passed}
-use Rattle.protocol.proofs.Cells.{by-eq}
 use Rattle.protocol.proofs.Model.{num, ver, Rows, Turn, Past, Model, drawnBy, pointedBy, pointed, Above, last}
 use Rattle.protocol.proofs.Invariants.{Known, KnownVersion, Owned, Drawing}
 use Rattle.protocol.proofs.VersionNumbers.{num-client}
@@ -66,13 +66,17 @@ pointed-later p u x e =
 
 -- ---- known pointers and versions
 
--- a pointer formed stays the version's
+-- a pointer formed is not none
+pub some-formed : (p : Past) (x : Pointer) → p .pointers (ver x) ≡ x → 256 ≤ ver x → p .pointers (ver x) ≡ nonePointer → ⊥
+some-formed p x e h n = let q : ver x ≡ 255 = ap ver (sym e ∙ n) in omega arith
+
+-- and stays the version's
 pub formed-kept : (p q : Past) (x : Pointer) → Later p q → p .drawn (ver x) ≡ true → p .pointers (ver x) ≡ x → 256 ≤ ver x
     → q .pointers (ver x) ≡ x
 formed-kept p q x g d e h = go (g .pointers (ver x) d)
   where
     go : (p .pointers (ver x) ≡ nonePointer) ⊎ (q .pointers (ver x) ≡ p .pointers (ver x)) → q .pointers (ver x) ≡ x
-    go (inl n) = let z : ver x ≡ 255 = ap ver (sym e ∙ n) in absurd (omega arith)
+    go (inl n) = absurd (some-formed p x e h n)
     go (inr s) = s ∙ e
 
 pub known-kept : (p q : Past) (w : ℕ) (x : Pointer) → Later p q → Known p w x → Known q w x
@@ -104,12 +108,11 @@ draw-fresh z s c bytes a v ok o dr l e ec ab =
     let b = client-fits z c ok l in
     let h : s .c .written c .version .sequence .0 < v .sequence .0 = rw (own .2) at (ab c l) in
     let less : ver (s .c .written c) < num v = known-less (s .p) c (s .c .written c) v b (o .written c l) h in
-    (less, go b less (s .p .drawn (num v)) refl)
+    (less, is-false (s .p .drawn (num v)) (undrawn b less))
   where
-    go : c < 256 → ver (s .c .written c) < num v → (d : Bool) → s .p .drawn (num v) ≡ d → d ≡ false
-    go b less false d = refl
-    go b less true d =
+    undrawn : c < 256 → ver (s .c .written c) < num v → s .p .drawn (num v) ≡ true → ⊥
+    undrawn b less d =
         let y : num v ≤ last (s .c) (num v % 256) = dr (num v) d .before in
         let q : num v % 256 ≡ c = num-client v (omega arith) ∙ ec in
         let x : num v ≤ ver (s .c .written c) = rw e at (rw q at y) in
-        absurd (omega arith)
+        omega arith

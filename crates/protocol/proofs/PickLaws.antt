@@ -14,8 +14,8 @@ use Rattle.protocol.specs.Version.{below, none}
 use Rattle.protocol.specs.Pointer.{Pointer, nonePointer}
 use Rattle.protocol.specs.Directory.{Row, noRow}
 use Rattle.protocol.specs.Reading.{candidate, pick}
-use Rattle.protocol.proofs.VersionNumbers.{below-num}
 use Rattle.protocol.proofs.Model.{ver, Rows, offer, Picks}
+use Rattle.protocol.proofs.VersionNumbers.{below-num}
 use Rattle.protocol.proofs.View.{rowAt, rowsAt}
 
 -- a pointer's client fits a byte, and none is not above it

@@ -1,5 +1,5 @@
 -- What a node holds of a client's versions, along the messages under way to it.
-use mathlib.Core.Path.{_≡_, refl, sym, ap, subst, _∙_}
+use mathlib.Core.Path.{_≡_, refl, sym, ap, _∙_}
 use mathlib.Core.Bool.{Bool, true, false, cond, not, _&&_, _||_, true≢false, and-true, and-false}
 use mathlib.Core.List.{List, [], _∷_, _++_}
 use Prim.Native.Nat.{ℕ, zero, suc, _+_, _*_, _≤_, _<_}
@@ -10,7 +10,6 @@ use lib.Dec.{eqb}
 use lib.ListN.{length}
 use Rattle.protocol.specs.declared.measures.Measures.{Measures}
 use Rattle.protocol.specs.declared.version.Version.{Version}
-use Rattle.protocol.specs.Version.{below}
 use Rattle.protocol.specs.NodeTable.{Held, inOrder}
 use Rattle.protocol.specs.Node.{keep, release, listed}
 use Rattle.protocol.specs.NodeEvents.{isHeld}
@@ -18,23 +17,11 @@ use Rattle.protocol.specs.Message.{ToNode}
 use Rattle.protocol.specs.Reading.{sameVersion}
 use Rattle.protocol.proofs.Cells.{by-eq}
 use Rattle.protocol.proofs.MeasureLaws.{Passed}
-use Rattle.protocol.proofs.VersionLaws.{neither-below}
-use Rattle.protocol.proofs.NodeLaws.{not-below-self, hand-kept, hand-other, hand-released, hand-left}
+use Rattle.protocol.proofs.VersionLaws.{same-eq, eq-same}
+use Rattle.protocol.proofs.NodeLaws.{hand-kept, hand-other, hand-released, hand-left}
 use Rattle.protocol.proofs.Model.{Turn, Clients, Past, Model}
 use Rattle.protocol.proofs.Invariants.{Owned, Current, Keeps, Member, Bounded, Plays, Sound, effect, holding}
-
--- ---- versions
-
-pub same-eq : (u v : Version) → sameVersion u v ≡ true → u ≡ v
-same-eq u v e = go (below u v) refl (below v u) refl
-  where
-    go : (a : Bool) → below u v ≡ a → (b : Bool) → below v u ≡ b → u ≡ v
-    go true p b q = absurd (true≢false (sym e ∙ simp p))
-    go false p true q = absurd (true≢false (sym e ∙ simp (p, q)))
-    go false p false q = neither-below u v p q
-
-pub eq-same : (u v : Version) → u ≡ v → sameVersion u v ≡ true
-eq-same u v e = rw e (simp (not-below-self v))
+use Rattle.protocol.proofs.MemberLaws.{member-first}
 
 -- ---- a node's table
 
@@ -110,9 +97,6 @@ plays-append z k k′ w ms h f [] p = h f p
 plays-append z k k′ w ms h f (m ∷ q) p = (p .0, plays-append z k k′ w ms h (effect m f) q (p .1))
 
 -- ---- at most 2m versions
-
-pub member-first : {A : Type 0} (a b : A) (l : List A) → a ≡ b → Member b (a ∷ l)
-member-first a b l e = subst (λ x. Member x (a ∷ l)) e (Member.here l)
 
 -- what is frozen and reserved for the other clients below n
 spare : Clients → ℕ → ℕ → List Version

@@ -56,4 +56,5 @@ length-number (suc w) n = length-append (writeNumber w (n / 256)) _ ∙ omega (a
 
 pub length-version : (v : Version) → length (writeVersion v) ≡ 5
 unfolding writeVersion
-length-version v = length-append (writeNumber 4 (v .sequence .0)) (writeNumber 1 (v .client)) ∙ omega (arith, length-number 4 (v .sequence .0), length-number 1 (v .client))
+length-version v =
+    length-append (writeNumber 4 (v .sequence .0)) (writeNumber 1 (v .client)) ∙ omega (arith, length-number 4 (v .sequence .0), length-number 1 (v .client))

@@ -1,6 +1,6 @@
 -- Pointers that are shown were put in for their versions' deposits: every step keeps `Putting`.
 use mathlib.Core.Path.{_≡_, refl, _∙_, ap}
-use mathlib.Core.Bool.{Bool, true, false, cond}
+use mathlib.Core.Bool.{Bool, false}
 use mathlib.Core.Logic.{_⊎_, inl, inr}
 use mathlib.Core.List.{[], _∷_, _++_}
 use Prim.Native.Nat.{ℕ, _<_}
@@ -10,9 +10,10 @@ use Rattle.protocol.specs.declared.measures.Measures.{Measures}
 use Rattle.protocol.specs.Nodes.{withNode}
 use Rattle.protocol.specs.Pointer.{Pointer}
 use Rattle.protocol.specs.Run.{History, Put, upd}
+use Rattle.protocol.proofs.Cells.{by-eq, chosen}
 use Rattle.protocol.proofs.MeasureLaws.{Passed}
-use Rattle.protocol.proofs.Cells.{by-eq}
-use Rattle.protocol.proofs.Model.{num, ver, Rows, Turn, Clients, Nodes, Past, Model, Picks, Next, putBy, rowsOf, offer, notices, turned, raisedBy, frozenBy, published, drawnBy, pointedBy, pointed}
+use Rattle.protocol.proofs.Model.{num, ver, Rows, Turn, Clients, Nodes, Past, Model, Picks, Next, putBy, rowsOf, offer}
+use Rattle.protocol.proofs.Model.{notices, turned, raisedBy, frozenBy, published, drawnBy, pointedBy, pointed}
 use Rattle.protocol.proofs.Invariants.{Member, Owned, Drawing}
 use Rattle.protocol.proofs.Chronicle.{Listed, NoneOrListed, OffersListed, Rightly, Recording, Putting}
 use Rattle.protocol.proofs.MemberLaws.{member-left, member-last, member-split}
@@ -52,7 +53,8 @@ module _ (h h′ : History) (more : (x : Pointer) → Listed h x → Listed h′
 
 -- ---- what rows show
 
-row-listed : (z : Measures) (h : History) (k : Clients) (c : ℕ) (x : Pointer) (t : Turn) → OffersListed z h k c t → NoneOrListed h x → NoneOrListed h (putBy t x)
+row-listed : (z : Measures) (h : History) (k : Clients) (c : ℕ) (x : Pointer) (t : Turn) → OffersListed z h k c t → NoneOrListed h x
+    → NoneOrListed h (putBy t x)
 row-listed z h k c x Turn.idle a b = b
 row-listed z h k c x (Turn.scanning bytes) a b = b
 row-listed z h k c x (Turn.scanned bytes r) a b = b
@@ -67,10 +69,6 @@ row-listed z h k c x Turn.picking a b = b
 row-listed z h k c x (Turn.picked r) a b = b
 row-listed z h k c x (Turn.fetching y n m ps) a b = b
 
-either-listed : (h : History) (b : Bool) (x y : Pointer) → NoneOrListed h x → NoneOrListed h y → NoneOrListed h (cond b x y)
-either-listed h true x y a b = a
-either-listed h false x y a b = b
-
 -- a pointer that is not none is put in
 listed-of : (h : History) (x : Pointer) → (ver x ≡ 255 → ⊥) → NoneOrListed h x → Listed h x
 listed-of h x ne (inl e) = absurd (ne (ap ver e))
@@ -79,7 +77,7 @@ listed-of h x ne (inr i) = i
 module _ (z : Measures) (s : Model) (r : Putting z s) where
   offers-listed : (c q w : ℕ) → w < z .m → NoneOrListed (s .h) (offer (rowsOf s) c q w)
   offers-listed c q w l =
-      either-listed (s .h) (ltb (s .d .indices w c) q) (putBy (s .c .turn w) (s .c .written w)) (s .d .frozen w c)
+      chosen (NoneOrListed (s .h)) (ltb (s .d .indices w c) q) (putBy (s .c .turn w) (s .c .written w)) (s .d .frozen w c)
       (row-listed z (s .h) (s .c) w (s .c .written w) (s .c .turn w) (r .turns w l) (r .written w l)) (r .shown w c l)
 
   -- what a reader picks is put in, unless it is none
@@ -134,7 +132,8 @@ module _ (z : Measures) (s : Model) (r : Putting z s) where
         → Putting z (record { c = turned (s .c) c u; d = s .d; n = n; p = p; h = h })
     grows c u n p g a =
         keeps h listed-same (turned (s .c) c u) n p (rightly-same p g) (λ w. refl) (λ w q. refl)
-        (turns-later h listed-same c u (turned (s .c) c u) (λ j. refl) (λ j f. refl) (offers-later (s .h) h listed-same z (s .c) (turned (s .c) c u) c refl u a))
+        (turns-later h listed-same c u (turned (s .c) c u) (λ j. refl) (λ j f. refl)
+        (offers-later (s .h) h listed-same z (s .c) (turned (s .c) c u) c refl u a))
 
     turns : (c : ℕ) (u : Turn) (n : Nodes) → OffersListed z (s .h) (s .c) c u → Putting z (record { c = turned (s .c) c u; d = s .d; n = n; p = s .p; h = h })
     turns c u n a = grows c u n (s .p) (grown-same (s .p) (s .p .shown)) a
@@ -154,7 +153,8 @@ module _ (z : Measures) (s : Model) (r : Putting z s) where
           written = λ w k. by-eq w c (λ f e. rw f (inr (listed-same x i))) (λ f e. rw f (later h listed-same (s .c .written w) (r .written w k)));
           frozen = λ w q k. by-eq w c
               (λ f e. rw f
-              (either-listed h (notices (s .c) a c q) x (s .c .frozen c q) (inr (listed-same x i)) (later h listed-same (s .c .frozen c q) (r .frozen c q l))))
+              (chosen (NoneOrListed h) (notices (s .c) a c q) x (s .c .frozen c q) (inr (listed-same x i))
+              (later h listed-same (s .c .frozen c q) (r .frozen c q l))))
               (λ f e. rw f (later h listed-same (s .c .frozen w q) (r .frozen w q k)));
           shown = λ w q k. later h listed-same (s .d .frozen w q) (r .shown w q k);
           turns = turns-later h listed-same c Turn.idle (frozenBy (s .c) c x a) (λ j. refl) (λ j f. refl) tt;

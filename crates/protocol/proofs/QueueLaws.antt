@@ -1,13 +1,11 @@
--- Messages under way to a node: stores of versions, and what a node that has taken them all holds.
-use mathlib.Core.Path.{_≡_, refl, sym}
-use mathlib.Core.Bool.{Bool, true, false, cond, not, _||_}
+-- Messages under way to a node, and which versions they store; the piece that a table hands back.
+use mathlib.Core.Path.{_≡_, refl}
+use mathlib.Core.Bool.{Bool, true, false, cond}
 use mathlib.Core.List.{List, [], _∷_, _++_}
 use mathlib.Core.Option.{some, none}
-use Prim.Native.Nat.{ℕ, _≤_, _<_}
+use Prim.Native.Nat.{ℕ, _≤_}
 use native.Mathlib.Omega.{arith}
-use Rattle.coding.proofs.Cases.{and-true}
 use Rattle.coding.proofs.PageLaws.{none≢some, some-eq}
-use Rattle.protocol.specs.declared.measures.Measures.{Measures}
 use Rattle.protocol.specs.declared.version.Version.{Version}
 use Rattle.protocol.specs.Version.{below}
 use Rattle.protocol.specs.NodeTable.{Held}
@@ -15,12 +13,8 @@ use Rattle.protocol.specs.Node.{handBack}
 use Rattle.protocol.specs.Message.{ToNode}
 use Rattle.protocol.proofs.FormatLaws.{Each}
 use Rattle.protocol.proofs.VersionLaws.{neither-below}
-use Rattle.protocol.proofs.Model.{num, Clients, Model}
-use Rattle.protocol.proofs.Invariants.{holding, Keeps, Plays, Stocking, effect, NoStore, Once}
-
-pub each-append : {A : Type 0} (g : A → Type 0) (l : List A) (a : A) → Each g l → g a → Each g (l ++ (a ∷ []))
-each-append g [] a e h = (h, tt)
-each-append g (b ∷ l) a e h = (e .0, each-append g l a (e .1) h)
+use Rattle.protocol.proofs.Model.{num}
+use Rattle.protocol.proofs.Invariants.{NoStore, Once}
 
 -- ---- stores under way
 

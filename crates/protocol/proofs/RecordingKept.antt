@@ -14,18 +14,20 @@ use Rattle.protocol.specs.declared.version.Version.{Version}
 use Rattle.protocol.specs.Nodes.{withNode}
 use Rattle.protocol.specs.Pointer.{Pointer, nonePointer}
 use Rattle.protocol.specs.Run.{History, Operation, Put, begin, upd, bearing, ending, giving}
-use Rattle.protocol.proofs.MeasureLaws.{Passed}
 use Rattle.protocol.proofs.Cells.{by-eq}
-use Rattle.protocol.proofs.Model.{num, ver, Rows, Turn, Clients, Shown, Nodes, Past, Model, Marks, Quiet, Marked, Picks, Above, Next, turned, raisedBy, frozenBy, published, drawnBy, pointedBy, begunBy, pointed, choosing}
+use Rattle.protocol.proofs.MeasureLaws.{Passed}
+use Rattle.protocol.proofs.Model.{num, ver, Rows, Turn, Clients, Shown, Nodes, Past, Model, Marks, Quiet, Marked, Picks, Above, Next}
+use Rattle.protocol.proofs.Model.{turned, raisedBy, frozenBy, published, drawnBy, pointedBy, begunBy, pointed, choosing}
 use Rattle.protocol.proofs.Invariants.{Member, Known, Owned, Drawing}
 use Rattle.protocol.proofs.Chronicle.{Current, Doing, Busy, Listed, Shown as ShownAt, Deposited, Recording, Putting}
 use Rattle.protocol.proofs.MemberLaws.{member-left}
 use Rattle.protocol.proofs.PastLaws.{pointed-version, draw-fresh}
 use Rattle.protocol.proofs.Growth.{Grown, grown-same, grown-drawn, grown-pointed}
 use Rattle.protocol.proofs.HistoryLaws.{after, marks-after, markedAt, begun-last}
-use Rattle.protocol.proofs.PuttingKept.{picked-listed}
 use Rattle.protocol.proofs.RecordingLaws.{Fair, fair-of, fair-later, doing-later, drew, recorded}
-use Rattle.protocol.proofs.MarkLaws.{Marking, unborne, marked-others, marked-current, fair-ending, drawn-bearing, deposited-bearing, fair-bearing, picked-shown, picked-pointing, fair-pointing, fair-giving, begun-current, begun-others, begun-fair}
+use Rattle.protocol.proofs.MarkLaws.{Marking, unborne, marked-others, marked-current, fair-ending, drawn-bearing, deposited-bearing, fair-bearing}
+use Rattle.protocol.proofs.MarkLaws.{picked-shown, picked-pointing, fair-pointing, fair-giving, begun-current, begun-others, begun-fair}
+use Rattle.protocol.proofs.PuttingKept.{picked-listed}
 
 -- ---- no operation is marked
 

@@ -1,15 +1,15 @@
 -- Laws of messages to clients on values: which replies match, how many must, and what the matching pieces join to.
 use mathlib.Core.Path.{_≡_, refl, sym, ap, _∙_}
-use mathlib.Core.Bool.{Bool, true, false, cond, not, _||_, false≢true, true≢false}
+use mathlib.Core.Bool.{Bool, true, false, cond, false≢true, true≢false}
 use mathlib.Core.Logic.{_⊎_, inl, inr}
 use mathlib.Core.List.{List, [], _∷_, _++_, map, append-assoc}
-use Prim.Native.Nat.{ℕ, zero, suc, _+_, _-_, _*_, _/_, _%_, _^_, _<_, _≤_}
+use Prim.Native.Nat.{ℕ, zero, suc, _+_, _-_, _*_, _^_, _<_, _≤_}
 use native.Mathlib.Nat.{suc-mul}
 use native.Mathlib.Decide.{ℕ-discrete}
 use native.Mathlib.Omega.{arith}
-use borrow.Author.Tests.{le-leb, eq-eqb, ne-eqb, eqb-true, not-true}
+use borrow.Author.Tests.{le-leb, eq-eqb, ne-eqb, eqb-true}
 use lib.Dec.{leb, eqb}
-use lib.ListN.{length, getD, take, drop, set, replicate, length-append, length-drop, length-map, List·getD-map}
+use lib.ListN.{length, getD, take, drop, replicate, length-drop, length-map, List·getD-map}
 use lib.Seq.{take-append-seam, getD-drop, drop-append-add}
 use Rattle.coding.specs.Bytes.{Bytes}
 use Rattle.coding.specs.Pieces.{columns, piece}
@@ -26,33 +26,24 @@ use Rattle.coding.proofs.JoinEndLaws.{joined-page}
 use Rattle.protocol.specs.declared.measures.Measures.{Measures}
 use Rattle.protocol.specs.declared.version.Version.{Version}
 use Rattle.protocol.specs.Format.{writeMany, writeArea}
-use Rattle.protocol.specs.Version.{below}
 use Rattle.protocol.specs.Nodes.{nodesIn, count, stands}
 use Rattle.protocol.specs.Pointer.{Pointer, nonePointer, writeVersion}
 use Rattle.protocol.specs.Client.{lengths, areas}
 use Rattle.protocol.specs.Deposit.{digestsOf, pointerOf}
-use Rattle.protocol.specs.Reading.{sameVersion, sameBytes, digestAt, digestOf, matches, allCounted}
+use Rattle.protocol.specs.Reading.{sameBytes, digestAt, digestOf, matches, allCounted}
 use Rattle.protocol.specs.Claim.{dishonest}
-use Rattle.protocol.proofs.FormatLaws.{Each, length-area, length-same}
-use Rattle.protocol.proofs.BytesWritten.{bytes-many, bytes-area}
+use Rattle.protocol.proofs.FormatLaws.{Each, length-area}
 use Rattle.protocol.proofs.MeasureLaws.{Passed}
-use Rattle.protocol.proofs.VersionLaws.{neither-below}
-use Rattle.protocol.proofs.ClientLaws.{ShortPiece}
-use Rattle.protocol.proofs.NodeMapLaws.{nodes-all, nodes-stand, stands-listed}
-use Rattle.protocol.proofs.GoodLaws.{proper-passed, piece-some, piece-short}
-use Rattle.protocol.proofs.VersionNumbers.{unnum-num}
+use Rattle.protocol.proofs.NodeMapLaws.{nodes-all, nodes-stand, stands-listed, count-step}
+use Rattle.protocol.proofs.ClientLaws.{ShortPiece, length-areas}
+use Rattle.protocol.proofs.BytesWritten.{bytes-areas}
 use Rattle.protocol.proofs.Model.{ver, Model, pointed}
 use Rattle.protocol.proofs.Invariants.{Known, Drawing, Pointed, unnum}
+use Rattle.protocol.proofs.VersionNumbers.{unnum-num}
+use Rattle.protocol.proofs.PastLaws.{some-formed}
+use Rattle.protocol.proofs.GoodLaws.{proper-passed, piece-some, piece-short}
 
--- ---- versions and digests that are the same
-
-pub same-version : (v w : Version) → sameVersion v w ≡ true → v ≡ w
-same-version v w e = go (below v w) refl (below w v) refl (not-true (below v w || below w v) e)
-  where
-    go : (a : Bool) → below v w ≡ a → (b : Bool) → below w v ≡ b → (a || b) ≡ false → v ≡ w
-    go true p b q h = absurd (true≢false h)
-    go false p true q h = absurd (true≢false h)
-    go false p false q h = neither-below v w p q
+-- ---- digests that are the same
 
 same-bytes : (s : List ℕ) → sameBytes s s ≡ true
 unfolding sameBytes
@@ -112,14 +103,6 @@ module _ (z : Measures) (p : Passed z) (v : Version) (page : List ℕ) (nodes i 
 
 -- ---- how many pieces match once every named node's reply is counted
 
-count-step : (map j : ℕ) → length (nodesOf map (suc j)) ≡ length (nodesOf map j) + cond (stands map (suc j)) 1 0
-unfolding nodesOf stands
-count-step map j = let e : suc j - 1 ≡ j = omega arith in rw e (go (eqb (map / 2 ^ j % 2) 1))
-  where
-    go : (b : Bool) → length (nodesOf map j ++ cond b (suc j ∷ []) []) ≡ length (nodesOf map j) + cond b 1 0
-    go true = length-append (nodesOf map j) (suc j ∷ [])
-    go false = length-append (nodesOf map j) []
-
 -- of the nodes named, those that do not match are dishonest
 matching-most : (honest : ℕ → Bool) (nodes m j : ℕ)
     → ((i : ℕ) → honest i ≡ true → 1 ≤ i → i ≤ j → stands nodes i ≡ true → stands m i ≡ true)
@@ -161,12 +144,6 @@ all-counted x n i e lo up h =
 
 -- ---- the areas that joining takes
 
-pub length-areas : (z : Measures) (ps : List (List ℕ)) → Each (ShortPiece z) ps → length (areas z ps) ≡ length ps * z .f
-length-areas z ps g = length-same (writeArea (z .f) (λ p. p)) (ShortPiece z) (z .f) (λ p h. length-area (z .f) (λ p. p) p (h .1)) ps g
-
-pub bytes-areas : (z : Measures) (ps : List (List ℕ)) → Each (ShortPiece z) ps → Bytes (areas z ps)
-bytes-areas z ps g = bytes-many (writeArea (z .f) (λ p. p)) (ShortPiece z) (λ p h. bytes-area (z .f) (λ p. p) p (h .0)) ps g
-
 -- each piece stands at the front of its area
 area-piece : (z : Measures) (ps : List (List ℕ)) (j : ℕ) → Each (ShortPiece z) ps → j < length ps
     → take (length (getD ps j [])) (drop (j * z .f) (areas z ps)) ≡ getD ps j []
@@ -183,7 +160,8 @@ area-piece z (p ∷ ps) (suc j) g l =
     ∙ area-piece z ps j (g .1) (omega arith)
 
 -- k pieces of a page, each in its area, join to the page
-module _ (z : Measures) (p : Passed z) (page : List ℕ) (b : Bytes page) (short : length page ≤ z .k * z .f - 4) (m : ℕ) (ps : List (List ℕ)) (bits : m < 2 ^ z .n)
+module _ (z : Measures) (p : Passed z) (page : List ℕ) (b : Bytes page) (short : length page ≤ z .k * z .f - 4) (m : ℕ) (ps : List (List ℕ))
+    (bits : m < 2 ^ z .n)
     (each : Each (ShortPiece z) ps) (many : length ps ≡ z .n) (enough : z .k ≤ count m)
     (pieces : (i : ℕ) → 1 ≤ i → i ≤ z .n → stands m i ≡ true → getD ps (i - 1) [] ≡ piece (z .k) page i) where
   named : nodesIn m ≡ nodesOf m (z .n)
@@ -235,11 +213,6 @@ module _ (z : Measures) (p : Passed z) (page : List ℕ) (b : Bytes page) (short
 
 -- ---- a piece more
 
-pub each-set : {A : Type 0} (g : A → Type 0) (l : List A) (j : ℕ) (a : A) → g a → Each g l → Each g (set l j a)
-each-set g [] j a h e = tt
-each-set g (x ∷ l) zero a h e = (h, e .1)
-each-set g (x ∷ l) (suc j) a h e = (e .0, each-set g l j a h (e .1))
-
 -- ---- the pointer that a reading has picked is its deposit's
 
 pub record Picked (z : Measures) (s : Model) (x : Pointer) : Type 0 where
@@ -257,7 +230,7 @@ known-picked z p s o x l (Known.absent e) h = let n : ver x ≡ 255 = ap ver e i
 known-picked z p s o x l (Known.formed d e c g) h = go (o (ver x) d .pointer)
   where
     go : (s .p .pointers (ver x) ≡ nonePointer) ⊎ Pointed z (s .p) (ver x) → Picked z s x
-    go (inl q) = let n : ver x ≡ 255 = ap ver (sym e ∙ q) in absurd (omega arith)
+    go (inl q) = absurd (some-formed (s .p) x e h q)
     go (inr q) =
         let y = o (ver x) d in
         let v : unnum (ver x) ≡ x .version = unnum-num (x .version) (omega (arith, p .clients .1)) in

@@ -10,10 +10,10 @@ use lib.Dec.{eqb, ltb}
 use Rattle.protocol.specs.declared.measures.Measures.{Measures}
 use Rattle.protocol.specs.declared.version.Version.{Version}
 use Rattle.protocol.specs.Pointer.{Pointer}
-use Rattle.protocol.proofs.MeasureLaws.{Passed}
 use Rattle.protocol.proofs.Cells.{by-eq}
-use Rattle.protocol.proofs.Model.{ver, Turn, Rows, Clients, Past, Model, Next, Picks}
-use Rattle.protocol.proofs.Model.{putBy, shownWritten, raisedTo, shownReading, offer, rowsOf, notices, turned, frozenBy}
+use Rattle.protocol.proofs.MeasureLaws.{Passed}
+use Rattle.protocol.proofs.Model.{ver, Turn, Rows, Clients, Past, Model, Next, Picks, putBy, shownWritten}
+use Rattle.protocol.proofs.Model.{raisedTo, shownReading, offer, rowsOf, notices, turned, frozenBy}
 use Rattle.protocol.proofs.Invariants.{Known, Own, Owned, Unput, Lag, Lagging, Put, Shows, Safe, Retained, Retaining, Current, Keeps}
 use Rattle.protocol.proofs.LaggingKept.{moved}
 

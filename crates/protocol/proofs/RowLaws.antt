@@ -3,25 +3,27 @@ use mathlib.Core.Path.{_≡_, refl, ap, subst⁻¹, _∙_, sym}
 use mathlib.Core.Bool.{Bool, true, false, _&&_, _||_}
 use mathlib.Core.List.{List, [], _∷_, _++_}
 use mathlib.Core.Option.{Option, some, none}
-use Prim.Native.Nat.{ℕ, _+_, _*_, _^_, _≤_, _/_, zero, suc}
+use Prim.Native.Nat.{ℕ, _+_, _*_, _^_, _≤_, _/_}
 use native.Mathlib.Nat.{suc-mul, pow-suc}
 use native.Mathlib.Omega.{arith}
 use borrow.Author.Tests.{eqb-true, lt-ltb, eq-eqb, le-leb, leb-true}
 use lib.Dec.{leb, ltb, eqb}
-use lib.ListN.{length, getD, length-append, replicate, length-replicate}
-use Rattle.coding.proofs.BytesLaws.{stride}
-use Rattle.protocol.specs.declared.version.ReadingIndex.{ReadingIndex}
+use lib.ListN.{length, getD, length-append, length-replicate}
 use Rattle.coding.specs.Bytes.{Bytes}
+use Rattle.coding.proofs.BytesLaws.{stride}
 use Rattle.coding.proofs.Cases.{and-true}
 use Rattle.coding.proofs.NodesLaws.{nodes-none}
+use Rattle.protocol.specs.declared.version.ReadingIndex.{ReadingIndex}
 use Rattle.protocol.specs.declared.measures.Measures.{Measures}
 use Rattle.protocol.specs.Format.{given, mapped, writeNumber, writeArea, writeMany}
 use Rattle.protocol.specs.Measures.{pointerSize, rowSize}
 use Rattle.protocol.specs.Nodes.{nodesIn}
 use Rattle.protocol.specs.Pointer.{nonePointer, Pointer, isNone, properPointer, writeVersion, writeNamed, writePointer}
-use Rattle.protocol.specs.Directory.{pointers, indices, Content, pointersOf, indicesOf, fields, mapOf, readRecord, writeRecord, Row, rowFields, Field, writeIndex, writeFields, writeContent, merge, updateRow, freshRow, freshDirectory}
+use Rattle.protocol.specs.Directory.{pointers, indices, Content, pointersOf, indicesOf, fields, mapOf, readRecord, writeRecord, Row}
+use Rattle.protocol.specs.Directory.{rowFields, Field, writeIndex, writeFields, writeContent, merge, updateRow, freshRow, freshDirectory}
 use Rattle.protocol.specs.Directory.{pointersIn, indicesIn, asRow, writeRow, readRow, readDirectory, writeDirectory}
 use Rattle.protocol.proofs.FormatLaws.{Format, format-check, format-as, format-many, format-area, Each, length-area, length-same}
+pub use Rattle.protocol.proofs.EachLaws.{each-replicate}
 use Rattle.protocol.proofs.PointerLaws.{GoodPointer, length-number, length-version}
 use Rattle.protocol.proofs.DirectoryLaws.{GoodContent, GoodFields, GoodRecord, format-record, GoodIndex, length-index}
 
@@ -230,10 +232,6 @@ unfolding updateRow merge
 update-nothing r = refl
 
 -- ---- fresh rows
-
-pub each-replicate : {A : Type 0} (g : A → Type 0) (n : ℕ) (a : A) → g a → Each g (replicate n a)
-each-replicate g zero a h = tt
-each-replicate g (suc n) a h = (h, each-replicate g n a h)
 
 pub none-good : (s : Measures) → GoodPointer s nonePointer
 unfolding properPointer

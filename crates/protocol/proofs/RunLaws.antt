@@ -7,7 +7,8 @@ use Rattle.protocol.specs.declared.measures.Measures.{Measures}
 use Rattle.protocol.specs.ClientEvents.{updateAnswer, scanAnswer, clientMessage}
 use Rattle.protocol.specs.DirectoryEvents.{directoryUpdate, directoryScan}
 use Rattle.protocol.specs.NodeEvents.{nodeMessage}
-use Rattle.protocol.specs.Run.{State, Call, scanCall, updateCall, Return, updated, rows, Result, nothing, tick, stays, carryOut, carry, hand, bring, deliver, carries, scanBy, updateBy, handed, returned, brought, keeps, lost, delivered, told, upd₂}
+use Rattle.protocol.specs.Run.{State, Call, scanCall, updateCall, Return, updated, rows, nothing, tick, stays, carryOut, carry, hand, bring}
+use Rattle.protocol.specs.Run.{deliver, carries, scanBy, updateBy, handed, returned, brought, keeps, lost, delivered, told, upd₂}
 
 module _ (s : Measures) (honest : ℕ → Bool) (st : State) where
   pub head-scan : (c : ℕ) (room : List ℕ) (q : List Call) → st .calls c ≡ scanCall ∷ q
@@ -47,7 +48,8 @@ module _ (s : Measures) (honest : ℕ → Bool) (st : State) where
   unfolding carryOut
   none-to-node c i room e = ap (λ (x : List (List ℕ)). brought s honest c i room x st) e
 
-  pub none-to-client : (i c : ℕ) (room out : List ℕ) → st .toClient i c ≡ [] → carryOut s honest (deliver i c room out) st ≡ stays nothing (tick (st .history)) st
+  pub none-to-client : (i c : ℕ) (room out : List ℕ) → st .toClient i c ≡ []
+      → carryOut s honest (deliver i c room out) st ≡ stays nothing (tick (st .history)) st
   unfolding carryOut
   none-to-client i c room out e = ap (λ (x : List (List ℕ)). delivered s i c room out x st) e
 

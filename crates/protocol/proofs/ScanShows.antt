@@ -2,7 +2,7 @@
 use mathlib.Core.Path.{_≡_, refl, sym, ap, subst, _∙_}
 use mathlib.Core.Bool.{Bool, true, false, cond, _&&_, _||_, true≢false, or-true}
 use mathlib.Core.List.{List, [], _∷_, _++_, append-nil}
-use mathlib.Core.Option.{Option, some, none as nothing}
+use mathlib.Core.Option.{Option, some}
 use Prim.Native.Nat.{ℕ, _+_, _^_, _≤_, _<_}
 use native.Mathlib.Omega.{arith}
 use native.Mathlib.Decide.{decLe}
@@ -11,8 +11,7 @@ use lib.Dec.{leb, ltb, eqb}
 use lib.Pow.{pow-pos}
 use lib.Seq.{take-append-seam, take-at}
 use lib.ListN.{length, drop, replicate, length-replicate}
-use Rattle.coding.specs.Bytes.{tabulate}
-use Rattle.coding.proofs.BytesLaws.{length-tabulate, getD-tabulate}
+use Rattle.coding.proofs.BytesLaws.{length-tabulate}
 use Rattle.coding.proofs.Cases.{and-true}
 use Rattle.coding.proofs.NodesLaws.{nodes-none}
 use Rattle.protocol.specs.declared.measures.Measures.{Measures}
@@ -30,38 +29,27 @@ use Rattle.protocol.specs.Reading.{pick}
 use Rattle.protocol.specs.Answer.{deposited, empty, requests}
 use Rattle.protocol.specs.ClientEvents.{ClientEnd, scannedAt, fetch, after, lay, roomSize, scanAnswer, withPhase}
 use Rattle.protocol.specs.Run.{History, State, hand, byClient, pointerIn, mark, returned, sends, sentTo, upd}
-use Rattle.protocol.proofs.Cells.{by-eq}
-use Rattle.protocol.proofs.FormatLaws.{Each}
+use Rattle.protocol.proofs.Cells.{by-eq, chosen}
+use Rattle.protocol.proofs.EachLaws.{each-replicate, each-chosen, each-tabulate, tabulate-each}
 use Rattle.protocol.proofs.MeasureLaws.{Passed, passed as measures}
 use Rattle.protocol.proofs.PointerLaws.{GoodPointer, length-version}
 use Rattle.protocol.proofs.DirectoryLaws.{GoodIndex}
 use Rattle.protocol.proofs.MessageLaws.{GoodNamedVersion, GoodToNode}
 use Rattle.protocol.proofs.ClientLaws.{ShortPiece, GoodPhase, GoodReserved, GoodClient, client-back}
-use Rattle.protocol.proofs.RowLaws.{each-replicate}
 use Rattle.protocol.proofs.BytesWritten.{bytes-nil}
-use Rattle.protocol.proofs.Model.{num, ver, Rows, Turn, Clients, Nodes, Past, Model, Next, Marked, Replaced, Frees, Picks}
-use Rattle.protocol.proofs.Model.{rowsOf, shownWritten, shownReading, offer, notices, turned, frozenBy, sent, choosing}
+use Rattle.protocol.proofs.Model.{num, ver, Rows, Turn, Clients, Nodes, Past, Model, Next, Marked, Replaced, Frees, Picks, rowsOf}
+use Rattle.protocol.proofs.Model.{shownWritten, shownReading, offer, notices, turned, frozenBy, sent, choosing}
 use Rattle.protocol.proofs.Invariants.{Known, KnownVersion, Own, Drawing}
-use Rattle.protocol.proofs.Invariant.{Invariant}
 use Rattle.protocol.proofs.PastLaws.{pointer-version}
-use Rattle.protocol.proofs.OwnedKept.{chosen}
+use Rattle.protocol.proofs.Invariant.{Invariant}
 use Rattle.protocol.proofs.View.{Shows, Follows, ClientShows, ToNodeShows, GoodTurn, GoodRows, phaseOf, clientAt, rowsAt, callsOf}
 use Rattle.protocol.proofs.ViewLaws.{sane-quiet, own-turned, others-frozen, rows-turned, goes-shows, unsent}
-use Rattle.protocol.proofs.HandLaws.{sent-shows, others-answered, scan-opened, scan-refused}
-use Rattle.protocol.proofs.GoodLaws.{each-at, each-tabulate, some-pointer, known-good}
+use Rattle.protocol.proofs.GoodLaws.{some-pointer, known-good}
 use Rattle.protocol.proofs.FreeLaws.{each-listed, free-ascending, frozen-after, frees}
 use Rattle.protocol.proofs.PickLaws.{Told, picks}
+use Rattle.protocol.proofs.HandLaws.{sent-shows, others-answered, scan-opened, scan-refused}
 
 -- ---- forms
-
--- what holds of each value tabulated
-tabulate-each : {A : Type 0} (g : A → Type 0) (n : ℕ) (f : ℕ → A) → Each g (tabulate n f) → (q : ℕ) → q < n → g (f q)
-tabulate-each g n f e q l = subst g (getD-tabulate n f q (f q) l) (each-at g (f q) (tabulate n f) e q (rw (length-tabulate n f) l))
-
--- and of other values put in some places
-each-chosen : {A : Type 0} (g : A → Type 0) (n : ℕ) (b : ℕ → Bool) (x : A) (f : ℕ → A) → g x → Each g (tabulate n f)
-    → Each g (tabulate n (λ q. cond (b q) x (f q)))
-each-chosen g n b x f h e = each-tabulate g n (λ q. cond (b q) x (f q)) (λ q l. chosen g (b q) x (f q) h (tabulate-each g n f e q l))
 
 -- a version known and not none may be named
 pub known-named : (z : Measures) → Passed z → (s : Model) → Drawing z s → (w : ℕ) → w < z .m → (v : Version) → KnownVersion (s .p) w v → (v ≡ noVersion → ⊥)

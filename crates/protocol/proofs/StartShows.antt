@@ -1,6 +1,6 @@
 -- Starts of operations are steps of the model.
-use mathlib.Core.Path.{_≡_, refl, sym, ap, subst, _∙_}
-use mathlib.Core.Bool.{Bool, true, false, cond, _&&_, false≢true, and-false}
+use mathlib.Core.Path.{_≡_, refl, ap, _∙_}
+use mathlib.Core.Bool.{Bool, true, false, _&&_, false≢true, and-false}
 use mathlib.Core.List.{List, [], _∷_, _++_, append-nil}
 use mathlib.Core.Option.{Option, some, none as nothing}
 use Prim.Native.Nat.{ℕ, _+_, _-_, _*_, _≤_, _<_}
@@ -15,18 +15,17 @@ use Rattle.protocol.specs.declared.measures.Measures.{Measures}
 use Rattle.protocol.specs.declared.version.ReadingIndex.{ReadingIndex}
 use Rattle.protocol.specs.Measures.{passes}
 use Rattle.protocol.specs.Directory.{writeRecord}
-use Rattle.protocol.specs.Client.{Phase, Client, readClient, writeClient, clientSize}
+use Rattle.protocol.specs.Client.{Phase, writeClient, clientSize}
 use Rattle.protocol.specs.Reading.{readingFields}
-use Rattle.protocol.specs.Answer.{ClientAnswer, refused, scan, update}
-use Rattle.protocol.specs.ClientEvents.{ClientEnd, Step, isIdle, beginDeposit, beginReading, lay, roomSize, after, unchanged, onClient, guarded, startDeposit, startReading, withPhase}
-use Rattle.protocol.specs.Run.{History, Call, scanCall, updateCall, State, Event, Result, Answered, byClient, tick, stays, starts, goes, called, begin, carryOut, deposit, reading}
-use Rattle.protocol.specs.Claim.{Sane}
+use Rattle.protocol.specs.Answer.{refused, scan, update}
+use Rattle.protocol.specs.ClientEvents.{ClientEnd, isIdle, beginDeposit, beginReading, lay, roomSize, after}
+use Rattle.protocol.specs.ClientEvents.{unchanged, onClient, startDeposit, startReading, withPhase}
+use Rattle.protocol.specs.Run.{History, Call, scanCall, updateCall, State, Event, byClient, starts, called, begin, carryOut, deposit, reading}
 use Rattle.protocol.proofs.Cells.{by-eq}
-use Rattle.protocol.proofs.ClientLaws.{GoodClient}
-use Rattle.protocol.proofs.Model.{Rows, Turn, Clients, Nodes, Past, Model, Next, turned, raisedBy, begunBy, rowsOf, shownWritten, shownReading, ver}
+use Rattle.protocol.proofs.Model.{Turn, Nodes, Past, Model, Next, turned, raisedBy, begunBy, rowsOf, shownWritten, shownReading, ver}
 use Rattle.protocol.proofs.View.{Shows, Follows, ClientShows, phaseOf, clientAt, callsOf, returnsOf}
-use Rattle.protocol.proofs.ViewLaws.{read-client, long-client, guarded-open, guarded-short, guarded-stranger, sane-number, sane-quiet, quiet-tick, stays-follows, goes-shows, unsent, others-turned, others-raised, own-turned, rows-turned}
-use Rattle.protocol.proofs.HandLaws.{record-long, record-reads}
+use Rattle.protocol.proofs.ViewLaws.{sane-quiet, goes-shows, unsent, others-turned, ordinary, refused-follows}
+use Rattle.protocol.proofs.ViewLaws.{record-long, record-reads, others-raised, own-turned, rows-turned}
 
 -- a client whose record is idle is idle
 pub idle-turn : (z : Measures) (t : Turn) → isIdle (phaseOf z t) ≡ true → t ≡ Turn.idle
@@ -46,26 +45,23 @@ idle-turn z (Turn.fetching x n m ps) e = absurd (false≢true e)
 
 module _ (z : Measures) (honest : ℕ → Bool) (passed : passes z ≡ true) (st : State) (s : Model) (o : Shows z honest st s) where
   -- a start that is refused
-  pub starts-refused : (ev : Event) (c : ℕ) (bytes : Option (List ℕ)) (e : ClientEnd) (n : ℕ) → e .answer ≡ refused n → (n ≡ 4 → ⊥) → (n ≡ 8 → ⊥) → (n ≡ 9 → ⊥)
+  pub starts-refused : (ev : Event) (c : ℕ) (bytes : Option (List ℕ)) (e : ClientEnd) (n : ℕ) → e .answer ≡ refused n → ordinary n ≡ true
       → Follows z honest s ev (starts z c bytes e st)
-  starts-refused ev c bytes e n q four eight nine =
-      rw q (stays-follows z honest st s o ev (byClient (refused n)) (tick (st .history)) (quiet-tick (st .history)) (sane-number ev (byClient (refused n)) n refl four eight nine))
+  starts-refused ev c bytes e n q p = rw q (refused-follows z honest st s o ev (byClient (refused n)) n refl p)
 
   module _ (c : ℕ) (bytes : List ℕ) (b : Bytes bytes) where
     -- what the event does where its record reads
     opened : (l : c < z .m) → startDeposit z c (st .clients c) bytes ≡ after z (st .clients c) [] [] [] (beginDeposit z (clientAt z (s .c) c) bytes)
     unfolding startDeposit
     opened l =
-        let w = o .client c l in
-        let g = w .good in
-        let p : leb (clientSize z) (length (st .clients c)) ≡ true = rw (w .bytes) (long-client z passed (clientAt z (s .c) c) g) in
-        simp (passed, p, lt-ltb c (z .m) l)
-        (ap (λ r. onClient z (st .clients c) [] [] r (λ x. beginDeposit z x bytes)) (ap (readClient z) (w .bytes) ∙ read-client z passed (clientAt z (s .c) c) g))
+        simp (passed, record-long z honest st s o passed c l, lt-ltb c (z .m) l)
+        (ap (λ r. onClient z (st .clients c) [] [] r (λ x. beginDeposit z x bytes)) (record-reads z honest st s o passed c l))
 
     done : ClientEnd
     done = record { answer = scan; client = writeClient z (withPhase (Phase.scanning bytes) (clientAt z (s .c) c)) ++ []; room = []; out = [] }
 
-    begun : (l : c < z .m) → s .c .turn c ≡ Turn.idle → (short : length bytes ≤ z .k * z .f - 4) → Follows z honest s (deposit c bytes) (starts z c (some bytes) done st)
+    begun : (l : c < z .m) → s .c .turn c ≡ Turn.idle → (short : length bytes ≤ z .k * z .f - 4)
+        → Follows z honest s (deposit c bytes) (starts z c (some bytes) done st)
     unfolding done
     begun l e short =
         let w = o .client c l in
@@ -80,7 +76,8 @@ module _ (z : Measures) (honest : ℕ → Bool) (passed : passes z ≡ true) (st
               };
           step = Next.deposit c bytes (begin c (some bytes) (st .history)) (ap (begin c (some bytes)) (o .history)) l e b short;
           shows =
-              goes-shows z honest st s o c l done (st .returns) (st .toClient) (begin c (some bytes) (st .history)) (turned (s .c) c (Turn.scanning bytes)) (s .n)
+              goes-shows z honest st s o c l done (st .returns) (st .toClient) (begin c (some bytes) (st .history))
+              (turned (s .c) c (Turn.scanning bytes)) (s .n)
               (begunBy (s .p) (s .h .begun) (λ j. ver (shownWritten (s .c) j)))
               (own-turned z (s .c) c (w .good) (Turn.scanning bytes) _ _ (b, le-leb (length bytes) (z .k * z .f - 4) short) tt
               (ap (λ (q : List Call). q ++ (scanCall ∷ [])) (w .calls ∙ ap (callsOf (clientAt z (s .c) c)) e)) (w .returns ∙ ap (returnsOf z) e))
@@ -96,11 +93,11 @@ module _ (z : Measures) (honest : ℕ → Bool) (passed : passes z ≡ true) (st
     known : (l : c < z .m) (idle : Bool) → isIdle (phaseOf z (s .c .turn c)) ≡ idle → Dec (length bytes ≤ z .k * z .f - 4)
         → Follows z honest s (deposit c bytes) (starts z c (some bytes) (startDeposit z c (st .clients c) bytes) st)
     unfolding beginDeposit done
-    known l false e short = rw (opened l) (rw e (starts-refused (deposit c bytes) c (some bytes) (unchanged (refused 5) (st .clients c) [] []) 5 refl (λ x. omega arith) (λ x. omega arith) (λ x. omega arith)))
+    known l false e short = rw (opened l) (rw e (starts-refused (deposit c bytes) c (some bytes) (unchanged (refused 5) (st .clients c) [] []) 5 refl refl))
     known l true e (no long) =
         rw (opened l)
         (rw (e, lt-leb (length bytes) (z .k * z .f - 4) (omega arith))
-        (starts-refused (deposit c bytes) c (some bytes) (unchanged (refused 6) (st .clients c) [] []) 6 refl (λ x. omega arith) (λ x. omega arith) (λ x. omega arith)))
+        (starts-refused (deposit c bytes) c (some bytes) (unchanged (refused 6) (st .clients c) [] []) 6 refl refl))
     known l true e (yes short) =
         rw (opened l) (rw (e, le-leb (length bytes) (z .k * z .f - 4) short) (begun l (idle-turn z (s .c .turn c) e) short))
 
@@ -110,9 +107,9 @@ module _ (z : Measures) (honest : ℕ → Bool) (passed : passes z ≡ true) (st
     unfolding startDeposit
     stranger l true e =
         rw (passed, e, le-ltb c (z .m) l)
-        (starts-refused (deposit c bytes) c (some bytes) (unchanged (refused 3) (st .clients c) [] []) 3 refl (λ x. omega arith) (λ x. omega arith) (λ x. omega arith))
+        (starts-refused (deposit c bytes) c (some bytes) (unchanged (refused 3) (st .clients c) [] []) 3 refl refl)
     stranger l false e =
-        rw (passed, e) (starts-refused (deposit c bytes) c (some bytes) (unchanged (refused 2) (st .clients c) [] []) 2 refl (λ x. omega arith) (λ x. omega arith) (λ x. omega arith))
+        rw (passed, e) (starts-refused (deposit c bytes) c (some bytes) (unchanged (refused 2) (st .clients c) [] []) 2 refl refl)
 
     pub deposit-follows : Follows z honest s (deposit c bytes) (carryOut z honest (deposit c bytes) st)
     unfolding carryOut
@@ -138,8 +135,8 @@ module _ (z : Measures) (honest : ℕ → Bool) (passed : passes z ≡ true) (st
       → startReading z c (st .clients c) room ≡ after z (st .clients c) room [] [] (beginReading (clientAt z (s .c) c) room)
   unfolding startReading
   opened-reading l enough =
-      simp (passed, record-long z honest passed st s o c l, le-leb (roomSize z) (length room) enough, lt-ltb c (z .m) l)
-      (ap (λ r. onClient z (st .clients c) room [] r (λ x. beginReading x room)) (record-reads z honest passed st s o c l))
+      simp (passed, record-long z honest st s o passed c l, le-leb (roomSize z) (length room) enough, lt-ltb c (z .m) l)
+      (ap (λ r. onClient z (st .clients c) room [] r (λ x. beginReading x room)) (record-reads z honest st s o passed c l))
 
   index : ReadingIndex
   index = record { 0 = s .c .reading c + 1 }
@@ -205,14 +202,15 @@ module _ (z : Measures) (honest : ℕ → Bool) (passed : passes z ≡ true) (st
         sane = sane-quiet (reading c room) (byClient (update _)) refl;
       }
 
-  refuses : (n : ℕ) → (n ≡ 4 → ⊥) → (n ≡ 8 → ⊥) → (n ≡ 9 → ⊥) → Follows z honest s (reading c room) (starts z c nothing (unchanged (refused n) (st .clients c) room []) st)
-  refuses n four eight nine = starts-refused z honest passed st s o (reading c room) c nothing (unchanged (refused n) (st .clients c) room []) n refl four eight nine
+  refuses : (n : ℕ) → ordinary n ≡ true → Follows z honest s (reading c room) (starts z c nothing (unchanged (refused n) (st .clients c) room []) st)
+  refuses n = starts-refused z honest passed st s o (reading c room) c nothing (unchanged (refused n) (st .clients c) room []) n refl
 
   known-reading : (l : c < z .m) → roomSize z ≤ length room → (idle : Bool) → isIdle (phaseOf z (s .c .turn c)) ≡ idle
-      → (more : Bool) → ltb (s .c .reading c) 4294967295 ≡ more → Follows z honest s (reading c room) (starts z c nothing (startReading z c (st .clients c) room) st)
+      → (more : Bool) → ltb (s .c .reading c) 4294967295 ≡ more
+      → Follows z honest s (reading c room) (starts z c nothing (startReading z c (st .clients c) room) st)
   unfolding beginReading raisedEnd index
-  known-reading l enough false e more f = rw (opened-reading l enough) (rw e (refuses 5 (λ x. omega arith) (λ x. omega arith) (λ x. omega arith)))
-  known-reading l enough true e false f = rw (opened-reading l enough) (rw (e, f) (refuses 7 (λ x. omega arith) (λ x. omega arith) (λ x. omega arith)))
+  known-reading l enough false e more f = rw (opened-reading l enough) (rw e (refuses 5 refl))
+  known-reading l enough true e false f = rw (opened-reading l enough) (rw (e, f) (refuses 7 refl))
   known-reading l enough true e true f =
       rw (opened-reading l enough) (rw (e, f) (raises l (idle-turn z (s .c .turn c) e) (ltb-true (s .c .reading c) 4294967295 f)))
 
@@ -220,8 +218,8 @@ module _ (z : Measures) (honest : ℕ → Bool) (passed : passes z ≡ true) (st
   short-reading : (enough : Bool) → (leb (clientSize z) (length (st .clients c)) && leb (roomSize z) (length room)) ≡ enough → (enough ≡ true → z .m ≤ c)
       → Follows z honest s (reading c room) (starts z c nothing (startReading z c (st .clients c) room) st)
   unfolding startReading
-  short-reading false e out = rw (passed, e) (refuses 2 (λ x. omega arith) (λ x. omega arith) (λ x. omega arith))
-  short-reading true e out = rw (passed, e, le-ltb c (z .m) (out refl)) (refuses 3 (λ x. omega arith) (λ x. omega arith) (λ x. omega arith))
+  short-reading false e out = rw (passed, e) (refuses 2 refl)
+  short-reading true e out = rw (passed, e, le-ltb c (z .m) (out refl)) (refuses 3 refl)
 
   pub reading-follows : Bytes room → Follows z honest s (reading c room) (carryOut z honest (reading c room) st)
   unfolding carryOut

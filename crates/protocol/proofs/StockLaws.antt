@@ -1,19 +1,17 @@
 -- What follows for a node's table: few pieces of each client, room for what is stored, and what a client keeps is held.
 use mathlib.Core.Path.{_≡_, refl, sym, ap, _∙_}
-use mathlib.Core.Bool.{Bool, true, false, cond, not, _||_, true≢false, or-true}
+use mathlib.Core.Bool.{Bool, true, false, not, _||_, true≢false, or-true}
 use mathlib.Core.Logic.{_⊎_, inl, inr}
 use mathlib.Core.List.{List, [], _∷_}
-use mathlib.Core.Option.{some}
+use mathlib.Core.Option.{Option, some, none}
 use Prim.Native.Nat.{ℕ, zero, suc, _+_, _*_, _≤_, _<_}
 use native.Mathlib.Nat.{suc-mul, mul-left-comm}
 use native.Mathlib.Omega.{arith}
-use lib.Dec.{eqb}
 use lib.ListN.{length}
 use Rattle.coding.specs.Pieces.{piece}
 use Rattle.coding.proofs.Cases.{and-true}
 use Rattle.protocol.specs.declared.measures.Measures.{Measures}
 use Rattle.protocol.specs.declared.version.Version.{Version}
-use Rattle.protocol.specs.Version.{below}
 use Rattle.protocol.specs.NodeTable.{Held, inOrder}
 use Rattle.protocol.specs.Node.{handBack, listed}
 use Rattle.protocol.specs.Claim.{piecesOf}
@@ -22,35 +20,25 @@ use Rattle.protocol.specs.Message.{ToNode}
 use Rattle.protocol.specs.Reading.{sameVersion}
 use Rattle.protocol.proofs.Cells.{by-eq}
 use Rattle.protocol.proofs.FormatLaws.{Each}
-use Rattle.protocol.proofs.ClientLaws.{each-as}
+use Rattle.protocol.proofs.EachLaws.{each-as, each-with}
 use Rattle.protocol.proofs.MeasureLaws.{Passed}
-use Rattle.protocol.proofs.VersionLaws.{Below, true-below, below-trans, below-irrefl, neither-below}
-use Rattle.protocol.proofs.NodeLaws.{split-ascending, hand-more, hand-same, not-below-self, not-below-back}
+use Rattle.protocol.proofs.VersionLaws.{Below, true-below, below-trans, below-irrefl, not-below-self, not-below-back, same-eq, eq-same}
+use Rattle.protocol.proofs.NodeLaws.{split-ascending, hand-more, hand-same}
 use Rattle.protocol.proofs.Model.{num, Past, Model}
 use Rattle.protocol.proofs.Invariants.{Owned, Keeps, Member, Plays, NoStore, Stocked, Stocking, effect, holding}
-use Rattle.protocol.proofs.PlaysLaws.{same-eq, eq-same, plays-few}
+use Rattle.protocol.proofs.QueueLaws.{hand-each}
+use Rattle.protocol.proofs.PlaysLaws.{plays-few}
 
 -- ---- what is held
-
--- a version that is held is the version of some place
-held-at : (g : Held → Type 0) (v : Version) (l : List Held) → holding l v ≡ true → Each g l
-    → (h : Held) × g h × (h .version ≡ v) × (handBack v l ≡ some (h .piece))
-unfolding handBack
-held-at g v [] e a = absurd (true≢false (sym e))
-held-at g v (x ∷ l) e a = go (held-at g v l) (below v (x .version)) refl (below (x .version) v) refl
-  where
-    go : (holding l v ≡ true → Each g l → (h : Held) × g h × (h .version ≡ v) × (handBack v l ≡ some (h .piece)))
-        → (b : Bool) → below v (x .version) ≡ b → (c : Bool) → below (x .version) v ≡ c
-        → (h : Held) × g h × (h .version ≡ v) × (handBack v (x ∷ l) ≡ some (h .piece))
-    go ih true p c q = absurd (true≢false (sym e ∙ simp p))
-    go ih false p true q = let r = ih (simp (p, q) at e) (a .1) in (r .0, r .1, r .2, simp (p, q) (r .3))
-    go ih false p false q = (x, a .0, sym (neither-below v (x .version) p q), simp (p, q))
 
 -- a piece that is held is its deposit's
 pub held-piece : (z : Measures) (p : Past) (i : ℕ) (v : Version) (l : List Held) → holding l v ≡ true → Each (Stocked z p i) l
     → handBack v l ≡ some (piece (z .k) (p .pages (num v)) i)
-held-piece z p i v l e a =
-    let r = held-at (Stocked z p i) v l e a in r .3 ∙ ap some (r .1 .piece ∙ ap (λ u. piece (z .k) (p .pages (num u)) i) (r .2))
+held-piece z p i v l e a = go (handBack v l) refl e
+  where
+    go : (x : Option (List ℕ)) → handBack v l ≡ x → isHeld x ≡ true → x ≡ some (piece (z .k) (p .pages (num v)) i)
+    go (some x) h e = ap some (hand-each (Stocked z p i) v x l a h .piece)
+    go none h e = absurd (true≢false (sym e))
 
 -- a version that a client keeps, and of which no store is under way, is held
 pub kept-held : (z : Measures) (honest : ℕ → Bool) (s : Model) → Stocking z honest s → (i : ℕ) → honest i ≡ true → 1 ≤ i → i ≤ z .n
@@ -69,17 +57,14 @@ kept-held z honest s o i hi lo up v l k = along (holding (s .n .held i)) (s .n .
 
 -- ---- counting
 
-each-with : {A : Type 0} (g h k : A → Type 0) → ((a : A) → g a → h a → k a) → (l : List A) → Each g l → Each h l → Each k l
-each-with g h k f [] a b = tt
-each-with g h k f (x ∷ l) a b = (f x (a .0) (b .0), each-with g h k f l (a .1) (b .1))
-
 -- in a table in order the first version is below all others
 below-rest : (x : Held) (l : List Held) → inOrder (x ∷ l) ≡ true → Each (λ h. Below (x .version) (h .version)) l
 below-rest x [] e = tt
 below-rest x (y ∷ l) e =
     let a = split-ascending x (y ∷ l) e in (
       a .0,
-      each-as (λ h. Below (y .version) (h .version)) (λ h. Below (x .version) (h .version)) (λ h b. below-trans (x .version) (y .version) (h .version) (a .0) b) l
+      each-as (λ h. Below (y .version) (h .version)) (λ h. Below (x .version) (h .version))
+          (λ h b. below-trans (x .version) (y .version) (h .version) (a .0) b) l
           (below-rest y l (a .1)),
     )
 
@@ -109,7 +94,8 @@ without (Member.there c l m) = let r = without m in (c ∷ r .0, ap suc (r .1), 
     on f (Member.there c l k) = Member.there c _ (f k)
 
 -- versions in order that are all among some others are not more than they
-count-among : (w : ℕ) (l : List Held) (vs : List Version) → inOrder l ≡ true → Each (λ h. h .version .client ≡ w → Member (h .version) vs) l → piecesOf w l ≤ length vs
+count-among : (w : ℕ) (l : List Held) (vs : List Version) → inOrder l ≡ true → Each (λ h. h .version .client ≡ w → Member (h .version) vs) l
+    → piecesOf w l ≤ length vs
 count-among w [] vs e a = omega arith
 count-among w (x ∷ l) vs e a =
     by-eq (x .version .client) w
@@ -117,7 +103,8 @@ count-among w (x ∷ l) vs e a =
     let r = without (a .0 g) in
     let c =
     count-among w l (r .0) (split-ascending x l e .1)
-    (each-with (λ h. Below (x .version) (h .version)) (λ h. h .version .client ≡ w → Member (h .version) vs) (λ h. h .version .client ≡ w → Member (h .version) (r .0))
+    (each-with (λ h. Below (x .version) (h .version)) (λ h. h .version .client ≡ w → Member (h .version) vs)
+    (λ h. h .version .client ≡ w → Member (h .version) (r .0))
     (λ h b m k. r .2 (h .version) (λ q. below-irrefl (x .version) (rw q at b)) (m k)) l (below-rest x l e) (a .1))
     in rw f (omega (arith, c, r .1)))
     (λ f g. rw f (count-among w l vs (split-ascending x l e .1) (a .1)))
@@ -139,7 +126,8 @@ sums : ℕ → List Held → ℕ
 sums zero l = 0
 sums (suc n) l = piecesOf n l + sums n l
 
-sums-first : (n : ℕ) (x : Held) (l : List Held) → (x .version .client < n → sums n (x ∷ l) ≡ suc (sums n l)) × (n ≤ x .version .client → sums n (x ∷ l) ≡ sums n l)
+sums-first : (n : ℕ) (x : Held) (l : List Held)
+    → (x .version .client < n → sums n (x ∷ l) ≡ suc (sums n l)) × (n ≤ x .version .client → sums n (x ∷ l) ≡ sums n l)
 unfolding sums
 sums-first zero x l = (λ h. absurd (omega arith), λ h. refl)
 sums-first (suc n) x l =
@@ -193,6 +181,8 @@ held-all z honest s pa o k c i v x rest hi lo up l e = go (holding (s .n .held i
     go : (b : Bool) → holding (s .n .held i) v ≡ b → (holding (s .n .held i) v ≡ true) ⊎ (length (s .n .held i) < 2 * (z .m * z .m))
     go true n = inl n
     go false n =
-        let a = sums-all (z .m) (s .n .held i) (each-as (Stocked z (s .p) i) (λ h. h .version .client < z .m) (λ h t. t .client) (s .n .held i) (k .stocked i hi lo up)) in
+        let a =
+        sums-all (z .m) (s .n .held i) (each-as (Stocked z (s .p) i) (λ h. h .version .client < z .m) (λ h t. t .client) (s .n .held i) (k .stocked i hi lo up))
+        in
         let b = sums-few c (2 * z .m) (z .m) (s .n .held i) (held-few z honest s pa o k i hi lo up) .1 l (few n) in
         inr (omega (arith, a, b, mul-left-comm (z .m) 2 (z .m)))

@@ -1,12 +1,11 @@
--- What nodes hold and what is under way to them, after every step.
+-- What nodes hold and what is under way to them: every step keeps `Stocking`.
 use mathlib.Core.Path.{_≡_, refl, sym, ap, _∙_}
 use mathlib.Core.Bool.{Bool, true, false, cond, not, _||_, true≢false, or-true}
 use mathlib.Core.Logic.{_⊎_, inl, inr}
-use mathlib.Core.List.{List, [], _∷_, _++_}
-use Prim.Native.Nat.{ℕ, zero, suc, _-_, _%_, _^_, _≤_, _<_}
-use native.Mathlib.Nat.{zero-div}
+use mathlib.Core.List.{List, [], _∷_}
+use Prim.Native.Nat.{ℕ, zero, suc, _-_, _≤_, _<_}
 use native.Mathlib.Omega.{arith}
-use borrow.Author.Tests.{eq-eqb, ne-eqb, not-true}
+use borrow.Author.Tests.{eq-eqb, not-true}
 use lib.Dec.{eqb}
 use lib.ListN.{replicate}
 use Rattle.coding.specs.Pieces.{piece}
@@ -20,45 +19,47 @@ use Rattle.protocol.specs.NodeTable.{Held, inOrder}
 use Rattle.protocol.specs.Node.{listed}
 use Rattle.protocol.specs.Message.{ToNode, ToClient}
 use Rattle.protocol.specs.Reading.{sameVersion}
-use Rattle.protocol.specs.Run.{History, upd, upd₂}
-use Rattle.protocol.proofs.Cells.{by-eq}
+use Rattle.protocol.specs.Run.{History}
+use Rattle.protocol.proofs.Cells.{by-eq, is-false}
 use Rattle.protocol.proofs.FormatLaws.{Each}
-use Rattle.protocol.proofs.ClientLaws.{each-as}
+use Rattle.protocol.proofs.EachLaws.{each-as, each-append}
 use Rattle.protocol.proofs.MeasureLaws.{Passed}
+use Rattle.protocol.proofs.VersionLaws.{same-eq, eq-same}
 use Rattle.protocol.proofs.NodeLaws.{keep-ascending, keep-each, release-ascending, release-each}
-use Rattle.protocol.proofs.Model.{num, ver, Rows, Turn, Clients, Shown, Past, Model, Next, Frees, Replaced, Retains, with-toClient, turned, frozenBy, sent, served, pointedBy, Picks, drawnBy, Above, notices}
+use Rattle.protocol.proofs.NodeMapLaws.{stands-none}
+use Rattle.protocol.proofs.Model.{num, ver, Rows, Turn, Clients, Shown, Past, Model, Next, Frees, Replaced, Retains}
+use Rattle.protocol.proofs.Model.{with-toClient, turned, frozenBy, sent, served, Picks, notices}
 use Rattle.protocol.proofs.Invariants.{Known, KnownVersion, Owned, Drawing, Current, Keeps, Plays, Stocked, Sound, Stocking, effect, holding}
-use Rattle.protocol.proofs.DrawLaws.{draw-undrawn}
-use Rattle.protocol.proofs.PlaysLaws.{same-eq, eq-same, holding-kept, holding-released, effect-other, Alike, keeps-as, plays-ext, plays-alike, plays-append, plays-bounded}
+use Rattle.protocol.proofs.PastLaws.{Later, later-same, drawn-later, pointed-later, draw-fresh}
+use Rattle.protocol.proofs.PlaysLaws.{holding-kept, holding-released, effect-other, Alike, keeps-as, plays-ext, plays-alike, plays-append, plays-bounded}
+use Rattle.protocol.proofs.LaggingKept.{moved}
 
 -- ---- the past
 
--- a version that is drawn stays so, with its page, and its pointer names the nodes that it named
-abbrev Grows : Past → Past → Type 0
-Grows p p′ =
-    (v : ℕ) → p .drawn v ≡ true
-    → (p′ .drawn v ≡ true) × (p′ .pages v ≡ p .pages v)
-    × ((i : ℕ) → stands (p .pointers v .named .nodes) i ≡ true → stands (p′ .pointers v .named .nodes) i ≡ true)
-
-module _ (z : Measures) (p p′ : Past) (g : Grows p p′) where
-  stocked-grown : (i : ℕ) (l : List Held) → Each (Stocked z p i) l → Each (Stocked z p′ i) l
-  stocked-grown i = each-as (Stocked z p i) (Stocked z p′ i) one
+module _ (z : Measures) (p p′ : Past) (g : Later p p′) where
+  stocked-later : (i : ℕ) (l : List Held) → Each (Stocked z p i) l → Each (Stocked z p′ i) l
+  stocked-later i = each-as (Stocked z p i) (Stocked z p′ i) one
     where
       one : (h : Held) → Stocked z p i h → Stocked z p′ i h
       one h a =
-          let b = g (num (h .version)) (a .drawn) in
-          record { drawn = b .0; piece = a .piece ∙ ap (λ x. piece (z .k) x i) (sym (b .1)); client = a .client }
+          let v = num (h .version) in
+          record { drawn = g .drawn v (a .drawn); piece = a .piece ∙ ap (λ x. piece (z .k) x i) (sym (g .pages v (a .drawn))); client = a .client }
 
-  sound-grown : (w i : ℕ) (l : List ToNode) → Each (Sound z p w i) l → Each (Sound z p′ w i) l
-  sound-grown w i = each-as (Sound z p w i) (Sound z p′ w i) one
+  -- a node that a version's pointer names stays named: none names no node
+  named-later : (v i : ℕ) → p .drawn v ≡ true → stands (p .pointers v .named .nodes) i ≡ true → stands (p′ .pointers v .named .nodes) i ≡ true
+  named-later v i d h = go (g .pointers v d)
+    where
+      go : (p .pointers v ≡ nonePointer) ⊎ (p′ .pointers v ≡ p .pointers v) → stands (p′ .pointers v .named .nodes) i ≡ true
+      go (inl n) = absurd (true≢false (sym (rw n at h) ∙ stands-none i))
+      go (inr e) = rw e h
+
+  sound-later : (w i : ℕ) (l : List ToNode) → Each (Sound z p w i) l → Each (Sound z p′ w i) l
+  sound-later w i = each-as (Sound z p w i) (Sound z p′ w i) one
     where
       one : (m : ToNode) → Sound z p w i m → Sound z p′ w i m
-      one (ToNode.store v x) a = let b = g (num v) (a .0) in (b .0, a .1 ∙ ap (λ x. piece (z .k) x i) (sym (b .1)), a .2)
-      one (ToNode.request v) a = let b = g (num v) (a .0) in (b .0, b .2 i (a .1), a .2)
+      one (ToNode.store v x) a = (g .drawn (num v) (a .0), a .1 ∙ ap (λ x. piece (z .k) x i) (sym (g .pages (num v) (a .0))), a .2)
+      one (ToNode.request v) a = (g .drawn (num v) (a .0), named-later (num v) i (a .0) (a .1), a .2)
       one (ToNode.free l) a = a
-
-same : (p : Past) → Grows p p
-same p v d = (d, refl, λ i h. h)
 
 -- ---- what a client keeps
 
@@ -74,7 +75,7 @@ others z k k′ w t a b c u = (
 turned-alike : (z : Measures) (k : Clients) (c : ℕ) (x : Turn) (r : ℕ → ℕ)
     → ((u : Version) → (Current (k .turn c) u → Current x u) × (Current x u → Current (k .turn c) u))
     → (w : ℕ)
-    → Alike z k (record { turn = upd (k .turn) c x; written = k .written; frozen = k .frozen; reserved = k .reserved; indices = k .indices; reading = r }) w
+    → Alike z k (moved k c x r) w
 turned-alike z k c x r h w u =
     by-eq w c
     (λ f g. (
@@ -85,29 +86,25 @@ turned-alike z k c x r h w u =
 
 -- ---- shapes of steps
 
-each-append : {A : Type 0} (g : A → Type 0) (l m : List A) → Each g l → Each g m → Each g (l ++ m)
-each-append g [] m a b = b
-each-append g (x ∷ l) m a b = (a .0, each-append g l m (a .1) b)
-
 module _ (z : Measures) (honest : ℕ → Bool) (s : Model) (o : Stocking z honest s) where
   -- nothing is sent to nodes or taken by them
-  still : (t : Model) → t .n .held ≡ s .n .held → t .n .toNode ≡ s .n .toNode → Grows (s .p) (t .p)
+  still : (t : Model) → t .n .held ≡ s .n .held → t .n .toNode ≡ s .n .toNode → Later (s .p) (t .p)
       → ((w : ℕ) → Alike z (s .c) (t .c) w) → Stocking z honest t
   still t a b g k =
       record {
         order = λ i. rw a (o .order i);
-        stocked = λ i h lo up. rw a (stocked-grown z (s .p) (t .p) g i (s .n .held i) (o .stocked i h lo up));
-        sound = λ w i h lo up l. rw b (sound-grown z (s .p) (t .p) g w i (s .n .toNode w i) (o .sound w i h lo up l));
+        stocked = λ i h lo up. rw a (stocked-later z (s .p) (t .p) g i (s .n .held i) (o .stocked i h lo up));
+        sound = λ w i h lo up l. rw b (sound-later z (s .p) (t .p) g w i (s .n .toNode w i) (o .sound w i h lo up l));
         plays = λ w i h lo up l.
             rw (a, b) (plays-alike z (s .c) (t .c) w (k w) (holding (s .n .held i)) (s .n .toNode w i) (o .plays w i h lo up l));
       }
 
   -- nor does any but client c's turn change, which has drawn the same
   turns : (c : ℕ) (x : Turn) {y : Turn} {r : ℕ → ℕ} {d : Shown} {q : ℕ → ℕ → List ToClient} {p : Past} {h : History}
-      → Grows (s .p) p → s .c .turn c ≡ y → Current y ≡ Current x
+      → Later (s .p) p → s .c .turn c ≡ y → Current y ≡ Current x
       → Stocking z honest
       (record {
-        c = record { turn = upd (s .c .turn) c x; written = s .c .written; frozen = s .c .frozen; reserved = s .c .reserved; indices = s .c .indices; reading = r };
+        c = moved (s .c) c x r;
         d = d;
         n = with-toClient (s .n) q;
         p = p;
@@ -116,16 +113,16 @@ module _ (z : Measures) (honest : ℕ → Bool) (s : Model) (o : Stocking z hone
   turns c x {r = r} g e f = still _ refl refl g (turned-alike z (s .c) c x r (λ u. (λ h. rw (← f) (rw e at h), λ h. rw e (rw (← f) at h))))
 
   -- client c sends each node messages
-  sends : (t : Model) (c : ℕ) (ms : ℕ → List ToNode) → t .n ≡ sent (s .n) c ms → Grows (s .p) (t .p)
+  sends : (t : Model) (c : ℕ) (ms : ℕ → List ToNode) → t .n ≡ sent (s .n) c ms → Later (s .p) (t .p)
       → ((w : ℕ) → eqb w c ≡ false → Alike z (s .c) (t .c) w)
       → ((i : ℕ) → Each (Sound z (t .p) c i) (ms i))
       → ((i : ℕ) (f : Version → Bool) → Plays z (s .c) c f [] → Plays z (t .c) c f (ms i)) → Stocking z honest t
   sends t c ms a g k m e =
       record {
         order = λ i. rw a (o .order i);
-        stocked = λ i h lo up. rw a (stocked-grown z (s .p) (t .p) g i (s .n .held i) (o .stocked i h lo up));
+        stocked = λ i h lo up. rw a (stocked-later z (s .p) (t .p) g i (s .n .held i) (o .stocked i h lo up));
         sound = λ w i h lo up l.
-            let old = sound-grown z (s .p) (t .p) g w i (s .n .toNode w i) (o .sound w i h lo up l) in
+            let old = sound-later z (s .p) (t .p) g w i (s .n .toNode w i) (o .sound w i h lo up l) in
             rw a (by-eq w c (λ f n. rw f (rw n (each-append (Sound z (t .p) c i) (s .n .toNode c i) (ms i) (rw n at old) (m i)))) (λ f n. rw f old));
         plays = λ w i h lo up l.
             let old = o .plays w i h lo up l in
@@ -144,7 +141,9 @@ module _ (z : Measures) (honest : ℕ → Bool) (s : Model) (o : Stocking z hone
         stocked = λ j hj loj upj. by-eq j i (λ f g. rw f (rw g b)) (λ f g. rw f (o .stocked j hj loj upj));
         sound = λ w j hj loj upj wm.
             let old = o .sound w j hj loj upj wm in
-            by-eq w c (λ f g. by-eq j i (λ f′ g′. rw (f, f′) (rw (g, g′) ((rw (g, g′, e) at old) .1))) (λ f′ g′. rw (f, f′) (rw g (rw g at old)))) (λ f g. rw f old);
+            by-eq w c
+            (λ f g. by-eq j i (λ f′ g′. rw (f, f′) (rw (g, g′) ((rw (g, g′, e) at old) .1))) (λ f′ g′. rw (f, f′) (rw g (rw g at old))))
+            (λ f g. rw f old);
         plays = λ w j hj loj upj wm.
             let old = o .plays w j hj loj upj wm in
             by-eq w c
@@ -154,7 +153,8 @@ module _ (z : Measures) (honest : ℕ → Bool) (s : Model) (o : Stocking z hone
             (λ f′ g′. rw (f, f′) (rw g (rw g at old))))
             (λ f g.
             by-eq j i
-            (λ f′ g′. rw (f, f′) (rw g′ (same-plays w (holding (s .n .held i)) (λ u d. sym (v u ∙ other u (λ x. g (sym d ∙ x)))) (s .n .toNode w i) (rw g′ at old))))
+            (λ f′ g′.
+            rw (f, f′) (rw g′ (same-plays w (holding (s .n .held i)) (λ u d. sym (v u ∙ other u (λ x. g (sym d ∙ x)))) (s .n .toNode w i) (rw g′ at old))))
             (λ f′ g′. rw (f, f′) old));
       }
     where
@@ -166,10 +166,6 @@ module _ (z : Measures) (honest : ℕ → Bool) (s : Model) (o : Stocking z hone
       other = effect-other z (s .p) c i m ((rw e at (o .sound c i hi lo up cm)) .0) (holding (s .n .held i))
 
 -- ---- a search for what is retained
-
-is-false : (b : Bool) → (b ≡ true → ⊥) → b ≡ false
-is-false true n = absurd (n refl)
-is-false false n = refl
 
 -- a test passes at a number below n, or at none
 abbrev Found : (ℕ → Bool) → ℕ → Type 0
@@ -202,9 +198,6 @@ retains-or z k c v = go (find (λ q. sameVersion (k .frozen c q .version) v) (z 
 
 module _ (z : Measures) (pa : Passed z) (s : Model) (o : Owned z s) (c : ℕ) (l : c < z .m) where
   module _ (bytes : List ℕ) (a : Rows) (v : Version) (e : s .c .turn c ≡ Turn.scanned bytes a) (ec : v .client ≡ c) where
-    draw-grown : (s .p .drawn (num v) ≡ true → ⊥) → Grows (s .p) (drawnBy (s .p) (num v) bytes (s .h .latest c))
-    draw-grown n u d = by-eq u (num v) (λ f g. absurd (n (rw g at d))) (λ f g. rw f (d, refl, λ i h. h))
-
     -- the client keeps it too
     draw-plays : (x : List ℕ) (f : Version → Bool) → Plays z (s .c) c f [] → Plays z (turned (s .c) c (Turn.storing v bytes 0)) c f (ToNode.store v x ∷ [])
     draw-plays x f p = (plays-bounded z s pa o c l f p, (λ u d h. onward u d (sameVersion u v) refl h, back))
@@ -326,56 +319,46 @@ module _ (z : Measures) (pa : Passed z) (s : Model) (o : Owned z s) (c : ℕ) (l
         go true = (plays-bounded z s pa o c l f p, on)
         go false = on
 
--- ---- a deposit's pointer is formed, where there was none
-
-formed-grown : (p : Past) (v : ℕ) (x : Pointer) → p .pointers v ≡ nonePointer → Grows p (pointedBy p v x)
-unfolding stands
-formed-grown p v x e u d =
-    (d, refl, λ i h. by-eq u v (λ f g. absurd (true≢false (sym (rw (g, e) at h) ∙ stands-none i))) (λ f g. rw f h))
-  where
-    stands-none : (i : ℕ) → stands 0 i ≡ false
-    stands-none i = rw (zero-div (2 ^ (i - 1)))
-
 -- ---- every step
 
 pub stocking-kept : (z : Measures) (honest : ℕ → Bool) → Passed z → (s t : Model) → Next z honest s t
     → Owned z s → Drawing z s → Stocking z honest s → Stocking z honest t
 unfolding pointerOf
-stocking-kept z honest pa s t (Next.refused h q) w d o = still z honest s o _ refl refl (same (s .p)) (λ w u. (λ h. h, λ h. h))
+stocking-kept z honest pa s t (Next.refused h q) w d o = still z honest s o _ refl refl (later-same (s .p)) (λ w u. (λ h. h, λ h. h))
 stocking-kept z honest pa s t (Next.deposit c b h q l e bb n) w d o =
-    turns z honest s o c _ (same (s .p)) e refl
+    turns z honest s o c _ (later-same (s .p)) e refl
 stocking-kept z honest pa s t (Next.reading c h q l e) w d o =
-    turns z honest s o c _ (same (s .p)) e refl
+    turns z honest s o c _ (later-same (s .p)) e refl
 stocking-kept z honest pa s t (Next.publish c x h q l e) w d o =
-    turns z honest s o c _ (same (s .p)) e refl
+    turns z honest s o c _ (later-same (s .p)) e refl
 stocking-kept z honest pa s t (Next.raise c h q l e) w d o =
-    turns z honest s o c _ (same (s .p)) e refl
+    turns z honest s o c _ (later-same (s .p)) e refl
 stocking-kept z honest pa s t (Next.scan-first c bytes h q l e) w d o =
-    turns z honest s o c _ (same (s .p)) e refl
+    turns z honest s o c _ (later-same (s .p)) e refl
 stocking-kept z honest pa s t (Next.scan-second c x h q l e) w d o =
-    turns z honest s o c _ (same (s .p)) e refl
+    turns z honest s o c _ (later-same (s .p)) e refl
 stocking-kept z honest pa s t (Next.scan-reading c h q l e) w d o =
-    turns z honest s o c _ (same (s .p)) e refl
+    turns z honest s o c _ (later-same (s .p)) e refl
 stocking-kept z honest pa s t (Next.acknowledged c x h q l e) w d o =
-    turns z honest s o c _ (same (s .p)) e refl
+    turns z honest s o c _ (later-same (s .p)) e refl
 stocking-kept z honest pa s t (Next.known c h q l e) w d o =
-    turns z honest s o c _ (same (s .p)) e refl
+    turns z honest s o c _ (later-same (s .p)) e refl
 stocking-kept z honest pa s t (Next.draw c bytes a v h q l e ec es ab) w d o =
     sends z honest s o _ c (λ i. ToNode.store v (piece (z .k) bytes i) ∷ []) refl
-    (draw-grown z pa s w c l bytes a v e ec (draw-undrawn z pa s w d c bytes a v l e ec ab))
+    (drawn-later (s .p) (num v) bytes (s .h .latest c) (draw-fresh z s c bytes a v pa w d l e ec ab .1))
     (λ w f. others z (s .c) _ w (rw f refl) refl refl refl)
     (λ i. ((rw (eq-eqb (num v) (num v) refl) (refl, refl, ec)), tt))
     (λ i. draw-plays z pa s w c l bytes a v e ec (piece (z .k) bytes i))
 stocking-kept z honest pa s t (Next.spent c bytes a h q l e) w d o =
-    turns z honest s o c _ (same (s .p)) e refl
+    turns z honest s o c _ (later-same (s .p)) e refl
 stocking-kept z honest pa s t (Next.freeze c x a fl h q l e fr) w d o =
-    sends z honest s o _ c (λ i. ToNode.free fl ∷ []) refl (same (s .p))
+    sends z honest s o _ c (λ i. ToNode.free fl ∷ []) refl (later-same (s .p))
     (λ w f. others z (s .c) _ w (rw f refl) (rw f refl) (rw f refl) (rw f refl))
     (λ i. (freed-own z pa s w c l x a fl e fr, tt)) (λ i. freeze-plays z pa s w c l x a fl e fr)
 stocking-kept z honest pa s t (Next.empty c a h q l e pk) w d o =
-    turns z honest s o c _ (same (s .p)) e refl
+    turns z honest s o c _ (later-same (s .p)) e refl
 stocking-kept z honest pa s t (Next.fetch c a x h q l e pk ne) w d o =
-    sends z honest s o _ c _ refl (same (s .p)) (λ w f. others z (s .c) _ w (rw f refl) refl refl refl)
+    sends z honest s o _ c _ refl (later-same (s .p)) (λ w f. others z (s .c) _ w (rw f refl) refl refl refl)
     (λ i. fetch-sound z pa s w c l a x e pk ne i (stands (x .named .nodes) i) refl) (λ i. fetch-plays z pa s w c l a x e pk ne (stands (x .named .nodes) i))
 stocking-kept z honest pa s t (Next.store c i v x rest h q hi lo up l e) w d o =
     let m = (rw e at (o .sound c i hi lo up l)) .0 in
@@ -387,14 +370,14 @@ stocking-kept z honest pa s t (Next.request c i v rest h q hi lo up l e) w d o =
 stocking-kept z honest pa s t (Next.free c i fl rest h q hi lo up l e) w d o =
     serves z honest s o c i (ToNode.free fl) rest _ ToClient.freed h hi lo up l e (release-ascending fl (s .n .held i) (o .order i))
     (release-each (Stocked z (s .p) i) fl (s .n .held i) (o .stocked i hi lo up)) (holding-released fl (s .n .held i) (o .order i))
-stocking-kept z honest pa s t (Next.passed i c m qs h q co) w d o = still z honest s o _ refl refl (same (s .p)) (λ w u. (λ h. h, λ h. h))
+stocking-kept z honest pa s t (Next.passed i c m qs h q co) w d o = still z honest s o _ refl refl (later-same (s .p)) (λ w u. (λ h. h, λ h. h))
 stocking-kept z honest pa s t (Next.added i c v bytes a qs h q l lo up e co st few) w d o =
-    turns z honest s o c _ (same (s .p)) e refl
+    turns z honest s o c _ (later-same (s .p)) e refl
 stocking-kept z honest pa s t (Next.formed i c v bytes a qs h q l lo up e co st en) w d o =
-    turns z honest s o c _ (formed-grown (s .p) (num v) _ ((rw e at (w .own c l)) .pointer)) e refl
+    turns z honest s o c _ (pointed-later (s .p) (num v) _ ((rw e at (w .own c l)) .pointer)) e refl
 stocking-kept z honest pa s t (Next.missed i c x n m ps y qs h q l lo up e co hi sn st) w d o =
-    turns z honest s o c _ (same (s .p)) e refl
+    turns z honest s o c _ (later-same (s .p)) e refl
 stocking-kept z honest pa s t (Next.matched i c x n m ps b qs h q l lo up e co sn st eb few) w d o =
-    turns z honest s o c _ (same (s .p)) e refl
+    turns z honest s o c _ (later-same (s .p)) e refl
 stocking-kept z honest pa s t (Next.ended i c x n m ps y qs h q l e co) w d o =
-    turns z honest s o c _ (same (s .p)) e refl
+    turns z honest s o c _ (later-same (s .p)) e refl

@@ -1,13 +1,15 @@
--- Laws of the order of versions.
-use mathlib.Core.Bool.{true, false, true≢false}
+-- Laws of the order of versions, and when two are the same.
+use mathlib.Core.Path.{_≡_, refl, sym, _∙_}
+use mathlib.Core.Bool.{Bool, true, false, _||_, true≢false}
 use Prim.Native.Nat.{_<_, _≤_}
 use native.Mathlib.Decide.{decLt}
 use native.Mathlib.Omega.{arith}
-use borrow.Author.Tests.{lt-ltb, le-ltb, ltb-true, ltb-false, eq-eqb, ne-eqb}
+use borrow.Author.Tests.{not-true, lt-ltb, le-ltb, ltb-true, ltb-false, eq-eqb, ne-eqb}
 use lib.Dec.{ltb}
-use mathlib.Core.Path.{_≡_, sym, _∙_}
 use Rattle.protocol.specs.declared.version.Version.{Version}
 use Rattle.protocol.specs.Version.{below, none}
+use Rattle.protocol.specs.Reading.{sameVersion}
+use Rattle.protocol.proofs.Cells.{is-false}
 
 module _ (a b : Version) where
   pub below-less : a .sequence .0 < b .sequence .0 → below a b ≡ true
@@ -51,6 +53,12 @@ pub below-irrefl : (a : Version) → Below a a → ⊥
 below-irrefl a (earlier h) = omega arith
 below-irrefl a (beside q h) = omega arith
 
+pub not-below-self : (v : Version) → below v v ≡ false
+not-below-self v = is-false (below v v) (λ e. below-irrefl v (below-true v v e))
+
+pub not-below-back : (a b : Version) → below a b ≡ true → below b a ≡ false
+not-below-back a b e = is-false (below b a) (λ f. below-irrefl a (below-trans a b a (below-true a b e) (below-true b a f)))
+
 -- two versions of which neither is below the other are the same
 pub neither-below : (a b : Version) → below a b ≡ false → below b a ≡ false → a ≡ b
 neither-below a b e f = go (decLt (a .sequence .0) (b .sequence .0)) (decLt (b .sequence .0) (a .sequence .0))
@@ -64,3 +72,15 @@ neither-below a b e f = go (decLt (a .sequence .0) (b .sequence .0)) (decLt (b .
         let y : a .client ≤ b .client = ltb-false (b .client) (a .client) (sym (below-same b a (sym q)) ∙ f) in
         let z : a .client ≡ b .client = omega arith in
         λ i. record { sequence = record { 0 = q i }; client = z i }
+
+-- and versions that are the same are just those that the test finds so
+pub same-eq : (u v : Version) → sameVersion u v ≡ true → u ≡ v
+same-eq u v e = go (below u v) refl (below v u) refl (not-true (below u v || below v u) e)
+  where
+    go : (a : Bool) → below u v ≡ a → (b : Bool) → below v u ≡ b → (a || b) ≡ false → u ≡ v
+    go true p b q h = absurd (true≢false h)
+    go false p true q h = absurd (true≢false h)
+    go false p false q h = neither-below u v p q
+
+pub eq-same : (u v : Version) → u ≡ v → sameVersion u v ≡ true
+eq-same u v e = rw e (simp (not-below-self v))

@@ -2,7 +2,6 @@
 use mathlib.Core.Path.{_≡_}
 use mathlib.Core.Bool.{Bool, true, false}
 use mathlib.Core.List.{List, [], _∷_, map}
-use mathlib.Core.Option.{Option, some, none as nothing}
 use Prim.Native.Nat.{ℕ, _≤_, _<_}
 use Rattle.coding.specs.Bytes.{tabulate}
 use Rattle.protocol.specs.declared.measures.Measures.{Measures}
@@ -12,8 +11,7 @@ use Rattle.protocol.specs.Message.{ToNode, ToClient, writeToNode, writeT
 use Rattle.protocol.specs.Client.{Phase, Client, writeClient}
 use Rattle.protocol.specs.Deposit.{digestsOf, depositFields}
 use Rattle.protocol.specs.Reading.{readingFields}
-use Rattle.protocol.specs.Answer.{ClientAnswer, refused, waits, scan, update, stores, requests, deposited, empty, page, spent, failed, Served, refuses, serves}
-use Rattle.protocol.specs.Run.{Call, Return, scanCall, updateCall, updated, rows, History, State, Event, Result, Answered, carryOut}
+use Rattle.protocol.specs.Run.{Call, Return, scanCall, updateCall, updated, rows, State, Event, Result}
 use Rattle.protocol.specs.Claim.{Sane}
 use Rattle.protocol.proofs.FormatLaws.{Each}
 use Rattle.protocol.proofs.RowLaws.{GoodRow}

@@ -1,29 +1,35 @@
--- How the bytes of a run show a model after an event: what all events have in common.
+-- How the bytes of a run show a model: records and rows read back, and what all events have in common.
 use mathlib.Core.Path.{_≡_, refl, sym, ap, subst, _∙_}
-use mathlib.Core.Bool.{Bool, true, false, cond, _&&_}
-use mathlib.Core.List.{List, [], _∷_, _++_, map, append-nil}
+use mathlib.Core.Bool.{Bool, true, false, cond, not, _&&_, _||_, true≢false}
+use mathlib.Core.List.{List, [], _++_, append-nil}
 use mathlib.Core.Option.{Option, some, none as nothing}
 use Prim.Native.Nat.{ℕ, _+_, _≤_, _<_}
 use native.Mathlib.Omega.{arith}
-use native.Mathlib.Nat.{le-refl}
-use borrow.Author.Tests.{eq-eqb, ne-eqb, le-leb, lt-leb, lt-ltb, le-ltb}
-use lib.Dec.{leb, ltb, eqb}
+use borrow.Author.Tests.{eq-eqb, ne-eqb, le-leb}
+use lib.Dec.{leb, eqb}
 use lib.ListN.{length}
+use Rattle.coding.proofs.BytesLaws.{length-tabulate}
 use Rattle.coding.proofs.PageLaws.{none≢some, some-eq}
 use Rattle.protocol.specs.declared.measures.Measures.{Measures}
-use Rattle.protocol.specs.Format.{Read}
-use Rattle.protocol.specs.Measures.{passes}
+use Rattle.protocol.specs.Measures.{passes, rowSize}
 use Rattle.protocol.specs.Pointer.{Pointer}
+use Rattle.protocol.specs.Directory.{writeRow, readDirectory, writeDirectory}
 use Rattle.protocol.specs.Client.{Client, readClient, writeClient, clientSize}
-use Rattle.protocol.specs.Answer.{ClientAnswer, refused}
+use Rattle.protocol.specs.Answer.{refused}
 use Rattle.protocol.specs.Message.{ToNode}
-use Rattle.protocol.specs.ClientEvents.{ClientEnd, guarded, withPhase, messageTo}
-use Rattle.protocol.specs.Run.{History, Operation, State, Event, Call, Return, Result, Answered, byClient, tick, heard, stays, goes, sends, sentTo, called, upd}
+use Rattle.protocol.specs.ClientEvents.{ClientEnd, withPhase, messageTo}
+use Rattle.protocol.specs.DirectoryEvents.{directorySize}
+use Rattle.protocol.specs.Run.{History, marked, mark, State, Event, Call, Return, Answered, tick, heard, stays, goes, sends, sentTo, called}
 use Rattle.protocol.specs.Claim.{Sane, numberOf}
-use Rattle.protocol.proofs.Cells.{by-eq}
+use Rattle.protocol.proofs.Cells.{by-eq, upd-same}
+use Rattle.protocol.proofs.FormatLaws.{Each}
+use Rattle.protocol.proofs.EachLaws.{each-tabulate}
+use Rattle.protocol.proofs.RowLaws.{FitsRow, format-directory, length-directory, row-fits}
 use Rattle.protocol.proofs.ClientLaws.{GoodPhase, GoodClient, client-back, length-client}
-use Rattle.protocol.proofs.Model.{Rows, Turn, Clients, Nodes, Past, Model, Next, Quiet, Marks, rowsOf, turned, raisedBy, frozenBy, putBy, raisedTo, shownWritten, shownReading}
-use Rattle.protocol.proofs.View.{Shows, Follows, ClientShows, ToNodeShows, ToClientShows, GoodTurn, phaseOf, clientAt, callsOf, returnsOf}
+use Rattle.protocol.proofs.Model.{Rows, Turn, Clients, Nodes, Past, Model, Next, Quiet, rowsOf, turned, raisedBy}
+use Rattle.protocol.proofs.Model.{frozenBy, putBy, raisedTo, shownWritten, shownReading}
+use Rattle.protocol.proofs.View.{Shows, Follows, ClientShows, ToNodeShows, ToClientShows, GoodRows, GoodTurn}
+use Rattle.protocol.proofs.View.{phaseOf, clientAt, rowAt, rowsAt, callsOf, returnsOf}
 
 -- ---- records read back
 
@@ -33,29 +39,37 @@ read-client z p x g = ap (readClient z) (sym (append-nil (writeClient z x))) ∙
 pub long-client : (z : Measures) → passes z ≡ true → (x : Client) → GoodClient z x → leb (clientSize z) (length (writeClient z x)) ≡ true
 long-client z p x g = le-leb (clientSize z) (length (writeClient z x)) (omega (arith, length-client z p x g))
 
--- ---- refusals before an event looks at its bytes
+-- ---- rows read back
 
-pub guarded-open : (z : Measures) (enough within : Bool) (e : ClientEnd) (f : ClientAnswer → ClientEnd) → passes z ≡ true → enough ≡ true → within ≡ true
-    → guarded z enough within e f ≡ e
-guarded-open z enough within e f p q r = simp (p, q, r)
+module _ (z : Measures) (a : Rows) (good : GoodRows z a) where
+  rows-fit : Each (FitsRow z) (rowsAt z a)
+  rows-fit =
+      each-tabulate (FitsRow z) (z .m) (rowAt z a)
+      (λ w l. ((good w l, tt), le-leb (length (writeRow (rowAt z a w))) (rowSize z) (row-fits z (rowAt z a w) (good w l))))
 
-pub guarded-short : (z : Measures) (enough within : Bool) (e : ClientEnd) (f : ClientAnswer → ClientEnd) → passes z ≡ true → enough ≡ false
-    → guarded z enough within e f ≡ f (refused 2)
-guarded-short z enough within e f p q = simp (p, q)
+  pub read-rows : readDirectory z (writeDirectory z (rowsAt z a)) ≡ some (record { value = rowsAt z a; rest = [] })
+  read-rows =
+      ap (readDirectory z) (sym (append-nil (writeDirectory z (rowsAt z a))))
+      ∙ format-directory z .back (rowsAt z a) (rows-fit, length-tabulate (z .m) (rowAt z a)) []
 
-pub guarded-stranger : (z : Measures) (enough within : Bool) (e : ClientEnd) (f : ClientAnswer → ClientEnd) → passes z ≡ true → enough ≡ true → within ≡ false
-    → guarded z enough within e f ≡ f (refused 3)
-guarded-stranger z enough within e f p q r = simp (p, q, r)
+  pub length-rows : length (writeDirectory z (rowsAt z a)) ≡ directorySize z
+  length-rows = length-directory z (rowsAt z a) rows-fit (length-tabulate (z .m) (rowAt z a))
+
+  pub long-rows : leb (directorySize z) (length (writeDirectory z (rowsAt z a))) ≡ true
+  long-rows = le-leb (directorySize z) (length (writeDirectory z (rowsAt z a))) (omega (arith, length-rows))
 
 -- ---- an event that changes nothing
 
-pub sane-number : (e : Event) (a : Answered) (n : ℕ) → numberOf a ≡ some n → (n ≡ 4 → ⊥) → (n ≡ 8 → ⊥) → (n ≡ 9 → ⊥) → Sane e a
-sane-number e a n q four eight nine =
-    record {
-      room = λ h. eight (some-eq (sym q ∙ h));
-      matching = λ h. nine (some-eq (sym q ∙ h));
-      form = λ h. absurd (four (some-eq (sym q ∙ h)));
-    }
+-- numbers that may come: 8 and 9 never do, and 4 is for bytes of a dishonest node
+abbrev pub ordinary : ℕ → Bool
+ordinary n = not (eqb n 4 || (eqb n 8 || eqb n 9))
+
+pub sane-number : (e : Event) (a : Answered) (n : ℕ) → numberOf a ≡ some n → ordinary n ≡ true → Sane e a
+sane-number e a n q p =
+    record { room = λ h. other h refl; matching = λ h. other h refl; form = λ h. absurd (other h refl) }
+  where
+    other : {k : ℕ} → numberOf a ≡ some k → ordinary k ≡ false → ⊥
+    other h f = true≢false (sym p ∙ ap ordinary (some-eq (sym q ∙ h)) ∙ f)
 
 pub sane-quiet : (e : Event) (a : Answered) → numberOf a ≡ nothing → Sane e a
 sane-quiet e a q =
@@ -70,6 +84,14 @@ quiet-tick h = record { time = refl; begun = refl; operations = refl; latest = r
 
 pub quiet-heard : (z : Measures) (m : List ℕ) (h : History) → Quiet h (tick (heard z m h))
 quiet-heard z m h = record { time = refl; begun = refl; operations = refl; latest = refl; put = refl }
+
+-- an answer that marks nothing, whatever is heard with it
+pub quiet-mark : (z : Measures) (c : ℕ) (e : ClientEnd) (h : History) (replied : List (List ℕ))
+    → marked z (h .time) (e .answer) (e .client) (e .out) (h .operation (h .latest c)) ≡ h .operation (h .latest c)
+    → Quiet h
+    (mark z c e (record { time = h .time; begun = h .begun; operation = h .operation; latest = h .latest; puts = h .puts; replied = replied }))
+quiet-mark z c e h replied same =
+    record { time = refl; begun = refl; operations = upd-same (h .operation) (h .latest c) _ same; latest = refl; put = refl }
 
 module _ (z : Measures) (honest : ℕ → Bool) (st : State) (s : Model) (o : Shows z honest st s) where
   pub stays-follows : (e : Event) (a : Answered) (h : History) → Quiet (st .history) h → Sane e a → Follows z honest s e (stays a h st)
@@ -90,6 +112,26 @@ module _ (z : Measures) (honest : ℕ → Bool) (st : State) (s : Model) (o : Sh
             };
         sane = n;
       }
+
+  -- nothing was under way
+  pub silent-follows : (e : Event) → Follows z honest s e (stays Answered.nothing (tick (st .history)) st)
+  silent-follows e = stays-follows e Answered.nothing (tick (st .history)) (quiet-tick (st .history)) (sane-quiet e Answered.nothing refl)
+
+  -- it is refused
+  pub refused-follows : (e : Event) (a : Answered) (n : ℕ) → numberOf a ≡ some n → ordinary n ≡ true → Follows z honest s e (stays a (tick (st .history)) st)
+  refused-follows e a n q p = stays-follows e a (tick (st .history)) (quiet-tick (st .history)) (sane-number e a n q p)
+
+  -- nothing happens to the model's operations either
+  pub quiet-shown : Quiet (s .h) (tick (st .history))
+  quiet-shown = rw (← o .history) (quiet-tick (st .history))
+
+  -- a client's record is there and reads
+  module _ (passed : passes z ≡ true) (c : ℕ) (l : c < z .m) where
+    pub record-long : leb (clientSize z) (length (st .clients c)) ≡ true
+    record-long = let w = o .client c l in rw (w .bytes) (long-client z passed (clientAt z (s .c) c) (w .good))
+
+    pub record-reads : readClient z (st .clients c) ≡ some (record { value = clientAt z (s .c) c; rest = [] })
+    record-reads = let w = o .client c l in ap (readClient z) (w .bytes) ∙ read-client z passed (clientAt z (s .c) c) (w .good)
 
 -- ---- other clients' records
 
@@ -168,7 +210,10 @@ module _ (z : Measures) (honest : ℕ → Bool) (st : State) (s : Model) (o : Sh
   goes-shows own others rows held sent other heard liars =
       record {
         directory = rw rows (o .directory);
-        client = λ j l. by-eq j c (λ f g. rw f (subst (λ (x : ℕ). ClientShows z (e .client) (called (e .answer) (e .room) (st .calls c)) (returns x) k x) (sym g) own)) (λ f g. rw f (others j g l));
+        client = λ j l.
+            by-eq j c
+            (λ f g. rw f (subst (λ (x : ℕ). ClientShows z (e .client) (called (e .answer) (e .room) (st .calls c)) (returns x) k x) (sym g) own))
+            (λ f g. rw f (others j g l));
         table = λ i a lo up. rw held (o .table i a lo up);
         toNode = λ j i l a lo up.
             by-eq j c
