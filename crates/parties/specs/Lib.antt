@@ -1,2 +1,4 @@
 pub mod Answer
 pub mod Record
+pub mod Nodes
+pub mod Pick

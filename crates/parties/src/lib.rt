@@ -1,2 +1,5 @@
 pub mod answer;
+mod bytes;
+mod nodes;
 pub mod phase;
+pub mod pick;
