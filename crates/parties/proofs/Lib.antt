@@ -1,3 +1,12 @@
 pub mod BytesLaws
+pub mod DirectoryEndLaws
+pub mod FormLaws
+pub mod FreshLaws
 pub mod NodesLaws
 pub mod PickLaws
+pub mod RebuildLaws
+pub mod RecordLaws
+pub mod RoomLaws
+pub mod SizeLaws
+pub mod UpdateEndLaws
+pub mod UpdateLaws

@@ -69,7 +69,7 @@ row-shape s (some a ∷ some b ∷ some c ∷ some d ∷ x ∷ l) g = absurd (g 
 abbrev pub GoodRow : Measures → Row → Type 0
 GoodRow s r = GoodRecord s (rowFields r) × (eqb (mapOf (rowFields r)) 0x0F ≡ true)
 
-format-row-fields : (s : Measures) → Format Row (mapped asRow (given (λ l. eqb (mapOf l) 0x0F) (readRecord s))) writeRow (GoodRow s)
+pub format-row-fields : (s : Measures) → Format Row (mapped asRow (given (λ l. eqb (mapOf l) 0x0F) (readRecord s))) writeRow (GoodRow s)
 format-row-fields s =
     format-as (given (λ l. eqb (mapOf l) 0x0F) (readRecord s)) writeRecord (λ l. GoodRecord s l × (eqb (mapOf l) 0x0F ≡ true))
     asRow rowFields writeRow (GoodRow s) there (λ r h. (h, refl, refl))
@@ -213,17 +213,26 @@ merge-there s (f ∷ fs) map (x ∷ u) (none ∷ l) g h = absurd h
 merge-there s (f ∷ fs) map (none ∷ u) (some c ∷ l) g h = (h .0, merge-there s fs (map / 2) u l (g .1) (h .1))
 merge-there s (f ∷ fs) map (some d ∷ u) (some c ∷ l) g h = (g .1 .0, merge-there s fs (map / 2) u l (g .1 .1) (h .1))
 
+merged-there : (s : Measures) (u : List (Option Content)) (r : Row) → GoodRecord s u → GoodRow s r → There s (fields s) (merge u (rowFields r))
+merged-there s u r g h =
+    merge-there s (fields s) (mapOf u) u (rowFields r) (g .1)
+    (h .0 .1 .1 .0, (h .0 .1 .1 .1 .1 .0, (h .0 .1 .1 .1 .1 .1 .1 .0, (h .0 .1 .1 .1 .1 .1 .1 .1 .1 .0, tt))))
+
+-- what stands in an updated row
+pub update-fields : (s : Measures) (u : List (Option Content)) (r : Row) → GoodRecord s u → GoodRow s r → rowFields (updateRow u r) ≡ merge u (rowFields r)
+unfolding updateRow
+update-fields s u r g h =
+    let l = merge u (rowFields r) in
+    let a : There s (fields s) l = merged-there s u r g h in
+    let m : mapOf l ≡ 15 = omega (arith, there-map s (fields s) l a) in row-shape s l (rw m at (there-good s (fields s) l a))
+
 -- a good record leaves a good row good, in its area too
 pub update-good : (s : Measures) (u : List (Option Content)) (r : Row) → GoodRecord s u → GoodRow s r → GoodRow s (updateRow u r)
-unfolding updateRow
 update-good s u r g h =
-    let o = rowFields r in
-    let t : There s (fields s) o = (h .0 .1 .1 .0, (h .0 .1 .1 .1 .1 .0, (h .0 .1 .1 .1 .1 .1 .1 .0, (h .0 .1 .1 .1 .1 .1 .1 .1 .1 .0, tt)))) in
-    let l = merge u o in
-    let a : There s (fields s) l = merge-there s (fields s) (mapOf u) u o (g .1) t in
+    let l = merge u (rowFields r) in
+    let a : There s (fields s) l = merged-there s u r g h in
     let m : mapOf l ≡ 15 = omega (arith, there-map s (fields s) l a) in
-    let e : rowFields (asRow l) ≡ l = row-shape s l (rw m at (there-good s (fields s) l a)) in
-    subst⁻¹ (λ (x : List (Option Content)). GoodRecord s x × (eqb (mapOf x) 0x0F ≡ true)) e
+    subst⁻¹ (λ (x : List (Option Content)). GoodRecord s x × (eqb (mapOf x) 0x0F ≡ true)) (update-fields s u r g h)
     (((omega arith, lt-ltb (mapOf l) (2 ^ length (fields s)) (omega arith)), there-good s (fields s) l a), eq-eqb (mapOf l) 15 m)
 
 -- map 0 changes nothing

@@ -1,0 +1,213 @@
+// The directory: a table of rows, one for each client, that is updated field by field and scanned whole.
+use crate::answer::Refusal;
+use crate::answer::Service;
+use crate::bytes::copy;
+use crate::form::Ends;
+use crate::form::Parts;
+use crate::form::directory;
+use crate::form::field_ends;
+use crate::form::row_size;
+use crate::form::whole_record;
+use protocol::measures::Measures;
+ghost use mathlib.Core.Path.{_≡_};
+ghost use mathlib.Core.Bool.{true};
+ghost use mathlib.Core.List.{_++_};
+ghost use mathlib.Core.Option.{some};
+ghost use Prim.Native.Nat.{_+_, _*_, _≤_, _<_};
+ghost use lib.ListN.{length, take, drop, getD, replicate};
+ghost use lib.Seq.{paste};
+ghost use Rattle.protocol.specs.Format.{writeMany};
+ghost use Rattle.protocol.specs.Measures.{passes, rowSize};
+ghost use Rattle.protocol.specs.Directory.{freshRow, writeRow, readRow};
+ghost use Rattle.protocol.specs.DirectoryEvents.{directoryFresh, directoryUpdate, directoryScan};
+ghost use Rattle.parties.specs.Answer.{served};
+ghost use Rattle.parties.specs.Form.{rest, Recorded};
+ghost use Rattle.parties.specs.Room.{Built, Ordered, Renewed, part, renewed};
+
+// A fresh row: the map of all fields, and pointers that are none; the rest is zero. The longest row, of 8 clients and 16 digests a
+// pointer, has 4708 bytes.
+fn fresh_row(s: Measures, room: &mut [u8])
+    requires { ⌜ (passes s ≡ true) × (now room ≡ replicate 4708 0) ⌝ }
+    ensures { λ _. ⌜ Built (writeRow (freshRow s)) (now (room .exit)) ⌝ }
+{
+    room[0] = 15;
+    let pointers = s.m + 1;
+    for i in 0..pointers {
+        room[7 * i + 5] = 255;
+    }
+}
+
+// The first bytes of a room, so many times one after the other.
+fn repeat(rows: usize, size: usize, row: &[u8], table: &mut [u8])
+    requires { ⌜ (size ≤ length (now row)) × (rows * size ≤ length (now table)) ⌝ }
+    ensures { λ _. ⌜ now (table .exit) ≡ writeMany (λ d. d) (replicate rows (take size (now (row .entry)))) ++ drop (rows * size) (now (table .entry)) ⌝ }
+{
+    let mut at = 0;
+    let mut i = 0;
+    while i < rows {
+        copy(table, at, row, 0, size);
+        at += size;
+        i += 1;
+    }
+}
+
+// All pointers are none and all indices 0.
+pub fn fresh_directory(s: Measures, table: &mut [u8]) -> Service
+    ensures { λ r. ⌜ (served r ≡ directoryFresh s (now (table .entry)) .answer)
+        × (now (table .exit) ≡ directoryFresh s (now (table .entry)) .table) ⌝ }
+{
+    if !s.pass() {
+        return Service::Refused(Refusal::Measures);
+    }
+    let size = row_size(s);
+    if table.len() < s.m * size {
+        return Service::Refused(Refusal::Short);
+    }
+    let mut room = [0u8; 4708];
+    fresh_row(s, &mut room);
+    repeat(s.m, size, &room, table);
+    Service::Served(0)
+}
+
+// A field's bytes after those that stand: from the record, if its bit stands, otherwise from the old row.
+fn put(
+    room: &mut [u8],
+    at: usize,
+    stands: bool,
+    fields: &[u8],
+    a: usize,
+    b: usize,
+    table: &[u8],
+    c: usize,
+    d: usize,
+) -> usize
+    requires { ⌜ (a ≤ b) × (b ≤ length (now fields)) × (c ≤ d) × (d ≤ length (now table))
+        × (at + length (part stands a b (now fields) c d (now table)) ≤ length (now room)) ⌝ }
+    ensures { λ r. ⌜ (r ≡ at + length (part stands a b (now (fields .entry)) c d (now (table .entry))))
+        × (now (room .exit) ≡ paste (now (room .entry)) at (part stands a b (now (fields .entry)) c d (now (table .entry)))
+        (length (part stands a b (now (fields .entry)) c d (now (table .entry))))) ⌝ }
+{
+    if stands {
+        copy(room, at, fields, a, b - a);
+        return at + (b - a);
+    }
+    copy(room, at, table, c, d - c);
+    at + (d - c)
+}
+
+// The row at a place of the table, put together anew.
+fn rebuild(fields: &[u8], e: Ends, table: &[u8], at: usize, f: Ends, room: &mut [u8])
+    requires { ⌜ (0 < length (now fields)) × (now room ≡ replicate 4708 0) × Ordered 1 e (length (now fields)) × Ordered (at + 1) f (length (now table))
+        × (length (renewed (getD (now fields) 0 0) (now fields) e (now table) at f) ≤ 4708) ⌝ }
+    ensures { λ _. ⌜ Built (renewed (getD (now (fields .entry)) 0 0) (now (fields .entry)) e (now (table .entry)) at f) (now (room .exit)) ⌝ }
+{
+    let map = fields[0];
+    room[0] = 15;
+    let p = put(
+        room,
+        1,
+        map % 2 == 1,
+        fields,
+        1,
+        e.written,
+        table,
+        at + 1,
+        f.written,
+    );
+    let q = put(
+        room,
+        p,
+        map / 2 % 2 == 1,
+        fields,
+        e.written,
+        e.frozen,
+        table,
+        f.written,
+        f.frozen,
+    );
+    let r = put(
+        room,
+        q,
+        map / 2 / 2 % 2 == 1,
+        fields,
+        e.frozen,
+        e.indices,
+        table,
+        f.frozen,
+        f.indices,
+    );
+    put(
+        room,
+        r,
+        map / 2 / 2 / 2 % 2 == 1,
+        fields,
+        e.indices,
+        e.index,
+        table,
+        f.indices,
+        f.index,
+    );
+}
+
+// The fields of a sound record over those of a sound row. Pointers may grow or shrink, so the row is put together beside the table.
+fn renew(s: Measures, size: usize, at: usize, e: Ends, fields: &[u8], table: &mut [u8])
+    requires { ⌜ (passes s ≡ true) × (size ≡ rowSize s) × (at + rowSize s ≤ length (now table)) × Recorded s (now fields) (Parts.Sound e)
+        × (rest (readRow s (drop at (now table))) ≡ some (drop (at + rowSize s) (now table))) ⌝ }
+    ensures { λ _. ⌜ Renewed s at (now (fields .entry)) (now (table .entry)) (now (table .exit)) ⌝ }
+{
+    let Parts::Sound(f) = field_ends(s, 15, table, at + 1) else {
+        // Not reached: the row is sound.
+        return;
+    };
+    let mut room = [0u8; 4708];
+    rebuild(fields, e, table, at, f, &mut room);
+    copy(table, at, &room, 0, size);
+}
+
+// The fields whose bit stands in the record are replaced in the client's row.
+pub fn update(s: Measures, own: usize, table: &mut [u8], fields: &[u8]) -> Service
+    ensures { λ r. ⌜ (served r ≡ directoryUpdate s own (now (table .entry)) (now (fields .entry)) .answer)
+        × (now (table .exit) ≡ directoryUpdate s own (now (table .entry)) (now (fields .entry)) .table) ⌝ }
+{
+    if !s.pass() {
+        return Service::Refused(Refusal::Measures);
+    }
+    let size = row_size(s);
+    if table.len() < s.m * size {
+        return Service::Refused(Refusal::Short);
+    }
+    if s.m <= own {
+        return Service::Refused(Refusal::Number);
+    }
+    if !directory(s, size, table) {
+        return Service::Refused(Refusal::Form);
+    }
+    let Parts::Sound(e) = whole_record(s, fields) else {
+        return Service::Refused(Refusal::Form);
+    };
+    renew(s, size, own * size, e, fields, table);
+    Service::Served(0)
+}
+
+// The rows, in the answer's room.
+pub fn scan(s: Measures, table: &[u8], room: &mut [u8]) -> Service
+    ensures { λ r. ⌜ (served r ≡ directoryScan s (now (table .entry)) (now (room .entry)) .answer)
+        × (now (room .exit) ≡ directoryScan s (now (table .entry)) (now (room .entry)) .room) ⌝ }
+{
+    if !s.pass() {
+        return Service::Refused(Refusal::Measures);
+    }
+    let size = row_size(s);
+    let all = s.m * size;
+    if table.len() < all {
+        return Service::Refused(Refusal::Short);
+    }
+    if room.len() < all {
+        return Service::Refused(Refusal::Short);
+    }
+    if !directory(s, size, table) {
+        return Service::Refused(Refusal::Form);
+    }
+    copy(room, 0, table, 0, all);
+    Service::Served(all)
+}
