@@ -10,3 +10,16 @@ pub mod RoomLaws
 pub mod SizeLaws
 pub mod UpdateEndLaws
 pub mod UpdateLaws
+pub mod PositionLaws
+pub mod PlaceLaws
+pub mod TableLaws
+pub mod SeekLaws
+pub mod SpliceLaws
+pub mod ToNodeLaws
+pub mod ShownLaws
+pub mod KeepLaws
+pub mod NodeFreshLaws
+pub mod NodeSizeLaws
+pub mod NodeEndLaws
+pub mod DropLaws
+pub mod FreeingLaws

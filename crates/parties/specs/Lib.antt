@@ -4,3 +4,6 @@ pub mod Nodes
 pub mod Pick
 pub mod Form
 pub mod Room
+pub mod Places
+pub mod ToNode
+pub mod NodeCode
