@@ -41,7 +41,7 @@ use Rattle.protocol.proofs.ViewLaws.{sane-quiet, ordinary, silent-follo
 -- ---- tables
 
 -- at most 8 clients: the places of a table are counted in 2 bytes
-places-few : (z : Measures) → passes z ≡ true → places z < 256 ^ 2
+pub places-few : (z : Measures) → passes z ≡ true → places z < 256 ^ 2
 places-few z p = let c = measures z p .clients .1 in omega (arith, mul-le-mul c c)
 
 pub read-table : (z : Measures) (l : List Held) → GoodTable z l → readTable z (writeTable z l) ≡ some (record { value = l; rest = [] })
@@ -51,7 +51,7 @@ pub long-table : (z : Measures) (l : List Held) → GoodTable z l → leb (table
 long-table z l g = le-leb (tableSize z) (length (writeTable z l)) (omega (arith, length-table z l g))
 
 -- a held version is overwritten in its place
-keep-held : (h : Held) (l : List Held) → isHeld (handBack (h .version) l) ≡ true → length (keep h l) ≡ length l
+pub keep-held : (h : Held) (l : List Held) → isHeld (handBack (h .version) l) ≡ true → length (keep h l) ≡ length l
 unfolding keep handBack
 keep-held h [] e = absurd (false≢true e)
 keep-held h (x ∷ l) e = go (keep-held h l) (below (h .version) (x .version)) (below (x .version) (h .version)) e
@@ -64,7 +64,7 @@ keep-held h (x ∷ l) e = go (keep-held h l) (below (h .version) (x .version)) (
     go ih false false e = refl
 
 -- a message's piece is a piece to hold
-stored-good : (z : Measures) → passes z ≡ true → (v : Version) (x : List ℕ) → GoodNamedVersion z v → GoodStored z x
+pub stored-good : (z : Measures) → passes z ≡ true → (v : Version) (x : List ℕ) → GoodNamedVersion z v → GoodStored z x
     → GoodHeld z (record { version = v; piece = x })
 stored-good z p v x g h =
     let a = and-true (leb 1 (v .sequence .0)) (ltb (v .client) (z .m)) (g .1) in

@@ -54,6 +54,7 @@ pub mod DrawShows
 pub mod ScanShows
 pub mod HandShows
 pub mod BringShows
+pub mod EventShows
 pub mod DeliverShows
 pub mod ClaimHolds
 pub mod Demand

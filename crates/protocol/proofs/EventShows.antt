@@ -1,0 +1,90 @@
+-- What the directory's and a node's table show after each event; a table that is well formed stays so.
+use mathlib.Core.Path.{_≡_, refl, sym, ap, _∙_}
+use mathlib.Core.Bool.{Bool, true, false, cond, _||_}
+use mathlib.Core.List.{List, [], _∷_, _++_}
+use mathlib.Core.Option.{Option, some, none}
+use Prim.Native.Nat.{ℕ, _+_, _*_, _≤_, _<_}
+use native.Mathlib.Omega.{arith}
+use borrow.Author.Tests.{le-leb, lt-ltb, leb-true, ltb-true}
+use lib.Dec.{leb, ltb}
+use lib.ListN.{length, getD, set, length-append, length-set}
+use Rattle.coding.specs.Bytes.{Bytes}
+use Rattle.coding.proofs.PageLaws.{none≢some, some-eq}
+use Rattle.protocol.specs.declared.measures.Measures.{Measures}
+use Rattle.protocol.specs.declared.version.Version.{Version}
+use Rattle.protocol.specs.Format.{Read, whole}
+use Rattle.protocol.specs.Measures.{passes, rowSize, places}
+use Rattle.protocol.specs.Directory.{Content, Row, noRow, readRecord, readDirectory, writeDirectory, writeRow, updateRow}
+use Rattle.protocol.specs.DirectoryEvents.{directorySize, onTable, directoryUpdate}
+use Rattle.protocol.specs.NodeTable.{Held, readTable, writeTable}
+use Rattle.protocol.specs.Node.{keep, handBack, release}
+use Rattle.protocol.specs.Message.{ToNode, readToNode, writeToClient}
+use Rattle.protocol.specs.NodeEvents.{NodeEnd, isHeld, heldAfter, answerTo, kept, onMessage, nodeMessage, tableSize, answerSize}
+use Rattle.protocol.proofs.FormatLaws.{Each}
+use Rattle.protocol.proofs.EachLaws.{each-at, each-set}
+use Rattle.protocol.proofs.DirectoryLaws.{GoodRecord}
+use Rattle.protocol.proofs.RowLaws.{FitsRow, format-directory, length-directory, row-fits, update-good}
+use Rattle.protocol.proofs.NodeTableLaws.{GoodTable, format-table, length-table}
+use Rattle.protocol.proofs.NodeLaws.{keep-length, keep-good, release-good}
+use Rattle.protocol.proofs.MessageLaws.{GoodToNode, message-to-node}
+use Rattle.protocol.proofs.BringShows.{places-few, keep-held, stored-good}
+
+module _ (s : Measures) (ok : passes s ≡ true) where
+  -- a new version fits where it is not refused
+  stored-fits : (h : Held) (l : List Held) → GoodTable s l → (isHeld (handBack (h .version) l) || ltb (length l) (places s)) ≡ true
+      → length (keep h l) ≤ places s
+  stored-fits h l g e = go (isHeld (handBack (h .version) l)) refl e
+    where
+      go : (b : Bool) → isHeld (handBack (h .version) l) ≡ b → (b || ltb (length l) (places s)) ≡ true → length (keep h l) ≤ places s
+      go true q f = rw (keep-held h l q) (leb-true (length l) (places s) (g .0 .1))
+      go false q f = omega (arith, keep-length h l, ltb-true (length l) (places s) f)
+
+  held-good : (l : List Held) → GoodTable s l → (m : ToNode) → GoodToNode s m → (k : List Held) → heldAfter s l m ≡ some k → GoodTable s k
+  held-good l g (ToNode.store v p) gm k e = go (isHeld (handBack v l) || ltb (length l) (places s)) refl e
+    where
+      go : (b : Bool) → (isHeld (handBack v l) || ltb (length l) (places s)) ≡ b → cond b (some (keep (record { version = v; piece = p }) l)) none ≡ some k
+          → GoodTable s k
+      go false q f = absurd (none≢some f)
+      go true q f =
+          rw (← some-eq f)
+          (keep-good s (record { version = v; piece = p }) l (places-few s ok) (stored-good s ok v p (gm .0) (gm .1)) g
+          (stored-fits (record { version = v; piece = p }) l g q))
+  held-good l g (ToNode.request v) gm k e = rw (← some-eq e) g
+  held-good l g (ToNode.free vs) gm k e = rw (← some-eq e) (release-good s vs l (places-few s ok) g)
+
+  -- after a message that a node takes, its table shows the pieces after it: those of `keep` and `release`, in order
+  pub node-shows : (i : ℕ) → 1 ≤ i → i ≤ s .n → (l : List Held) → GoodTable s l → (rest message room : List ℕ) → Bytes message → answerSize s ≤ length room
+      → (m : ToNode) → readToNode s message ≡ some m → (k : List Held) → heldAfter s l m ≡ some k
+      → (readTable s (nodeMessage s i (writeTable s l ++ rest) message room .table) ≡ some (record { value = k; rest = rest })) × GoodTable s k
+  unfolding nodeMessage
+  node-shows i lo up l g rest message room b r m e k f =
+      let t = writeTable s l ++ rest in
+      let good = held-good l g m (message-to-node s .only message m b e .0) k f in
+      let long : tableSize s ≤ length t = omega (arith, length-append (writeTable s l) rest, length-table s l g) in
+      let end : nodeMessage s i t message room .table ≡ writeTable s k ++ rest =
+      simp (ok, le-leb (tableSize s) (length t) long, le-leb (answerSize s) (length room) r, le-leb 1 i lo, le-leb i (s .n) up)
+      (ap (λ (x : Option (Read (List Held))). onMessage s t room x (readToNode s message) .table) (format-table s .back l g rest)
+      ∙ ap (λ (x : Option ToNode). onMessage s t room (some (record { value = l; rest = rest })) x .table) e
+      ∙ ap (λ (x : Option (List Held)). kept s t room rest x (writeToClient (answerTo l m)) .table) f)
+      in (ap (readTable s) end ∙ format-table s .back k good rest, good)
+
+  -- after an update that is acknowledged, the table shows the client's row with the fields whose bit stands replaced, and every other row as it was
+  pub update-shows : (own : ℕ) → own < s .m → (rows : List Row) → Each (FitsRow s) rows → length rows ≡ s .m → (rest fields : List ℕ)
+      → (u : List (Option Content)) → GoodRecord s u → whole (readRecord s) fields ≡ some u
+      → (readDirectory s (directoryUpdate s own (writeDirectory s rows ++ rest) fields .table)
+      ≡ some (record { value = set rows own (updateRow u (getD rows own noRow)); rest = rest }))
+      × Each (FitsRow s) (set rows own (updateRow u (getD rows own noRow)))
+  unfolding directoryUpdate
+  update-shows own l rows g n rest fields u gu e =
+      let t = writeDirectory s rows ++ rest in
+      let r = updateRow u (getD rows own noRow) in
+      let old = each-at (FitsRow s) noRow rows g own (omega (arith, n)) in
+      let new = update-good s u (getD rows own noRow) gu (old .0 .0) in
+      let fits : FitsRow s r = ((new, tt), le-leb (length (writeRow r)) (rowSize s) (row-fits s r new)) in
+      let good = each-set (FitsRow s) rows own r fits g in
+      let long : directorySize s ≤ length t = omega (arith, length-append (writeDirectory s rows) rest, length-directory s rows g n) in
+      let end : directoryUpdate s own t fields .table ≡ writeDirectory s (set rows own r) ++ rest =
+      simp (ok, le-leb (directorySize s) (length t) long, lt-ltb own (s .m) l)
+      (ap (λ (x : Option (Read (List Row))). onTable s own t x (whole (readRecord s) fields) .table) (format-directory s .back rows (g, n) rest)
+      ∙ ap (λ (x : Option (List (Option Content))). onTable s own t (some (record { value = rows; rest = rest })) x .table) e)
+      in (ap (readDirectory s) end ∙ format-directory s .back (set rows own r) (good, length-set rows own r ∙ n) rest, good)
