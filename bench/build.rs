@@ -1,18 +1,23 @@
-// Links the proved archive. CODING_LIB names another folder with an archive of that name, to measure a trial.
+// Links the proved archives. CODING_LIB and PARTIES_LIB name another folder with an archive of that name, to measure a trial.
 use std::env;
 use std::path::PathBuf;
 
-fn main() {
-    println!("cargo:rerun-if-env-changed=CODING_LIB");
+fn link(variable: &str, archive: &str) {
+    println!("cargo:rerun-if-env-changed={variable}");
     let here = PathBuf::from(env::var("CARGO_MANIFEST_DIR").unwrap());
-    let folder = match env::var("CODING_LIB") {
+    let folder = match env::var(variable) {
         Ok(given) => PathBuf::from(given),
         Err(_) => here.join("../target/staticlib"),
     };
     println!(
         "cargo:rerun-if-changed={}",
-        folder.join("libcoding_export.a").display()
+        folder.join(format!("lib{archive}.a")).display()
     );
     println!("cargo:rustc-link-search=native={}", folder.display());
-    println!("cargo:rustc-link-lib=static=coding_export");
+    println!("cargo:rustc-link-lib=static={archive}");
+}
+
+fn main() {
+    link("CODING_LIB", "coding_export");
+    link("PARTIES_LIB", "parties_export");
 }

@@ -1,8 +1,11 @@
-//! The proved archive beside plain Rust: first that both give the same, then how long each takes.
+//! The proved archives beside plain Rust: first that both give the same, then how long each takes.
 
+mod calls;
 mod clock;
+mod parties;
 mod plain;
 mod proved;
+mod tables;
 
 use clock::Task;
 use std::collections::BTreeSet;
@@ -282,6 +285,14 @@ fn growth(numbers: &mut Numbers) -> Vec<Task> {
     tasks
 }
 
+fn head(plain: &str) {
+    println!();
+    println!(
+        "{:<28} {:>10} {:>10} {:>8} {:>14}",
+        "", "proved us", plain, "ratio", "proved ns/byte"
+    );
+}
+
 fn print(tasks: &[Task]) {
     for t in tasks {
         println!(
@@ -298,18 +309,19 @@ fn print(tasks: &[Task]) {
 fn main() {
     let mut numbers = Numbers(88172645463325252);
     small(&mut numbers);
+    calls::calls(&mut numbers, 100_000);
     let mut tasks = whole(&mut numbers);
     let grow = tasks.len();
     tasks.append(&mut growth(&mut numbers));
+    let large = tasks.len();
+    tasks.append(&mut tables::tasks(&mut numbers));
     clock::measure(&mut tasks);
-    println!();
-    println!(
-        "{:<28} {:>10} {:>10} {:>8} {:>14}",
-        "", "proved us", "Rust us", "ratio", "proved ns/byte"
-    );
+    head("Rust us");
     print(&tasks[..grow]);
     println!("growth");
-    print(&tasks[grow..]);
+    print(&tasks[grow..large]);
+    head("libc us");
+    print(&tasks[large..]);
     println!();
-    println!("Rooms and outputs are reused from call to call and never cleared. Best runs in turn; ratio is Rust's time over the proved.");
+    println!("Rooms and outputs are reused from call to call and never cleared. Best runs in turn; ratio is Rust's or libc's time over the proved.");
 }

@@ -1,0 +1,474 @@
+//! Calls without order to the directory and a node, valid and damaged: the archive and plain Rust must answer and leave the same.
+
+use crate::parties::{self, put_version, Measures, Pointer, Record, Version};
+use crate::proved::{self, Answer};
+use crate::Numbers;
+use std::collections::{BTreeMap, BTreeSet};
+
+/// How often each call was answered in each way.
+#[derive(Default)]
+struct Tally(BTreeMap<&'static str, BTreeMap<u32, usize>>);
+
+impl Tally {
+    // 0 is no refusal's number, and stands for served.
+    fn note(&mut self, name: &'static str, answer: Answer) {
+        let number = answer.err().unwrap_or(0);
+        *self.0.entry(name).or_default().entry(number).or_default() += 1;
+    }
+
+    fn met(&self, name: &str) -> BTreeSet<u32> {
+        self.0
+            .get(name)
+            .into_iter()
+            .flat_map(|counts| counts.keys().copied())
+            .collect()
+    }
+
+    fn print(&self) {
+        for (name, counts) in &self.0 {
+            let served = counts.get(&0).copied().unwrap_or(0);
+            let refused: Vec<String> = counts
+                .iter()
+                .filter(|(number, _)| **number > 0)
+                .map(|(number, count)| format!("{number}: {count}"))
+                .collect();
+            let line = format!("{name:<28} {served:>10}   {}", refused.join(", "));
+            println!("{}", line.trim_end());
+        }
+    }
+}
+
+pub fn same_directory_fresh(s: Measures, table: &[u8]) -> (Vec<u8>, Answer) {
+    let (mut ours, mut theirs) = (table.to_vec(), table.to_vec());
+    let answer = proved::directory_fresh(s, &mut ours);
+    let other = parties::directory_fresh(s, &mut theirs);
+    assert_eq!(answer, other, "fresh directory {s:?}");
+    assert!(ours == theirs, "fresh directory {s:?}: the tables differ");
+    (ours, answer)
+}
+
+pub fn same_update(s: Measures, own: usize, table: &[u8], fields: &[u8]) -> (Vec<u8>, Answer) {
+    let (mut ours, mut theirs) = (table.to_vec(), table.to_vec());
+    let answer = proved::directory_update(s, own, &mut ours, fields);
+    let other = parties::directory_update(s, own, &mut theirs, fields);
+    assert_eq!(answer, other, "update {s:?} {own} {fields:?}");
+    assert!(
+        ours == theirs,
+        "update {s:?} {own} {fields:?}: the tables differ"
+    );
+    (ours, answer)
+}
+
+pub fn same_scan(s: Measures, table: &[u8], room: &[u8]) -> (Vec<u8>, Answer) {
+    let (mut ours, mut theirs) = (room.to_vec(), room.to_vec());
+    let answer = proved::directory_scan(s, table, &mut ours);
+    let other = parties::directory_scan(s, table, &mut theirs);
+    assert_eq!(answer, other, "scan {s:?}");
+    assert!(ours == theirs, "scan {s:?}: the rooms differ");
+    (ours, answer)
+}
+
+pub fn same_node_fresh(s: Measures, table: &[u8]) -> (Vec<u8>, Answer) {
+    let (mut ours, mut theirs) = (table.to_vec(), table.to_vec());
+    let answer = proved::node_fresh(s, &mut ours);
+    let other = parties::node_fresh(s, &mut theirs);
+    assert_eq!(answer, other, "fresh table {s:?}");
+    assert!(ours == theirs, "fresh table {s:?}: the tables differ");
+    (ours, answer)
+}
+
+pub fn same_message(
+    s: Measures,
+    i: usize,
+    table: &[u8],
+    message: &[u8],
+    room: &[u8],
+) -> (Vec<u8>, Vec<u8>, Answer) {
+    let (mut ours, mut theirs) = (table.to_vec(), table.to_vec());
+    let (mut our_room, mut their_room) = (room.to_vec(), room.to_vec());
+    let answer = proved::node_message(s, i, &mut ours, message, &mut our_room);
+    let other = parties::node_message(s, i, &mut theirs, message, &mut their_room);
+    assert_eq!(answer, other, "message {s:?} {i} {message:?}");
+    assert!(
+        ours == theirs && our_room == their_room,
+        "message {s:?} {i} {message:?}: the bytes differ"
+    );
+    (ours, our_room, answer)
+}
+
+/// Measures that pass; most tables are small, a few as large as can be.
+fn measures(numbers: &mut Numbers) -> Measures {
+    let n = 1 + numbers.below(16);
+    let t = numbers.below((n - 1) / 2 + 1);
+    let k = 1 + numbers.below(n - 2 * t);
+    let most = [2, 3, 8][numbers.below(3)];
+    let m = 1 + numbers.below(most);
+    let f = match numbers.below(40) {
+        0 => 4096,
+        1..=6 => 4usize.div_ceil(k),
+        7..=9 => 200 + numbers.below(900),
+        _ => 1 + numbers.below(40),
+    };
+    let f = f.max(4usize.div_ceil(k));
+    Measures { m, n, k, t, f }
+}
+
+/// One of the five is another number.
+fn other_measures(numbers: &mut Numbers, s: Measures) -> Measures {
+    let other = match numbers.below(4) {
+        0 => numbers.below(20),
+        1 => 4090 + numbers.below(10),
+        2 => usize::MAX - numbers.below(2),
+        _ => 1 << (60 + numbers.below(4)),
+    };
+    let mut s = s;
+    *[&mut s.m, &mut s.n, &mut s.k, &mut s.t, &mut s.f][numbers.below(5)] = other;
+    s
+}
+
+/// Now and then.
+fn rare(numbers: &mut Numbers) -> bool {
+    numbers.below(14) == 0
+}
+
+fn number(numbers: &mut Numbers) -> u32 {
+    [numbers.below(4) as u32, numbers.next() as u32, u32::MAX][numbers.below(3)]
+}
+
+/// Few enough versions that most are met again, at steps that reach every byte of a sequence.
+fn version(numbers: &mut Numbers, s: Measures, step: u32) -> Version {
+    (
+        1 + step * numbers.below(3 * s.m + 2) as u32,
+        numbers.below(s.m) as u8,
+    )
+}
+
+fn pointer(numbers: &mut Numbers, s: Measures, step: u32) -> Pointer {
+    if numbers.below(4) == 0 {
+        return Pointer::none();
+    }
+    // A damaged one has a bit more or less, or one for no node.
+    let count = s.t + s.k + rare(numbers) as usize - rare(numbers) as usize;
+    let top = s.n + (rare(numbers) && s.n < 16) as usize;
+    let mut nodes = 0u16;
+    while (nodes.count_ones() as usize) < count.min(top) {
+        nodes |= 1 << numbers.below(top);
+    }
+    Pointer {
+        version: version(numbers, s, step),
+        nodes,
+        digests: numbers.bytes(32 * nodes.count_ones() as usize),
+    }
+}
+
+fn record(numbers: &mut Numbers, s: Measures, step: u32) -> Vec<u8> {
+    let map = numbers.below(16);
+    Record {
+        written: (map & 1 != 0).then(|| pointer(numbers, s, step)),
+        frozen: (map & 2 != 0).then(|| (0..s.m).map(|_| pointer(numbers, s, step)).collect()),
+        frozen_indices: (map & 4 != 0).then(|| (0..s.m).map(|_| number(numbers)).collect()),
+        reading: (map & 8 != 0).then(|| number(numbers)),
+    }
+    .write()
+}
+
+fn message(numbers: &mut Numbers, s: Measures, step: u32) -> Vec<u8> {
+    let kind = numbers.below(20);
+    let mut out = match kind {
+        0..=11 => vec![1],
+        12..=15 => vec![2],
+        16..=18 => vec![3],
+        _ => vec![numbers.below(9) as u8],
+    };
+    match out[0] {
+        1 => {
+            put_version(&mut out, version(numbers, s, step));
+            let len = match numbers.below(12) {
+                0 => 0,
+                1 => s.f + 1,
+                2..=5 => s.f,
+                _ => 1 + numbers.below(s.f),
+            };
+            out.extend(numbers.bytes(len));
+        }
+        3 => {
+            let count = numbers.below(7);
+            let list: BTreeSet<Version> = (0..count).map(|_| version(numbers, s, step)).collect();
+            for v in list {
+                put_version(&mut out, v);
+            }
+        }
+        _ => put_version(&mut out, version(numbers, s, step)),
+    }
+    out
+}
+
+fn spoil_byte(numbers: &mut Numbers, bytes: &mut [u8], at: usize) {
+    if let Some(b) = bytes.get_mut(at) {
+        *b = match numbers.below(3) {
+            0 => *b ^ 1 << numbers.below(8),
+            1 => numbers.below(3) as u8,
+            _ => numbers.next() as u8,
+        };
+    }
+}
+
+/// Other bytes: one changed, some fewer, one more, the last five again.
+fn spoil(numbers: &mut Numbers, bytes: &mut Vec<u8>) {
+    let len = bytes.len();
+    match numbers.below(5) {
+        0 => bytes.truncate(len - numbers.below(len + 1).min(1 + numbers.below(6))),
+        1 => bytes.push(numbers.below(2) as u8),
+        2 => bytes.extend_from_within(len.saturating_sub(5)..),
+        3 => {
+            let at = numbers.below(len.max(1));
+            spoil_byte(numbers, bytes, at);
+        }
+        _ => {
+            let at = numbers.below(12);
+            spoil_byte(numbers, bytes, at);
+        }
+    }
+}
+
+fn spoil_directory(numbers: &mut Numbers, s: Measures, table: &mut [u8]) {
+    let row = numbers.below(s.m) * s.row();
+    let at = match numbers.below(4) {
+        0 => row,
+        1 => row + s.row() - 1 - numbers.below(3),
+        2 => row + numbers.below(s.row().min(50)),
+        _ => row + numbers.below(s.row()),
+    };
+    spoil_byte(numbers, table, at);
+}
+
+fn spoil_table(numbers: &mut Numbers, s: Measures, table: &mut [u8]) {
+    let count = u16::from_be_bytes([table[0], table[1]]) as usize;
+    let place = 2 + numbers.below((count + 1).min(s.places())) * s.place();
+    let at = match numbers.below(8) {
+        0 => 0,
+        1 => 1,
+        // No piece, or one too long.
+        7 => {
+            let len = [0, s.f as u16 + 1][numbers.below(2)];
+            table[place + 7..place + s.place()].fill(0);
+            table[place + 5..place + 7].copy_from_slice(&len.to_be_bytes());
+            return;
+        }
+        2 => place + numbers.below(7),
+        3 => place + s.place() - 1,
+        4 => place + numbers.below(s.place()),
+        5 => numbers.below(s.table()),
+        // Two places change theirs, or one stands twice.
+        _ => {
+            let other = 2 + numbers.below(s.places()) * s.place();
+            let (a, b) = (
+                table[place..place + s.place()].to_vec(),
+                table[other..other + s.place()].to_vec(),
+            );
+            table[other..other + s.place()].copy_from_slice(&a);
+            if numbers.below(2) == 0 {
+                table[place..place + s.place()].copy_from_slice(&b);
+            }
+            return;
+        }
+    };
+    spoil_byte(numbers, table, at);
+}
+
+/// A slice of the length needed, or a little more, or a little less.
+fn cut(numbers: &mut Numbers, bytes: &[u8], need: usize) -> Vec<u8> {
+    let mut bytes = bytes.to_vec();
+    if rare(numbers) {
+        bytes.truncate(need - 1 - numbers.below(3).min(need - 1));
+    }
+    bytes
+}
+
+/// The number of a client or node, now and then out of bounds.
+fn who(numbers: &mut Numbers, from: usize, count: usize) -> usize {
+    if rare(numbers) {
+        [0, count, count + 1, usize::MAX][numbers.below(4)]
+    } else {
+        from + numbers.below(count)
+    }
+}
+
+/// One page's tables under one set of measures.
+struct Session {
+    s: Measures,
+    step: u32,
+    directory: Vec<u8>,
+    table: Vec<u8>,
+}
+
+impl Session {
+    fn new(numbers: &mut Numbers, tally: &mut Tally) -> Self {
+        let s = measures(numbers);
+        let step = [1, 255, 65_537, 16_777_259][numbers.below(4)];
+        let spare = numbers.below(4);
+        let (directory, answer) = same_directory_fresh(s, &numbers.bytes(s.directory() + spare));
+        tally.note("directory, fresh", answer);
+        let (table, answer) = same_node_fresh(s, &numbers.bytes(s.table() + spare));
+        tally.note("node, fresh", answer);
+        Session {
+            s,
+            step,
+            directory,
+            table,
+        }
+    }
+
+    fn fresh(&mut self, numbers: &mut Numbers, tally: &mut Tally) {
+        let s = if numbers.below(3) == 0 {
+            other_measures(numbers, self.s)
+        } else {
+            self.s
+        };
+        let table = cut(numbers, &self.directory, self.s.directory());
+        let (end, answer) = same_directory_fresh(s, &table);
+        tally.note("directory, fresh", answer);
+        assert!(answer.is_ok() || end == table);
+        let table = cut(numbers, &self.table, self.s.table());
+        let (end, answer) = same_node_fresh(s, &table);
+        tally.note("node, fresh", answer);
+        assert!(answer.is_ok() || end == table);
+    }
+
+    /// The measures, and the table that is lent: now and then other ones. Says whether they are the session's own.
+    fn lend(
+        &self,
+        numbers: &mut Numbers,
+        own: &[u8],
+        need: usize,
+        spoil: fn(&mut Numbers, Measures, &mut [u8]),
+    ) -> (Measures, Vec<u8>, bool) {
+        let mut table = own.to_vec();
+        let (other, spoilt) = (rare(numbers), rare(numbers));
+        if spoilt {
+            spoil(numbers, self.s, &mut table);
+        }
+        let table = cut(numbers, &table, need);
+        let s = if other {
+            other_measures(numbers, self.s)
+        } else {
+            self.s
+        };
+        (s, table, !other && !spoilt)
+    }
+
+    fn update(&mut self, numbers: &mut Numbers, tally: &mut Tally) {
+        let (s, table, whole) = self.lend(
+            numbers,
+            &self.directory,
+            self.s.directory(),
+            spoil_directory,
+        );
+        let own = who(numbers, 0, self.s.m);
+        let mut fields = record(numbers, self.s, self.step);
+        if rare(numbers) {
+            spoil(numbers, &mut fields);
+        }
+        let (end, answer) = same_update(s, own, &table, &fields);
+        tally.note("directory, update", answer);
+        assert!(answer.is_ok() || end == table);
+        if whole && answer.is_ok() {
+            self.directory = end;
+        }
+    }
+
+    fn scan(&mut self, numbers: &mut Numbers, tally: &mut Tally) {
+        let need = self.s.directory();
+        let (s, table, _) = self.lend(numbers, &self.directory, need, spoil_directory);
+        let spare = numbers.below(3);
+        let room = numbers.bytes(need + spare);
+        let room = cut(numbers, &room, need);
+        let (end, answer) = same_scan(s, &table, &room);
+        tally.note("directory, scan", answer);
+        assert!(answer.is_ok() || end == room);
+    }
+
+    fn message(&mut self, numbers: &mut Numbers, tally: &mut Tally) {
+        let (s, table, whole) = self.lend(numbers, &self.table, self.s.table(), spoil_table);
+        let i = who(numbers, 1, self.s.n);
+        let mut message = message(numbers, self.s, self.step);
+        if rare(numbers) {
+            spoil(numbers, &mut message);
+        }
+        let spare = numbers.below(3);
+        let room = numbers.bytes(self.s.answer() + spare);
+        let room = cut(numbers, &room, self.s.answer());
+        let (end, reply, answer) = same_message(s, i, &table, &message, &room);
+        let kind = match message.first() {
+            Some(1) => "node, store",
+            Some(2) => "node, request",
+            Some(3) => "node, free",
+            _ => "node, no message",
+        };
+        tally.note(kind, answer);
+        assert!(answer.is_ok() || (end == table && reply == room));
+        if answer.is_ok() {
+            let case = match (message[0], table[..2] == end[..2]) {
+                (1, true) => "node, store: over a held one",
+                (1, false) => "node, store: new",
+                (2, _) if reply[6] == 0 => "node, request: not held",
+                (2, _) => "node, request: held",
+                (_, true) => "node, free: none held",
+                (_, false) => "node, free: some held",
+            };
+            tally.note(case, answer);
+        }
+        if whole && answer.is_ok() {
+            self.table = end;
+        }
+    }
+}
+
+/// So many calls; each refusal that there is must have been met.
+pub fn calls(numbers: &mut Numbers, total: usize) {
+    let mut tally = Tally::default();
+    let mut done = 0;
+    while done < total {
+        let mut session = Session::new(numbers, &mut tally);
+        done += 2;
+        // A large table takes as long as a hundred small ones.
+        let turns = 20 + numbers.below(if session.s.table() > 100_000 { 20 } else { 300 });
+        for _ in 0..turns {
+            done += 1;
+            match numbers.below(20) {
+                0 => {
+                    done += 1;
+                    session.fresh(numbers, &mut tally);
+                }
+                1..=6 => session.update(numbers, &mut tally),
+                7..=9 => session.scan(numbers, &mut tally),
+                _ => session.message(numbers, &mut tally),
+            }
+        }
+    }
+    println!("{done} calls to the directory and the node: the same answers and bytes, every refusal among them");
+    println!("{:<28} {:>10}   refused", "", "served");
+    tally.print();
+    for (name, met) in [
+        ("directory, fresh", vec![0, 1, 2]),
+        ("directory, update", vec![0, 1, 2, 3, 4]),
+        ("directory, scan", vec![0, 1, 2, 4]),
+        ("node, fresh", vec![0, 1, 2]),
+        ("node, store", vec![0, 1, 2, 3, 4, 8]),
+        ("node, request", vec![0, 1, 2, 3, 4]),
+        ("node, free", vec![0, 1, 2, 3, 4]),
+        ("node, no message", vec![1, 2, 3, 4]),
+    ] {
+        assert_eq!(tally.met(name), BTreeSet::from_iter(met), "{name}");
+    }
+    for case in [
+        "node, store: over a held one",
+        "node, store: new",
+        "node, request: not held",
+        "node, request: held",
+        "node, free: none held",
+        "node, free: some held",
+    ] {
+        assert!(!tally.met(case).is_empty(), "{case}");
+    }
+}
