@@ -23,3 +23,8 @@ pub mod NodeSizeLaws
 pub mod NodeEndLaws
 pub mod DropLaws
 pub mod FreeingLaws
+pub mod ClientRecordLaws
+pub mod ClientFormLaws
+pub mod GateLaws
+pub mod FreshClientLaws
+pub mod StartLaws

@@ -7,3 +7,4 @@ pub mod Room
 pub mod Places
 pub mod ToNode
 pub mod NodeCode
+pub mod Gate

@@ -39,7 +39,7 @@ pub enum Parts {
 }
 
 // No bit stands for a node above n.
-fn within(map: u16, n: usize) -> bool
+pub fn within(map: u16, n: usize) -> bool
     requires { ⌜ n ≤ 16 ⌝ }
     ensures { λ r. ⌜ r ≡ ltb map (2 ^ n) ⌝ }
 {

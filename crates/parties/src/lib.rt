@@ -1,9 +1,12 @@
 pub mod answer;
 mod bytes;
+pub mod client;
 pub mod directory;
 mod form;
+mod gate;
 mod message;
 pub mod node;
 mod nodes;
 pub mod phase;
 pub mod pick;
+mod record;

@@ -164,7 +164,7 @@ format-fetches s =
 
 -- ---- the work area
 
-abbrev ReadsPhase : Measures → Phase → Type 0
+abbrev pub ReadsPhase : Measures → Phase → Type 0
 ReadsPhase s Phase.idle = Unit {0}
 ReadsPhase s (Phase.scanning page) = ReadsPage s page
 ReadsPhase s (Phase.storing v a ds) = ReadsStores s (record { version = v; acknowledged = a; digests = ds })
@@ -175,7 +175,7 @@ ReadsPhase s Phase.picking = Unit {0}
 ReadsPhase s (Phase.fetching p c m ps) = ReadsFetches s (record { pointer = p; counted = c; matching = m; pieces = ps })
 
 -- a phase whose step is n
-abbrev ReadsAt : Measures → ℕ → Phase → Type 0
+abbrev pub ReadsAt : Measures → ℕ → Phase → Type 0
 ReadsAt s n p = (step p ≡ n) × ReadsPhase s p
 
 abbrev storingOf : Stores → Phase
@@ -236,7 +236,7 @@ module _ (s : Measures) where
       (λ h. as-only (readFetches s) (writeFetches s) (ReadsFetches s) fetchingOf (writeWork s) (ReadsAt s n) (λ a g. ((sym h, g), refl)) (format-fetches s))
       (λ b r bs e. absurd (none≢some e)))))))))
 
-  format-work : (n : ℕ) → Format Phase (readWork s n) (writeWork s) (ReadsAt s n)
+  pub format-work : (n : ℕ) → Format Phase (readWork s n) (writeWork s) (ReadsAt s n)
   format-work n =
       record {
         back = λ p g t.
@@ -340,7 +340,7 @@ short-lengths : (s : Measures) → s .f ≤ 4096 → (ps : List (List ℕ)) → 
 short-lengths s h [] g = tt
 short-lengths s h (p ∷ ps) g = (omega (arith, g .0 .1), short-lengths s h ps (g .1))
 
-phase-good : (s : Measures) (p : Phase) → ReadsPhase s p → GoodPhase s p
+pub phase-good : (s : Measures) (p : Phase) → ReadsPhase s p → GoodPhase s p
 phase-good s Phase.idle g = tt
 phase-good s (Phase.scanning page) g = (g .0 .1 .0, g .1)
 phase-good s (Phase.storing v a ds) g =
@@ -417,7 +417,7 @@ length-pieces s ps g e =
     units (x ∷ l) = (tt, units l)
 
 -- each phase's work has room
-work-fits : (s : Measures) → Passed s → (p : Phase) → GoodPhase s p → length (writeWork s p) ≤ workSize s
+pub work-fits : (s : Measures) → Passed s → (p : Phase) → GoodPhase s p → length (writeWork s p) ≤ workSize s
 unfolding writeWork writePage writeStores writeFetches
 work-fits s h Phase.idle g = omega arith
 work-fits s h (Phase.scanning page) g =
@@ -459,7 +459,7 @@ work-fits s h (Phase.fetching p c m ps) g =
 
 -- ---- the laws
 
-step-byte : (p : Phase) → step p < 256 ^ 1
+pub step-byte : (p : Phase) → step p < 256 ^ 1
 step-byte Phase.idle = omega arith
 step-byte (Phase.scanning page) = omega arith
 step-byte (Phase.storing v a ds) = omega arith
@@ -509,7 +509,7 @@ pub client-only : (s : Measures) (b : List ℕ) (r : Read Client) → Bytes b �
     → GoodClient s (r .value) × (b ≡ writeClient s (r .value) ++ r .rest)
 client-only s b r bs e = let x = format-client s .only b r bs e in (client-good s (r .value) (x .0), x .1)
 
-length-retained : (s : Measures) (c : Client) → GoodClient s c → length (writeRetained s (retained c)) ≡ (s .m + 1) * pointerSize s + 9 * s .m
+pub length-retained : (s : Measures) (c : Client) → GoodClient s c → length (writeRetained s (retained c)) ≡ (s .m + 1) * pointerSize s + 9 * s .m
 unfolding writeRetained
 length-retained s c g =
     let z = pointerSize s in
