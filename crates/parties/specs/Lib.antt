@@ -8,3 +8,5 @@ pub mod Places
 pub mod ToNode
 pub mod NodeCode
 pub mod Gate
+pub mod Draw
+pub mod Choose
