@@ -8,5 +8,3 @@ pub mod Places
 pub mod ToNode
 pub mod NodeCode
 pub mod Gate
-pub mod Draw
-pub mod Choose

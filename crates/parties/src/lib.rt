@@ -1,15 +1,12 @@
 pub mod answer;
 mod bytes;
-mod choose;
 pub mod client;
 pub mod directory;
-mod draw;
 mod form;
 mod gate;
 mod message;
 pub mod node;
 mod nodes;
-mod notice;
 pub mod phase;
 pub mod pick;
 mod record;
