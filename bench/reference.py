@@ -3,7 +3,8 @@
 
     reference.py FOLDER    writes FOLDER/stdin (calls, in binary) and FOLDER/stdout (what each must print)
 
-Written from document 01 alone. A table of 65,536 bytes, at first `poison`, is kept from call to call. A call in stdin, high bytes first: kind (1 byte; 6
+Written from document 01, with the tags of messages and the node's room from docs/DECISIONS.md (21, 31), by the hand that wrote the definitions;
+it shares no code or text with them. A table of 65,536 bytes, at first `poison`, is kept from call to call. A call in stdin, high bytes first: kind (1 byte; 6
 puts the message at the table's front and calls nothing), whether the table after it is kept (1), m n k t F and a number (2 each), the length
 lent of the table and of a room filled with `poison` (4 each), a place of the table (4) and what its byte is changed by (1; exclusive or), the
 message's length (2) and bytes. A line of stdout: the kind, the refusal's number or the bytes answered, and the sums of table and room after the
