@@ -137,23 +137,31 @@ module _ (s : Measures) (h : passes s ≡ true) (p : Phase) (area : List ℕ) (c
       sym (drop-drop (workSize s) (workAt s) area) ∙ ap (drop (workSize s)) work-onward
       ∙ drop-at (writeArea (workSize s) (writeWork s) (c .phase)) rest (workSize s) work-length
 
+-- the area starts with what the client retains; the rest follows
+pub record Retains (s : Measures) (area : List ℕ) (c : Client) (rest : List ℕ) : Type 0 where
+  pub good : GoodClient s c
+  pub parts : area ≡ writeRetained s (retained c) ++ rest
+
+pub shown-retains : (s : Measures) (p : Phase) (area : List ℕ) (c : Client) (rest : List ℕ) → Shown s p area c rest
+    → Retains s area c (writeArea (workSize s) (writeWork s) (c .phase) ++ rest)
+shown-retains s p area c rest x = record { good = x .good; parts = x .parts }
+
+-- where its fields stand
+module _ (s : Measures) (area : List ℕ) (c : Client) (rest : List ℕ) (x : Retains s area c rest) where
   abbrev areaOf : Pointer → List ℕ
   areaOf = writeArea (pointerSize s) writePointer
 
-  abbrev fieldsAfter : List ℕ
-  fieldsAfter = writeArea (workSize s) (writeWork s) (c .phase) ++ rest
-
   area-fields : area
-      ≡ writeMany areaOf (c .written ∷ c .frozen) ++ (writeMany writeVersion (c .reserved) ++ (writeMany writeIndex (c .frozenIndices) ++ fieldsAfter))
+      ≡ writeMany areaOf (c .written ∷ c .frozen) ++ (writeMany writeVersion (c .reserved) ++ (writeMany writeIndex (c .frozenIndices) ++ rest))
   unfolding writeRetained writeMany
   area-fields =
       let a = areaOf (c .written) in
       let b = writeMany areaOf (c .frozen) in
       let v = writeMany writeVersion (c .reserved) in
       let i = writeMany writeIndex (c .frozenIndices) in
-      x .parts ∙ append-assoc a (b ++ (v ++ i)) fieldsAfter
-      ∙ ap (λ (l : List ℕ). a ++ l) (append-assoc b (v ++ i) fieldsAfter ∙ ap (λ (l : List ℕ). b ++ l) (append-assoc v i fieldsAfter))
-      ∙ sym (append-assoc a b (v ++ (i ++ fieldsAfter)))
+      x .parts ∙ append-assoc a (b ++ (v ++ i)) rest
+      ∙ ap (λ (l : List ℕ). a ++ l) (append-assoc b (v ++ i) rest ∙ ap (λ (l : List ℕ). b ++ l) (append-assoc v i rest))
+      ∙ sym (append-assoc a b (v ++ (i ++ rest)))
 
   pointers-good : Each (GoodPointer s) (c .written ∷ c .frozen)
   pointers-good = (x .good .written, x .good .frozen .0)
@@ -174,7 +182,7 @@ module _ (s : Measures) (h : passes s ≡ true) (p : Phase) (area : List ℕ) (c
   written-part =
       let z : 0 * pointerSize s ≡ 0 = omega arith in
       ap (take (pointerSize s)) area-fields
-      ∙ ap (λ (n : ℕ). take (pointerSize s) (drop n (writeMany areaOf (c .written ∷ c .frozen) ++ (writeMany writeVersion (c .reserved) ++ (writeMany writeIndex (c .frozenIndices) ++ fieldsAfter))))) (sym z)
+      ∙ ap (λ (n : ℕ). take (pointerSize s) (drop n (writeMany areaOf (c .written ∷ c .frozen) ++ (writeMany writeVersion (c .reserved) ++ (writeMany writeIndex (c .frozenIndices) ++ rest))))) (sym z)
       ∙ many-part areaOf (GoodPointer s) (pointerSize s) pointer-length nonePointer (c .written ∷ c .frozen) pointers-good 0 (omega arith) _
 
   pub frozen-part : (q : ℕ) → q < s .m
@@ -190,7 +198,7 @@ module _ (s : Measures) (h : passes s ≡ true) (p : Phase) (area : List ℕ) (c
       → take 5 (drop ((s .m + 1) * pointerSize s + 5 * q) area) ≡ writeVersion (getD (c .reserved) q noVersion)
   reserved-part q b =
       let f = writeMany areaOf (c .written ∷ c .frozen) in
-      let t = writeMany writeIndex (c .frozenIndices) ++ fieldsAfter in
+      let t = writeMany writeIndex (c .frozenIndices) ++ rest in
       ap (λ (l : List ℕ). take 5 (drop ((s .m + 1) * pointerSize s + 5 * q) l)) area-fields
       ∙ ap (take 5)
       (drop-past f (writeMany writeVersion (c .reserved) ++ t) ((s .m + 1) * pointerSize s) (q * 5) ((s .m + 1) * pointerSize s + 5 * q) pointers-length (omega arith))
@@ -206,10 +214,10 @@ module _ (s : Measures) (h : passes s ≡ true) (p : Phase) (area : List ℕ) (c
       let at = (s .m + 1) * pointerSize s + 5 * s .m + 4 * q in
       ap (λ (l : List ℕ). take 4 (drop at l)) area-fields
       ∙ ap (take 4)
-      (drop-past f (v ++ (i ++ fieldsAfter)) ((s .m + 1) * pointerSize s) (5 * s .m + 4 * q) at pointers-length (omega arith)
-      ∙ drop-past v (i ++ fieldsAfter) (5 * s .m) (q * 4) (5 * s .m + 4 * q) reserved-length (omega arith))
+      (drop-past f (v ++ (i ++ rest)) ((s .m + 1) * pointerSize s) (5 * s .m + 4 * q) at pointers-length (omega arith)
+      ∙ drop-past v (i ++ rest) (5 * s .m) (q * 4) (5 * s .m + 4 * q) reserved-length (omega arith))
       ∙ many-part writeIndex GoodIndex 4 (λ n g. length-index n) (record { 0 = 0 }) (c .frozenIndices) (x .good .indices .0) q
-      (omega (arith, x .good .indices .1)) fieldsAfter
+      (omega (arith, x .good .indices .1)) rest
 
 -- a pointer that stands in its area at a place reads there
 pub area-reads : (s : Measures) (t : List ℕ) (at : ℕ) (q : Pointer) → GoodPointer s q

@@ -28,3 +28,8 @@ pub mod ClientFormLaws
 pub mod GateLaws
 pub mod FreshClientLaws
 pub mod StartLaws
+pub mod DrawLaws
+pub mod DrawEndLaws
+pub mod ChooseLaws
+pub mod NoticeLaws
+pub mod FoundLaws

@@ -8,3 +8,10 @@ pub mod Places
 pub mod ToNode
 pub mod NodeCode
 pub mod Gate
+pub mod Draw
+pub mod Choose
+pub mod Found
+pub mod Freeze
+pub mod Publish
+pub mod Reply
+pub mod Tell

@@ -37,7 +37,7 @@ fn put_none(t: &mut [u8], from: usize, width: usize, n: usize)
 }
 
 // A fresh record: idle, all pointers and versions none, all indices 0.
-pub fn fresh_client(s: Measures, p: Phase, area: &mut [u8]) -> Turned
+pub fn fresh_client(p: Phase, s: Measures, area: &mut [u8]) -> Turned
     ensures { λ r. ⌜ (answered (r .answer) ≡ clientFresh s (recordOf p (now (area .entry))) .answer)
         × (recordOf (r .phase) (now (area .exit)) ≡ clientFresh s (recordOf p (now (area .entry))) .client) ⌝ }
 {
@@ -69,7 +69,7 @@ pub fn fresh_client(s: Measures, p: Phase, area: &mut [u8]) -> Turned
 }
 
 // The start of a deposit: the page is kept, a scan is asked for.
-pub fn start_deposit(s: Measures, own: usize, p: Phase, area: &mut [u8], page: &[u8]) -> Turned
+pub fn start_deposit(p: Phase, s: Measures, own: usize, area: &mut [u8], page: &[u8]) -> Turned
     ensures { λ r. ⌜ (answered (r .answer) ≡ startDeposit s own (recordOf p (now (area .entry))) (now (page .entry)) .answer)
         × (recordOf (r .phase) (now (area .exit)) ≡ startDeposit s own (recordOf p (now (area .entry))) (now (page .entry)) .client) ⌝ }
 {
@@ -114,7 +114,7 @@ pub fn start_deposit(s: Measures, own: usize, p: Phase, area: &mut [u8], page: &
 }
 
 // The start of a reading: the reading index goes up, and the directory is to have it.
-pub fn start_reading(s: Measures, own: usize, p: Phase, area: &mut [u8], room: &mut [u8]) -> Turned
+pub fn start_reading(p: Phase, s: Measures, own: usize, area: &mut [u8], room: &mut [u8]) -> Turned
     ensures { λ r. ⌜ (answered (r .answer) ≡ startReading s own (recordOf p (now (area .entry))) (now (room .entry)) .answer)
         × (recordOf (r .phase) (now (area .exit)) ≡ startReading s own (recordOf p (now (area .entry))) (now (room .entry)) .client)
         × (now (room .exit) ≡ startReading s own (recordOf p (now (area .entry))) (now (room .entry)) .room) ⌝ }
@@ -159,7 +159,7 @@ pub fn start_reading(s: Measures, own: usize, p: Phase, area: &mut [u8], room: &
 }
 
 // The directory took an update: the scan after it is asked for.
-pub fn update_answer(s: Measures, own: usize, p: Phase, area: &mut [u8], room: &mut [u8]) -> Turned
+pub fn update_answer(p: Phase, s: Measures, own: usize, area: &mut [u8], room: &mut [u8]) -> Turned
     ensures { λ r. ⌜ (answered (r .answer) ≡ updateAnswer s own (recordOf p (now (area .entry))) (now (room .entry)) .answer)
         × (recordOf (r .phase) (now (area .exit)) ≡ updateAnswer s own (recordOf p (now (area .entry))) (now (room .entry)) .client)
         × (now (room .exit) ≡ updateAnswer s own (recordOf p (now (area .entry))) (now (room .entry)) .room) ⌝ }

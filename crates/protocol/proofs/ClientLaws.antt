@@ -509,6 +509,33 @@ pub client-only : (s : Measures) (b : List ℕ) (r : Read Client) → Bytes b �
     → GoodClient s (r .value) × (b ≡ writeClient s (r .value) ++ r .rest)
 client-only s b r bs e = let x = format-client s .only b r bs e in (client-good s (r .value) (x .0), x .1)
 
+-- what is retained reads by itself: of the client who is idle and has read nothing
+abbrev pub keeper : Retained → Client
+keeper x = clientOf 0 (record { 0 = 0 }) x Phase.idle
+
+pub retained-back : (s : Measures) (c : Client) → GoodClient s c → (rest : List ℕ)
+    → readRetained s (writeRetained s (retained c) ++ rest) ≡ some (record { value = retained c; rest = rest })
+retained-back s c g rest =
+    format-retained s .back (retained c) (
+      pointer-reads s (c .written) (g .written),
+      ((each-as (GoodPointer s) (ReadsPointer s) (pointer-reads s) (c .frozen) (g .frozen .0), g .frozen .1), (g .reserved, g .indices)),
+    ) rest
+
+pub retained-only : (s : Measures) (b : List ℕ) (r : Read Retained) → Bytes b → readRetained s b ≡ some r
+    → GoodClient s (keeper (r .value)) × (b ≡ writeRetained s (r .value) ++ r .rest)
+retained-only s b r bs e =
+    let x = format-retained s .only b r bs e in (
+      record {
+        phase = tt;
+        index = omega arith;
+        written = x .0 .0 .0 .0;
+        frozen = (each-as (ReadsPointer s) (GoodPointer s) (λ p h. h .0 .0) (r .value .frozen) (x .0 .1 .0 .0), x .0 .1 .0 .1);
+        reserved = x .0 .1 .1 .0;
+        indices = x .0 .1 .1 .1;
+      },
+      x .1,
+    )
+
 pub length-retained : (s : Measures) (c : Client) → GoodClient s c → length (writeRetained s (retained c)) ≡ (s .m + 1) * pointerSize s + 9 * s .m
 unfolding writeRetained
 length-retained s c g =
