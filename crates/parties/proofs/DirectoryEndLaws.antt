@@ -11,8 +11,8 @@ use Rattle.protocol.specs.Measures.{passes}
 use Rattle.protocol.specs.Answer.{refuses, serves}
 use Rattle.protocol.specs.Directory.{readDirectory}
 use Rattle.protocol.specs.DirectoryEvents.{DirectoryEnd, directorySize, scanned, directoryScan}
-use Rattle.parties.specs.Form.{rest}
-use Rattle.parties.proofs.FormLaws.{left-read, none-read}
+use Rattle.records.specs.Form.{rest}
+use Rattle.records.proofs.FormLaws.{left-read, none-read}
 
 -- the answer and the bytes of an end
 pub ends-room : (x e : DirectoryEnd) → x ≡ e → (e .answer ≡ x .answer) × (e .room ≡ x .room)

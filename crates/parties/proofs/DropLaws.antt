@@ -15,10 +15,10 @@ use Rattle.protocol.specs.Node.{listed, release}
 use Rattle.protocol.proofs.FormatLaws.{Each}
 use Rattle.protocol.proofs.VersionLaws.{below-true, true-below, below-trans}
 use Rattle.protocol.proofs.NodeLaws.{not-below-back}
-use Rattle.parties.specs.Places.{versionAt, heldAt, from, heldFrom}
+use Rattle.records.specs.Places.{versionAt, heldAt, from, heldFrom}
 use Rattle.parties.specs.ToNode.{versionsFrom}
 use Rattle.parties.specs.NodeCode.{listBehind, listNames}
-use Rattle.parties.proofs.PositionLaws.{from-first, from-none}
+use Rattle.records.proofs.PositionLaws.{from-first, from-none}
 
 -- ---- the tests
 

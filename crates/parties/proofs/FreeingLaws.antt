@@ -16,11 +16,11 @@ use Rattle.protocol.specs.Measures.{placeSize}
 use Rattle.protocol.specs.Version.{ascending}
 use Rattle.protocol.specs.NodeTable.{Held, inOrder}
 use Rattle.protocol.specs.Node.{release}
-use Rattle.parties.specs.Places.{versionAt, heldAt, heldFrom, soundAt, every, splice, placeOf}
+use Rattle.records.specs.Places.{versionAt, heldAt, heldFrom, soundAt, every, splice, placeOf}
 use Rattle.parties.specs.ToNode.{versionsFrom}
 use Rattle.parties.specs.NodeCode.{listBehind, listNames, Listed, Released}
-use Rattle.parties.proofs.PositionLaws.{from-none, every-first, one-less}
-use Rattle.parties.proofs.SpliceLaws.{length-splice}
+use Rattle.records.proofs.PositionLaws.{from-none, every-first, one-less}
+use Rattle.records.proofs.SpliceLaws.{length-splice}
 use Rattle.parties.proofs.ShownLaws.{place-bytes, place-fits, place-size}
 use Rattle.parties.proofs.DropLaws.{next-order, next-ascends, walk-behind, walk-named, walk-kept}
 

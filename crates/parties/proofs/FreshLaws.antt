@@ -17,7 +17,7 @@ use Rattle.protocol.specs.DirectoryEvents.{directorySize, directoryFresh}
 use Rattle.protocol.proofs.MeasureLaws.{passed}
 use Rattle.protocol.proofs.RowLaws.{fresh-good, row-fits}
 use Rattle.parties.specs.Room.{Built}
-use Rattle.parties.proofs.SizeLaws.{row-bound}
+use Rattle.records.proofs.SizeLaws.{row-bound}
 use Rattle.parties.proofs.RoomLaws.{built-map, built-zeros, built-byte, built-area, many-replicated, many-last}
 
 none-bytes : writePointer nonePointer ≡ 0 ∷ 0 ∷ 0 ∷ 0 ∷ 255 ∷ 0 ∷ 0 ∷ []

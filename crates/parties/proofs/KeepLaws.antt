@@ -16,10 +16,10 @@ use Rattle.protocol.specs.NodeTable.{Held, writePiece, writeHeld, writeTable}
 use Rattle.protocol.proofs.FormatLaws.{Each}
 use Rattle.protocol.proofs.PointerLaws.{length-number, length-version}
 use Rattle.protocol.proofs.NodeTableLaws.{FitsPlace}
-use Rattle.parties.specs.Places.{splice, placeOf, versionAt}
+use Rattle.records.specs.Places.{splice, placeOf, versionAt}
 use Rattle.parties.specs.NodeCode.{broughtBy, inserted}
-use Rattle.parties.proofs.PlaceLaws.{length-held}
-use Rattle.parties.proofs.SpliceLaws.{paste-splice, paste-all, splice-parts, splice-next, table-parts}
+use Rattle.records.proofs.PlaceLaws.{length-held}
+use Rattle.records.proofs.SpliceLaws.{paste-splice, paste-all, splice-parts, splice-next, table-parts}
 use Rattle.parties.proofs.ShownLaws.{version-bytes, places-size}
 
 -- a brought piece's place has its size

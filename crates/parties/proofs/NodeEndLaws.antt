@@ -25,14 +25,15 @@ use Rattle.protocol.proofs.FormatLaws.{Each}
 use Rattle.protocol.proofs.MeasureLaws.{passed}
 use Rattle.protocol.proofs.PointerLaws.{length-version}
 use Rattle.protocol.proofs.NodeTableLaws.{FitsPlace, GoodTable}
-use Rattle.parties.specs.Places.{numberAt, versionAt, lengthAt, pieceAt, heldAt, heldFrom, soundAt, soundTable, rank, standsAt, splice, placeOf}
-use Rattle.parties.specs.ToNode.{versionsFrom, storeSound, requestSound, freeSound}
+use Rattle.records.specs.Places.{numberAt, versionAt, lengthAt, pieceAt, heldAt, heldFrom, soundAt, soundTable, rank, standsAt, splice, placeOf, versionAlone}
+use Rattle.parties.specs.ToNode.{versionsFrom, storeSound, freeSound}
 use Rattle.parties.specs.NodeCode.{Ready, Ends, event, broughtBy, inserted, Listed, Released}
-use Rattle.parties.proofs.PositionLaws.{from-length, every-at, place-less}
+use Rattle.records.proofs.PositionLaws.{from-length, every-at, place-less}
 use Rattle.parties.proofs.TableLaws.{table-none}
 use Rattle.parties.proofs.SeekLaws.{rank-within, seek-split, stands-within, stands-split, stands-hand, stands-keep, absent-hand, absent-keep}
-use Rattle.parties.proofs.SpliceLaws.{paste-splice, splice-one, splice-next, splice-front, length-splice}
-use Rattle.parties.proofs.ToNodeLaws.{storeOf, requestOf, freeOf, tag-store, tag-request, tag-free, store-sizes, request-size, free-ascends}
+use Rattle.records.proofs.SpliceLaws.{paste-splice, splice-one, splice-next, splice-front, length-splice}
+use Rattle.parties.proofs.ToNodeLaws.{storeOf, requestOf, freeOf, tag-store, tag-request, tag-free, store-sizes, free-ascends}
+use Rattle.records.proofs.PlaceLaws.{alone-size}
 use Rattle.parties.proofs.ShownLaws.{version-bytes, each-left, each-right, place-size, place-short, table-shown, table-few, table-each, table-order, table-good, table-bytes}
 use Rattle.parties.proofs.KeepLaws.{overwritten, grown, shrunk}
 
@@ -55,7 +56,7 @@ module _ (s : Measures) (t b room : List ℕ) where
     pub broken-store : 1 ≤ length b → getD b 0 0 ≡ 1 → storeSound s b ≡ false → Ends (event s t b room) (refuses 4) t room
     broken-store l g q = broken-message (tag-store s b l g ∙ ap (λ (c : Bool). cond c (some (storeOf b)) none) q)
 
-    pub broken-request : 1 ≤ length b → getD b 0 0 ≡ 2 → requestSound s b ≡ false → Ends (event s t b room) (refuses 4) t room
+    pub broken-request : 1 ≤ length b → getD b 0 0 ≡ 2 → versionAlone s b ≡ false → Ends (event s t b room) (refuses 4) t room
     broken-request l g q = broken-message (tag-request s b l g ∙ ap (λ (c : Bool). cond c (some (requestOf b)) none) q)
 
     pub broken-free : 1 ≤ length b → getD b 0 0 ≡ 3 → freeSound s b ≡ false → Ends (event s t b room) (refuses 4) t room
@@ -204,7 +205,7 @@ module _ (s : Measures) (t b room : List ℕ) where
 
         -- ---- a piece to hand back
 
-        module _ (g : getD b 0 0 ≡ 2) (q : requestSound s b ≡ true) (j : ℕ) (ej : j ≡ rank (placeSize s) t (versionAt b 1) 2 n) where
+        module _ (g : getD b 0 0 ≡ 2) (q : versionAlone s b ≡ true) (j : ℕ) (ej : j ≡ rank (placeSize s) t (versionAt b 1) 2 n) where
           asks : readToNode s b ≡ some (requestOf b)
           asks = tag-request s b l g ∙ ap (λ (c : Bool). cond c (some (requestOf b)) none) q
 
@@ -218,7 +219,7 @@ module _ (s : Measures) (t b room : List ℕ) where
           flagged : (v w : List ℕ) (x : ℕ) → v ≡ splice room 0 (6 ∷ take 5 (drop 1 b)) → w ≡ set v 6 x → w ≡ splice room 0 (6 ∷ (writeVersion (versionAt b 1) ++ (x ∷ [])))
           flagged v w x ev ew =
               let h : answerSize s ≤ length room = r .answer in
-              let k : take 5 (drop 1 b) ≡ writeVersion (versionAt b 1) = version-bytes b 1 bb (omega (arith, request-size s b q)) in
+              let k : take 5 (drop 1 b) ≡ writeVersion (versionAt b 1) = version-bytes b 1 bb (omega (arith, alone-size s b q)) in
               let e : v ≡ splice room 0 (6 ∷ writeVersion (versionAt b 1)) = ev ∙ ap (λ (y : List ℕ). splice room 0 (6 ∷ y)) k in
               let m : length (6 ∷ writeVersion (versionAt b 1)) ≡ 6 = ap suc (length-version (versionAt b 1)) in
               let c : length v ≡ length room = ap length e ∙ length-splice room 0 (6 ∷ writeVersion (versionAt b 1)) (omega arith) in

@@ -13,7 +13,7 @@ use Rattle.protocol.specs.Measures.{passes, places, placeSize}
 use Rattle.protocol.specs.Answer.{refuses, serves}
 use Rattle.protocol.specs.NodeTable.{writePlaces, writeTable}
 use Rattle.protocol.specs.NodeEvents.{nodeFresh, tableSize}
-use Rattle.parties.proofs.SpliceLaws.{paste-all, splice-front}
+use Rattle.records.proofs.SpliceLaws.{paste-all, splice-front}
 
 module _ (s : Measures) (t : List ℕ) where
   pub fresh-measures : passes s ≡ false → (refuses 1 ≡ nodeFresh s t .answer) × (t ≡ nodeFresh s t .table)

@@ -7,7 +7,7 @@ use native.Mathlib.Omega.{arith}
 use lib.Dec.{eqb}
 use lib.ListN.{length, take, drop, length-append, length-drop}
 use lib.Seq.{take-all, take-length, length-take-le, paste}
-use Rattle.parties.specs.declared.form.Ends.{Ends}
+use Rattle.records.specs.declared.form.Ends.{Ends}
 use Rattle.parties.specs.Room.{Built, range, part, renewed}
 use Rattle.parties.proofs.RoomLaws.{built-part}
 

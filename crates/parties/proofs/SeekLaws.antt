@@ -16,8 +16,8 @@ use Rattle.protocol.specs.NodeTable.{Held}
 use Rattle.protocol.specs.Node.{keep, handBack}
 use Rattle.protocol.proofs.FormatLaws.{Each}
 use Rattle.protocol.proofs.NodeLaws.{not-below-back, hand-more, hand-same}
-use Rattle.parties.specs.Places.{versionAt, pieceAt, heldAt, from, heldFrom, rank, standsAt}
-use Rattle.parties.proofs.PositionLaws.{next-place, from-split, from-first, from-none}
+use Rattle.records.specs.Places.{versionAt, pieceAt, heldAt, from, heldFrom, rank, standsAt}
+use Rattle.records.proofs.PositionLaws.{next-place, from-split, from-first, from-none}
 
 module _ (z : ℕ) (t : List ℕ) where
   module _ (v : Version) where

@@ -19,8 +19,8 @@ use Rattle.protocol.specs.NodeTable.{Held, readHeld, writeHeld, inOrder, readTa
 use Rattle.protocol.proofs.FormatLaws.{Each, length-area, length-same, format-area}
 use Rattle.protocol.proofs.PointerLaws.{format-version, length-version}
 use Rattle.protocol.proofs.NodeTableLaws.{FitsPlace, GoodHeld, GoodTable, format-held, format-table}
-use Rattle.parties.specs.Places.{numberAt, versionAt, lengthAt, heldAt, heldFrom, zeroRun, soundAt, soundFrom, soundTable, every, placeOf}
-use Rattle.parties.proofs.PlaceLaws.{read-version, place-read}
+use Rattle.records.specs.Places.{numberAt, versionAt, lengthAt, heldAt, heldFrom, zeroRun, soundAt, soundFrom, soundTable, every, placeOf}
+use Rattle.records.proofs.PlaceLaws.{read-version, place-read}
 use Rattle.parties.proofs.TableLaws.{sound-ordered, table-read}
 
 pub bytes-drop : (t : List ℕ) (n : ℕ) → Bytes t → Bytes (drop n t)

@@ -18,9 +18,9 @@ use Rattle.protocol.specs.Measures.{places, placeSize}
 use Rattle.protocol.specs.Version.{ascending}
 use Rattle.protocol.specs.Version as version
 use Rattle.protocol.specs.NodeTable.{Held, readHeld, writeHeld, inOrder, readPlaces, readTable}
-use Rattle.parties.specs.Places.{numberAt, versionAt, heldAt, heldFrom, zeroRun, soundAt, soundFrom, soundTable, every}
-use Rattle.parties.proofs.PositionLaws.{from-map, ordered-all, given-read}
-use Rattle.parties.proofs.PlaceLaws.{read-number, place-read, zeros-read}
+use Rattle.records.specs.Places.{numberAt, versionAt, heldAt, heldFrom, zeroRun, soundAt, soundFrom, soundTable, every}
+use Rattle.records.proofs.PositionLaws.{from-map, ordered-all, given-read}
+use Rattle.records.proofs.PlaceLaws.{read-number, place-read, zeros-read}
 
 module _ (s : Measures) (t : List ℕ) where
   -- a place of form has a sequence of at least 1

@@ -17,10 +17,10 @@ use Rattle.protocol.specs.Version.{ascending}
 use Rattle.protocol.specs.Version as version
 use Rattle.protocol.specs.Pointer.{readVersion}
 use Rattle.protocol.specs.Message.{properVersion, readProper, readStored, readVersions, ToNode, readToNode}
-use Rattle.parties.specs.Places.{versionAt, every}
-use Rattle.parties.specs.ToNode.{properAt, versionsFrom, listedFrom, storeSound, requestSound, freeSound}
-use Rattle.parties.proofs.PositionLaws.{ordered-all, given-read}
-use Rattle.parties.proofs.PlaceLaws.{read-version}
+use Rattle.records.specs.Places.{versionAt, every, properAt, versionAlone}
+use Rattle.parties.specs.ToNode.{versionsFrom, listedFrom, storeSound, freeSound}
+use Rattle.records.proofs.PositionLaws.{ordered-all, given-read}
+use Rattle.records.proofs.PlaceLaws.{read-version}
 
 -- two tests that tell the same
 leb-same : (a b c d : ℕ) → (a ≤ b → c ≤ d) → (c ≤ d → a ≤ b) → leb a b ≡ leb c d
@@ -34,7 +34,7 @@ leb-same a b c d there back = go (decLe a b)
         not-le (yes k) = absurd (h (back k))
         not-le (no k) = lt-leb c d (omega arith)
 
-eqb-same : (a b c d : ℕ) → (a ≡ b → c ≡ d) → (c ≡ d → a ≡ b) → eqb a b ≡ eqb c d
+pub eqb-same : (a b c d : ℕ) → (a ≡ b → c ≡ d) → (c ≡ d → a ≡ b) → eqb a b ≡ eqb c d
 eqb-same a b c d there back = go (ℕ-discrete a b)
   where
     go : Dec (a ≡ b) → eqb a b ≡ eqb c d
@@ -68,7 +68,7 @@ short-version (a ∷ b ∷ c ∷ d ∷ []) h = refl
 short-version (a ∷ b ∷ c ∷ d ∷ e ∷ u) h = absurd (omega arith)
 
 module _ (s : Measures) (b : List ℕ) where
-  proper-read : (at : ℕ) → at + 5 ≤ length b
+  pub proper-read : (at : ℕ) → at + 5 ≤ length b
       → readProper s (drop at b) ≡ cond (properAt s b at) (some (record { value = versionAt b at; rest = drop (at + 5) b })) none
   unfolding readProper properAt
   proper-read at h = rw (read-version b at h) (go (properVersion s (versionAt b at)))
@@ -81,7 +81,7 @@ module _ (s : Measures) (b : List ℕ) where
   unfolding properAt
   proper-sequence at e = leb-true 1 (versionAt b at .sequence .0) (and-true (leb 1 (versionAt b at .sequence .0)) _ e .0)
 
-proper-short : (s : Measures) (u : List ℕ) → length u < 5 → readProper s u ≡ none
+pub proper-short : (s : Measures) (u : List ℕ) → length u < 5 → readProper s u ≡ none
 unfolding readProper
 proper-short s u h = rw (short-version u h) refl
 
@@ -96,10 +96,10 @@ requestOf b = ToNode.request (versionAt b 1)
 abbrev pub freeOf : List ℕ → ToNode
 freeOf b = ToNode.free (versionsFrom b 1 ((length b - 1) / 5))
 
-tag-is : {A : Type 0} (x n : ℕ) (a b : A) → x ≡ n → cond (eqb x n) a b ≡ a
+pub tag-is : {A : Type 0} (x n : ℕ) (a b : A) → x ≡ n → cond (eqb x n) a b ≡ a
 tag-is x n a b h = ap (λ (t : Bool). cond t a b) (eq-eqb x n h)
 
-tag-not : {A : Type 0} (x n : ℕ) (a b : A) → (x ≡ n → ⊥) → cond (eqb x n) a b ≡ b
+pub tag-not : {A : Type 0} (x n : ℕ) (a b : A) → (x ≡ n → ⊥) → cond (eqb x n) a b ≡ b
 tag-not x n a b h = ap (λ (t : Bool). cond t a b) (ne-eqb x n h)
 
 module _ (s : Measures) where
@@ -137,16 +137,22 @@ module _ (s : Measures) where
       go (yes k) = store-long (x ∷ u) k
       go (no k) = rw (proper-short s u (omega arith), lt-leb 7 (suc (length u)) (omega arith)) refl
 
-  pub tag-request : (b : List ℕ) → 1 ≤ length b → getD b 0 0 ≡ 2 → readToNode s b ≡ cond (requestSound s b) (some (requestOf b)) none
-  unfolding readToNode requestSound
-  tag-request [] h e = absurd (omega arith)
-  tag-request (x ∷ u) h e = tag-not x 1 _ _ (λ q. omega arith) ∙ tag-is x 2 _ _ e ∙ go (decLe 6 (suc (length u)))
+  -- a version and nothing after it
+  pub alone : {C : Type 0} (make : Version → C) (x : ℕ) (u : List ℕ)
+      → chain (whole (readProper s) u) (λ v. some (make v)) ≡ cond (versionAlone s (x ∷ u)) (some (make (versionAt (x ∷ u) 1))) none
+  unfolding versionAlone
+  alone make x u = go (decLe 6 (suc (length u)))
     where
-      go : Dec (6 ≤ suc (length u)) → chain (whole (readProper s) u) (λ v. some (ToNode.request v)) ≡ cond (requestSound s (x ∷ u)) (some (requestOf (x ∷ u))) none
+      go : Dec (6 ≤ suc (length u)) → chain (whole (readProper s) u) (λ v. some (make v)) ≡ cond (versionAlone s (x ∷ u)) (some (make (versionAt (x ∷ u) 1))) none
       go (yes k) =
           let e : eqb (suc (length u)) 6 ≡ eqb (length (drop 5 u)) 0 = eqb-same (suc (length u)) 6 (length (drop 5 u)) 0 (λ q. omega (arith, length-drop 5 u)) (λ q. omega (arith, length-drop 5 u)) in
-          rw (proper-read s (x ∷ u) 1 k, e) (whole-of (properAt s (x ∷ u) 1) (versionAt (x ∷ u) 1) (drop 5 u) ToNode.request)
+          rw (proper-read s (x ∷ u) 1 k, e) (whole-of (properAt s (x ∷ u) 1) (versionAt (x ∷ u) 1) (drop 5 u) make)
       go (no k) = rw (proper-short s u (omega arith), ne-eqb (suc (length u)) 6 (λ q. omega arith)) refl
+
+  pub tag-request : (b : List ℕ) → 1 ≤ length b → getD b 0 0 ≡ 2 → readToNode s b ≡ cond (versionAlone s b) (some (requestOf b)) none
+  unfolding readToNode
+  tag-request [] h e = absurd (omega arith)
+  tag-request (x ∷ u) h e = tag-not x 1 _ _ (λ q. omega arith) ∙ tag-is x 2 _ _ e ∙ alone ToNode.request x u
 
   pub tag-free : (b : List ℕ) → 1 ≤ length b → getD b 0 0 ≡ 3 → readToNode s b ≡ cond (freeSound s b) (some (freeOf b)) none
   unfolding readToNode readVersions freeSound
@@ -188,14 +194,6 @@ module _ (s : Measures) where
 -- ---- what the code finds
 
 module _ (s : Measures) (b : List ℕ) where
-  pub proper-low : (at : ℕ) (v : Version) → v ≡ versionAt b at → v .sequence .0 < 1 → false ≡ properAt s b at
-  unfolding properAt
-  proper-low at v e h = rw (← e) (sym (simp (lt-leb 1 (v .sequence .0) h)))
-
-  pub proper-client : (at : ℕ) (v : Version) → v ≡ versionAt b at → 1 ≤ v .sequence .0 → ltb (v .client) (s .m) ≡ properAt s b at
-  unfolding properAt
-  proper-client at v e h = rw (← e) (sym (simp (le-leb 1 (v .sequence .0) h)))
-
   pub store-short : length b < 7 → false ≡ storeSound s b
   unfolding storeSound
   store-short h = sym (simp (lt-leb 7 (length b) h))
@@ -207,14 +205,6 @@ module _ (s : Measures) (b : List ℕ) where
   pub store-version : 7 ≤ length b → length b ≤ 6 + s .f → properAt s b 1 ≡ storeSound s b
   unfolding storeSound
   store-version h k = sym (simp (le-leb 7 (length b) h, le-leb (length b) (6 + s .f) k))
-
-  pub request-length : (length b ≡ 6 → ⊥) → false ≡ requestSound s b
-  unfolding requestSound
-  request-length h = sym (simp (ne-eqb (length b) 6 h))
-
-  pub request-version : length b ≡ 6 → properAt s b 1 ≡ requestSound s b
-  unfolding requestSound
-  request-version h = sym (ap (λ (x : Bool). x && properAt s b 1) (eq-eqb (length b) 6 h))
 
   pub free-length : ((length b - 1) % 5 ≡ 0 → ⊥) → false ≡ freeSound s b
   unfolding freeSound
@@ -230,10 +220,6 @@ module _ (s : Measures) (b : List ℕ) where
   store-sizes e =
       let a = and-true (leb 7 (length b)) (leb (length b) (6 + s .f)) (and-true (leb 7 (length b) && leb (length b) (6 + s .f)) (properAt s b 1) e .0) in
       (leb-true 7 (length b) (a .0), leb-true (length b) (6 + s .f) (a .1))
-
-  pub request-size : requestSound s b ≡ true → length b ≡ 6
-  unfolding requestSound
-  request-size e = eqb-true (length b) 6 (and-true (eqb (length b) 6) (properAt s b 1) e .0)
 
   pub free-ascends : freeSound s b ≡ true → ascending (versionsFrom b 1 ((length b - 1) / 5)) ≡ true
   unfolding freeSound

@@ -22,13 +22,13 @@ use Rattle.protocol.proofs.FormatLaws.{Each, length-area}
 use Rattle.protocol.proofs.EachLaws.{each-at}
 use Rattle.protocol.proofs.DirectoryLaws.{GoodRecord, format-fields, format-record}
 use Rattle.protocol.proofs.RowLaws.{GoodRow, FitsRow, format-row, format-directory, update-good, row-fits}
-use Rattle.parties.specs.declared.form.Ends.{Ends}
-use Rattle.parties.specs.declared.form.Parts.{Parts}
-use Rattle.parties.specs.Form.{rest, Ended, Recorded}
+use Rattle.records.specs.declared.form.Ends.{Ends}
+use Rattle.records.specs.declared.form.Parts.{Parts}
+use Rattle.records.specs.Form.{rest, Ended, Recorded}
 use Rattle.parties.specs.Room.{Built, renewed, Renewed}
-use Rattle.parties.proofs.FormLaws.{left-read, none-read}
-use Rattle.parties.proofs.RecordLaws.{bytes-drop, number-one, ended-left}
-use Rattle.parties.proofs.SizeLaws.{row-bound}
+use Rattle.records.proofs.FormLaws.{left-read, none-read}
+use Rattle.records.proofs.RecordLaws.{bytes-drop, number-one, ended-left}
+use Rattle.records.proofs.SizeLaws.{row-bound}
 use Rattle.parties.proofs.RoomLaws.{built-area}
 use Rattle.parties.proofs.UpdateLaws.{Shown, shown, renewed-row, row-bytes}
 
@@ -159,7 +159,7 @@ module _ {A : Type 0} (w : A → List ℕ) (g : A → Type 0) (k : ℕ) (same : 
       (sym (ap (drop (length (w a) + (i * k + k))) (append-assoc (w a) (writeMany w l) z) ∙ drop-append-add (w a) (writeMany w l ++ z) (i * k + k))))
 
   -- another value at a place
-  many-set : (l : List A) (i : ℕ) (a : A) → Each g l → i < length l
+  pub many-set : (l : List A) (i : ℕ) (a : A) → Each g l → i < length l
       → writeMany w (set l i a) ++ z ≡ (take (i * k) (writeMany w l ++ z) ++ w a) ++ drop (i * k + k) (writeMany w l ++ z)
   unfolding writeMany
   many-set [] i a h b = absurd (omega arith)

@@ -16,11 +16,11 @@ use Rattle.protocol.specs.Directory.{Field, Content, fields, readContent, write
 use Rattle.protocol.specs.Directory.{mapOf, writeRecord, Row, rowFields, writeRow, merge, updateRow}
 use Rattle.protocol.proofs.DirectoryLaws.{GoodRecord, format-content}
 use Rattle.protocol.proofs.RowLaws.{GoodRow, update-fields}
-use Rattle.parties.specs.declared.form.Ends.{Ends}
-use Rattle.parties.specs.Form.{rest, after, Ended}
+use Rattle.records.specs.declared.form.Ends.{Ends}
+use Rattle.records.specs.Form.{rest, after, Ended}
 use Rattle.parties.specs.Room.{range, renewed}
-use Rattle.parties.proofs.FormLaws.{left-read}
-use Rattle.parties.proofs.RecordLaws.{bytes-drop}
+use Rattle.records.proofs.FormLaws.{left-read}
+use Rattle.records.proofs.RecordLaws.{bytes-drop}
 
 -- a field's bytes, if it is there
 abbrev bytesOf : Option Content → List ℕ

@@ -1,17 +1,4 @@
 pub mod Answer
-pub mod Record
-pub mod Nodes
-pub mod Pick
-pub mod Form
 pub mod Room
-pub mod Places
 pub mod ToNode
 pub mod NodeCode
-pub mod Gate
-pub mod Draw
-pub mod Choose
-pub mod Found
-pub mod Freeze
-pub mod Publish
-pub mod Reply
-pub mod Tell

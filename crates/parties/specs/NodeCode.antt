@@ -15,7 +15,7 @@ use Rattle.protocol.specs.NodeTable.{Held, inOrder, readTable}
 use Rattle.protocol.specs.Node.{release}
 use Rattle.protocol.specs.Message.{readToNode}
 use Rattle.protocol.specs.NodeEvents.{NodeEnd, onMessage, tableSize, answerSize}
-use Rattle.parties.specs.Places.{versionAt, heldFrom, soundAt, soundTable, splice, placeOf, every}
+use Rattle.records.specs.Places.{versionAt, heldFrom, soundAt, soundTable, splice, placeOf, every}
 use Rattle.parties.specs.ToNode.{versionsFrom}
 
 -- measures, slices and table are sound

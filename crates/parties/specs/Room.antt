@@ -11,7 +11,7 @@ use Rattle.protocol.specs.declared.measures.Measures.{Measures}
 use Rattle.protocol.specs.Format.{whole, writeArea}
 use Rattle.protocol.specs.Measures.{rowSize}
 use Rattle.protocol.specs.Directory.{Content, Row, readRecord, readRow, writeRow, updateRow}
-use Rattle.parties.specs.declared.form.Ends.{Ends}
+use Rattle.records.specs.declared.form.Ends.{Ends}
 
 -- the room of the longest row
 pub record Built (p room : List ℕ) : Type 0 where

@@ -7,11 +7,7 @@ use lib.ListN.{length}
 use Rattle.protocol.specs.declared.measures.Measures.{Measures}
 use Rattle.protocol.specs.declared.version.Version.{Version}
 use Rattle.protocol.specs.Version.{none}
-use Rattle.protocol.specs.Message.{properVersion}
-use Rattle.parties.specs.Places.{versionAt, from, ordered}
-
-unfoldable pub properAt : Measures → List ℕ → ℕ → Bool
-properAt s b at = properVersion s (versionAt b at)
+use Rattle.records.specs.Places.{versionAt, properAt, from, ordered}
 
 -- the versions listed at n positions, and their form
 abbrev pub versionsFrom : List ℕ → ℕ → ℕ → List Version
@@ -23,9 +19,6 @@ listedFrom s b previous at n = ordered (properAt s b) (versionAt b) 5 previous a
 -- the form of each message after its tag
 unfoldable pub storeSound : Measures → List ℕ → Bool
 storeSound s b = (leb 7 (length b) && leb (length b) (6 + s .f)) && properAt s b 1
-
-unfoldable pub requestSound : Measures → List ℕ → Bool
-requestSound s b = eqb (length b) 6 && properAt s b 1
 
 unfoldable pub freeSound : Measures → List ℕ → Bool
 freeSound s b = eqb ((length b - 1) % 5) 0 && listedFrom s b none 1 ((length b - 1) / 5)

@@ -1,52 +1,8 @@
-// What the parties' functions answer.
-use protocol::version::Version;
+// What the directory and a node answer.
+use records::answer::Refusal;
 
-pub enum Refusal {
-    // 1: measures out of bounds
-    Measures,
-    // 2: a lent slice shorter than needed
-    Short,
-    // 3: client or node number out of bounds
-    Number,
-    // 4: a record, table, message or joined frame breaks its form
-    Form,
-    // 5: a start while an operation is open, or a directory answer not awaited
-    Turn,
-    // 6: page too long
-    TooLong,
-    // 7: the last number is in use
-    Spent,
-    // 8: a new version at a full node
-    Full,
-}
-
-// Of the directory and a node: refused, or so many bytes of answer at the front of the room.
+// Refused, or so many bytes of answer at the front of the room.
 pub enum Service {
     Refused(Refusal),
     Served(usize),
-}
-
-// Of an event at a client. What it sends stands in the room.
-pub enum ClientAnswer {
-    Refused(Refusal),
-    // Nothing more to do.
-    Waits,
-    // A scan of the directory is called.
-    Scan,
-    // An update is called, with a record of so many bytes at the front of the room.
-    Update(usize),
-    // Pieces of a version, each of so many bytes, to every node.
-    Stores(Version, usize),
-    // A request for a version, to the nodes of a bit map.
-    Requests(Version, u16),
-    // The deposit of a version ended; a free list's message of so many bytes to every node.
-    Deposited(Version, usize),
-    // The reading ended and found nothing.
-    Empty,
-    // The reading of a version ended with a page of so many bytes.
-    Page(Version, usize),
-    // 7 in a deposit, which ended.
-    Spent,
-    // 9: the reading ended.
-    Failed,
 }

@@ -1,14 +1,14 @@
 // The directory: a table of rows, one for each client, that is updated field by field and scanned whole.
-use crate::answer::Refusal;
 use crate::answer::Service;
-use crate::bytes::copy;
-use crate::form::Ends;
-use crate::form::Parts;
-use crate::form::directory;
-use crate::form::field_ends;
-use crate::form::row_size;
-use crate::form::whole_record;
 use protocol::measures::Measures;
+use records::answer::Refusal;
+use records::bytes::copy;
+use records::form::Ends;
+use records::form::Parts;
+use records::form::directory;
+use records::form::field_ends;
+use records::form::row_size;
+use records::form::whole_record;
 ghost use mathlib.Core.Path.{_≡_};
 ghost use mathlib.Core.Bool.{true};
 ghost use mathlib.Core.List.{_++_};
@@ -21,7 +21,7 @@ ghost use Rattle.protocol.specs.Measures.{passes, rowSize};
 ghost use Rattle.protocol.specs.Directory.{freshRow, writeRow, readRow};
 ghost use Rattle.protocol.specs.DirectoryEvents.{directoryFresh, directoryUpdate, directoryScan};
 ghost use Rattle.parties.specs.Answer.{served};
-ghost use Rattle.parties.specs.Form.{rest, Recorded};
+ghost use Rattle.records.specs.Form.{rest, Recorded};
 ghost use Rattle.parties.specs.Room.{Built, Ordered, Renewed, part, renewed};
 
 // A fresh row: the map of all fields, and pointers that are none; the rest is zero. The longest row, of 8 clients and 16 digests a

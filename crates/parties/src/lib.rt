@@ -1,17 +1,4 @@
 pub mod answer;
-mod bytes;
-mod choose;
-pub mod client;
 pub mod directory;
-mod draw;
-pub mod event;
-mod form;
-mod gate;
 mod message;
 pub mod node;
-mod nodes;
-mod notice;
-pub mod phase;
-pub mod pick;
-mod record;
-mod tell;

@@ -1,39 +1,14 @@
 // Messages to a node: their forms.
-use crate::bytes::u32_at;
 use protocol::measures::Measures;
 use protocol::version::Sequence;
 use protocol::version::Version;
+use records::version::proper_at;
+use records::version::version_at;
 ghost use mathlib.Core.Path.{_≡_};
 ghost use Prim.Native.Nat.{_+_, _*_, _≤_};
 ghost use lib.ListN.{length};
 ghost use Rattle.protocol.specs.Version.{none};
-ghost use Rattle.parties.specs.Places.{versionAt};
-ghost use Rattle.parties.specs.ToNode.{properAt, listedFrom, storeSound, requestSound, freeSound};
-
-// The version in the five bytes at a place.
-pub fn version_at(t: &[u8], at: usize) -> Version
-    requires { ⌜ at + 5 ≤ length (now t) ⌝ }
-    ensures { λ r. ⌜ r ≡ versionAt (now (t .entry)) at ⌝ }
-{
-    let q = u32_at(t, at);
-    Version {
-        sequence: Sequence(q),
-        client: t[at + 4],
-    }
-}
-
-// A version that a message names has a sequence of at least 1 and a client below m.
-fn proper_at(s: Measures, b: &[u8], at: usize) -> bool
-    requires { ⌜ at + 5 ≤ length (now b) ⌝ }
-    ensures { λ r. ⌜ r ≡ properAt s (now (b .entry)) at ⌝ }
-{
-    let v = version_at(b, at);
-    let q = v.sequence;
-    if q.0 < 1 {
-        return false;
-    }
-    (v.client as usize) < s.m
-}
+ghost use Rattle.parties.specs.ToNode.{listedFrom, storeSound, freeSound};
 
 // A version, then a piece of 1 to F bytes.
 pub fn store_sound(s: Measures, b: &[u8]) -> bool
@@ -44,16 +19,6 @@ pub fn store_sound(s: Measures, b: &[u8]) -> bool
         return false;
     }
     if 6 + s.f < b.len() {
-        return false;
-    }
-    proper_at(s, b, 1)
-}
-
-// A version alone.
-pub fn request_sound(s: Measures, b: &[u8]) -> bool
-    ensures { λ r. ⌜ r ≡ requestSound s (now (b .entry)) ⌝ }
-{
-    if b.len() != 6 {
         return false;
     }
     proper_at(s, b, 1)

@@ -1,20 +1,20 @@
 // A data node's events on its lent table.
-use crate::answer::Refusal;
 use crate::answer::Service;
-use crate::bytes::clear;
-use crate::bytes::copy;
-use crate::bytes::move_down;
-use crate::bytes::move_up;
-use crate::bytes::put_u16;
-use crate::bytes::u16_at;
-use crate::bytes::zero_run;
 use crate::message::free_sound;
-use crate::message::request_sound;
 use crate::message::store_sound;
-use crate::message::version_at;
 use protocol::measures::Measures;
 use protocol::version::Sequence;
 use protocol::version::Version;
+use records::answer::Refusal;
+use records::bytes::clear;
+use records::bytes::copy;
+use records::bytes::move_down;
+use records::bytes::move_up;
+use records::bytes::put_u16;
+use records::bytes::u16_at;
+use records::bytes::zero_run;
+use records::version::version_alone;
+use records::version::version_at;
 ghost use mathlib.Core.Path.{_≡_};
 ghost use mathlib.Core.Bool.{true};
 ghost use mathlib.Core.List.{_∷_};
@@ -24,8 +24,8 @@ ghost use Rattle.protocol.specs.Measures.{passes, places, placeSize};
 ghost use Rattle.protocol.specs.Version.{none};
 ghost use Rattle.protocol.specs.NodeEvents.{nodeFresh, nodeMessage};
 ghost use Rattle.parties.specs.Answer.{served};
-ghost use Rattle.parties.specs.Places.{numberAt, soundAt, soundFrom, soundTable, rank, standsAt, splice, placeOf};
-ghost use Rattle.parties.specs.ToNode.{storeSound, requestSound};
+ghost use Rattle.records.specs.Places.{numberAt, soundAt, soundFrom, soundTable, rank, standsAt, splice, placeOf, versionAlone};
+ghost use Rattle.parties.specs.ToNode.{storeSound};
 ghost use Rattle.parties.specs.NodeCode.{Ready, Ends, event, broughtBy, inserted, listBehind, listNames, Listed, Released};
 
 // The length in the two bytes at a place.
@@ -196,7 +196,7 @@ fn store(s: Measures, t: &mut [u8], b: &[u8], room: &mut [u8]) -> Service
 
 // A piece is handed back, or "not held".
 fn hand_back(s: Measures, t: &[u8], b: &[u8], room: &mut [u8]) -> Service
-    requires { ⌜ Ready s (now t) (now room) × (1 ≤ length (now b)) × (getD (now b) 0 0 ≡ 2) × (requestSound s (now b) ≡ true) ⌝ }
+    requires { ⌜ Ready s (now t) (now room) × (1 ≤ length (now b)) × (getD (now b) 0 0 ≡ 2) × (versionAlone s (now b) ≡ true) ⌝ }
     ensures { λ r. ⌜ Ends (event s (now (t .entry)) (now (b .entry)) (now (room .entry))) (served r) (now (t .entry)) (now (room .exit)) ⌝ }
 {
     let z = 7 + s.f;
@@ -219,7 +219,7 @@ fn request(s: Measures, t: &[u8], b: &[u8], room: &mut [u8]) -> Service
     requires { ⌜ Ready s (now t) (now room) × (1 ≤ length (now b)) × (getD (now b) 0 0 ≡ 2) ⌝ }
     ensures { λ r. ⌜ Ends (event s (now (t .entry)) (now (b .entry)) (now (room .entry))) (served r) (now (t .entry)) (now (room .exit)) ⌝ }
 {
-    if !request_sound(s, b) {
+    if !version_alone(s, b) {
         return Service::Refused(Refusal::Form);
     }
     hand_back(s, t, b, room)

@@ -1,13 +1,13 @@
 // The directory and the data node for C and Rust: each function takes numbers and slices, requires nothing, and answers with one
 // number. An answer's length is below 2^32, so that a refusal is told apart by that bit.
-use parties::answer::Refusal;
 use parties::answer::Service;
 use protocol::measures::Measures;
+use records::answer::Refusal;
 ghost use mathlib.Core.Path.{_≡_};
 ghost use Rattle.protocol.specs.Answer.{refuses};
 ghost use Rattle.protocol.specs.DirectoryEvents.{directoryFresh, directoryUpdate, directoryScan};
 ghost use Rattle.protocol.specs.NodeEvents.{nodeFresh, nodeMessage};
-ghost use Rattle.parties.specs.Answer.{number, served};
+ghost use Rattle.records.specs.Answer.{number, served};
 ghost use Rattle.parties_export.specs.Code.{measured, code};
 
 fn refused(r: Refusal) -> u64

@@ -1,13 +1,13 @@
 // One call, and its line.
 use crate::input;
 use crate::input::Call;
-use parties::answer::Refusal;
 use parties::answer::Service;
 use parties::directory;
 use parties::node;
 use protocol::measures::Measures;
+use records::answer::Refusal;
 ghost use mathlib.Core.Path.{_≡_};
-ghost use Rattle.parties.specs.Answer.{number as numberOf};
+ghost use Rattle.records.specs.Answer.{number as numberOf};
 
 fn document_number(r: Refusal) -> usize
     ensures { λ x. ⌜ x ≡ numberOf r ⌝ }

@@ -3,7 +3,7 @@ use mathlib.Core.Path.{sym, ap}
 use Prim.Native.Nat.{ℕ}
 use Rattle.protocol.specs.Answer.{refuses}
 use Rattle.parties.specs.declared.answer.Refusal.{Refusal}
-use Rattle.parties.specs.Answer.{number}
+use Rattle.records.specs.Answer.{number}
 use Rattle.parties_export.specs.Code.{code}
 use Rattle.parties_export.proofs.refused.Statement.{statement}
 use Rattle.parties_export.proofs.refused.Tie as tie

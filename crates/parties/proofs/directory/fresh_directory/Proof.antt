@@ -9,7 +9,7 @@ use lib.ListN.{drop}
 use Rattle.protocol.specs.Measures.{passes}
 use Rattle.protocol.specs.Directory.{writeRow, freshRow}
 use Rattle.protocol.specs.DirectoryEvents.{directorySize}
-use Rattle.parties.proofs.SizeLaws.{row-bound, table-bound}
+use Rattle.records.proofs.SizeLaws.{row-bound, table-bound}
 use Rattle.parties.proofs.RoomLaws.{built-length}
 use Rattle.parties.proofs.FreshLaws.{fresh-rows, fresh-measures, fresh-short, fresh-written}
 use Rattle.parties.proofs.DirectoryEndLaws.{ends-table}

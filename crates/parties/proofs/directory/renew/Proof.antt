@@ -4,10 +4,10 @@ use Prim.Native.Nat.{_+_}
 use native.Mathlib.Omega.{arith}
 use lib.ListN.{drop}
 use Rattle.protocol.specs.Measures.{rowSize}
-use Rattle.parties.specs.Form.{Ended}
+use Rattle.records.specs.Form.{Ended}
 use Rattle.parties.specs.Room.{Renewed}
-use Rattle.parties.proofs.SizeLaws.{row-bound}
-use Rattle.parties.proofs.RecordLaws.{parted-sound, parted-broken}
+use Rattle.records.proofs.SizeLaws.{row-bound}
+use Rattle.records.proofs.RecordLaws.{parted-sound, parted-broken}
 use Rattle.parties.proofs.RoomLaws.{built-length}
 use Rattle.parties.proofs.UpdateEndLaws.{row-fields-sound, renewed-fits, renewed-end}
 use Rattle.parties.proofs.directory.renew.Statement.{statement}

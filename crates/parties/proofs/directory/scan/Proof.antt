@@ -10,7 +10,7 @@ use lib.ListN.{take, drop}
 use Rattle.protocol.specs.Measures.{passes, rowSize}
 use Rattle.protocol.specs.Answer.{serves}
 use Rattle.protocol.specs.DirectoryEvents.{directorySize}
-use Rattle.parties.proofs.SizeLaws.{table-bound}
+use Rattle.records.proofs.SizeLaws.{table-bound}
 use Rattle.parties.proofs.DirectoryEndLaws.{ends-room, scan-measures, scan-short-table, scan-short-room, scan-broken, scan-rows}
 use Rattle.parties.proofs.directory.scan.Statement.{statement}
 use Rattle.parties.proofs.directory.scan.Tie as tie

@@ -9,10 +9,10 @@ use lib.ListN.{length, drop}
 use Rattle.protocol.specs.Measures.{passes, rowSize}
 use Rattle.protocol.specs.Directory.{readDirectory, readRow}
 use Rattle.protocol.specs.DirectoryEvents.{directorySize}
-use Rattle.parties.specs.declared.form.Parts.{Parts}
-use Rattle.parties.specs.Form.{rest, Recorded}
+use Rattle.records.specs.declared.form.Parts.{Parts}
+use Rattle.records.specs.Form.{rest, Recorded}
 use Rattle.parties.specs.Room.{Renewed}
-use Rattle.parties.proofs.SizeLaws.{table-bound, below-rows}
+use Rattle.records.proofs.SizeLaws.{table-bound, below-rows}
 use Rattle.parties.proofs.DirectoryEndLaws.{ends-table}
 use Rattle.parties.proofs.UpdateEndLaws.{recorded-sound, recorded-broken, own-row-left, update-measures, update-short, update-number, update-broken-table, update-broken-record, update-done}
 use Rattle.parties.proofs.directory.update.Statement.{statement}

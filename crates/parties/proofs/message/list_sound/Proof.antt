@@ -5,9 +5,9 @@ use native.Mathlib.Omega.{arith}
 use borrow.Author.Tests.{not-true, not-false}
 use lib.ListN.{length}
 use Rattle.protocol.specs.Version.{none}
-use Rattle.parties.specs.Places.{versionAt}
-use Rattle.parties.specs.ToNode.{properAt, listedFrom}
-use Rattle.parties.proofs.PositionLaws.{ordered-end, ordered-broken, ordered-not, ordered-next}
+use Rattle.records.specs.Places.{versionAt, properAt}
+use Rattle.parties.specs.ToNode.{listedFrom}
+use Rattle.records.proofs.PositionLaws.{ordered-end, ordered-broken, ordered-not, ordered-next}
 use Rattle.parties.proofs.message.list_sound.Statement.{statement}
 use Rattle.parties.proofs.message.list_sound.Tie as tie
 

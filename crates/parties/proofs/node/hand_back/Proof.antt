@@ -3,7 +3,7 @@ use mathlib.Core.Path.{refl, sym, _∙_}
 use native.Mathlib.Omega.{arith}
 use borrow.Author.Tests.{not-true, not-false}
 use lib.ListN.{length-set}
-use Rattle.parties.proofs.ToNodeLaws.{request-size}
+use Rattle.records.proofs.PlaceLaws.{alone-size}
 use Rattle.parties.proofs.NodeEndLaws.{filled, ranked, stands-inside, stands-short, request-absent, request-found}
 use Rattle.parties.proofs.node.hand_back.Statement.{statement}
 use Rattle.parties.proofs.node.hand_back.Tie as tie
@@ -17,7 +17,7 @@ length-at-requires c κs = search needs
 version-at-requires : tie.Need-version-at-requires
 version-at-requires c κs =
     let a = c .before .before .before .before .before .args in
-    omega (arith, request-size (a .s) (a .b .now) (c .before .before .before .before .before .pre .3))
+    omega (arith, alone-size (a .s) (a .b .now) (c .before .before .before .before .before .pre .3))
 
 seek-requires : tie.Need-seek-requires
 seek-requires c κs =
@@ -31,7 +31,7 @@ put-head-requires : tie.Need-put-head-requires
 put-head-requires c κs =
     let p = c .before .before .before .before .before .before .before .before .pre in
     let a = c .before .before .before .before .before .before .before .before .args in
-    omega (arith, p .0 .answer, request-size (a .s) (a .b .now) (p .3))
+    omega (arith, p .0 .answer, alone-size (a .s) (a .b .now) (p .3))
 
 stands-requires : tie.Need-stands-requires
 stands-requires c κs =

@@ -1,7 +1,7 @@
 use borrow.Author.Needs.{needs}
 use mathlib.Core.Path.{_∙_}
 use native.Mathlib.Omega.{arith}
-use Rattle.parties.proofs.SpliceLaws.{splice-self, lowered}
+use Rattle.records.proofs.SpliceLaws.{splice-self, lowered}
 use Rattle.parties.proofs.node.lower.Statement.{statement}
 use Rattle.parties.proofs.node.lower.Tie as tie
 

@@ -3,8 +3,8 @@ use Prim.Native.Nat.{_+_, _-_, _*_, _≤_}
 use native.Mathlib.Omega.{arith}
 use borrow.Author.Tests.{not-true, not-false}
 use Rattle.coding.proofs.BytesLaws.{stride}
-use Rattle.parties.specs.Places.{rank}
-use Rattle.parties.proofs.PositionLaws.{place-less}
+use Rattle.records.specs.Places.{rank}
+use Rattle.records.proofs.PositionLaws.{place-less}
 use Rattle.parties.proofs.SeekLaws.{rank-end, rank-found, rank-on}
 use Rattle.parties.proofs.node.seek.Statement.{statement}
 use Rattle.parties.proofs.node.seek.Tie as tie

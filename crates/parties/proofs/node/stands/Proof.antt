@@ -2,7 +2,7 @@ use borrow.Author.Needs.{needs}
 use mathlib.Core.Path.{ap, _∙_}
 use mathlib.Core.Bool.{not}
 use native.Mathlib.Omega.{arith}
-use Rattle.parties.proofs.PositionLaws.{place-less}
+use Rattle.records.proofs.PositionLaws.{place-less}
 use Rattle.parties.proofs.SeekLaws.{stands-none, stands-here}
 use Rattle.parties.proofs.node.stands.Statement.{statement}
 use Rattle.parties.proofs.node.stands.Tie as tie

@@ -1,0 +1,278 @@
+-- A client's record in its parts: where each field stands in the area, and what another phase writes there.
+use mathlib.Core.Path.{_≡_, sym, ap, _∙_}
+use mathlib.Core.Bool.{true}
+use mathlib.Core.List.{List, [], _∷_, _++_, append-assoc}
+use mathlib.Core.Option.{some}
+use Prim.Native.Nat.{ℕ, zero, suc, _+_, _-_, _*_, _%_, _^_, _<_}
+use native.Mathlib.Nat.{suc-mul}
+use native.Mathlib.Omega.{arith}
+use lib.ListN.{length, getD, take, drop, replicate, length-append, take-append-drop}
+use lib.Seq.{take-at, drop-at, drop-append-add, drop-drop, take-all, paste}
+use Rattle.coding.specs.Bytes.{Bytes}
+use Rattle.coding.proofs.PageLaws.{some-eq}
+use Rattle.protocol.specs.declared.measures.Measures.{Measures}
+use Rattle.protocol.specs.declared.version.ReadingIndex.{ReadingIndex}
+use Rattle.protocol.specs.Format.{Read, readNumber, writeNumber, writeMany, writeArea}
+use Rattle.protocol.specs.Measures.{passes, pointerSize}
+use Rattle.protocol.specs.Version.{none as noVersion}
+use Rattle.protocol.specs.Pointer.{Pointer, nonePointer, readPointer, writePointer, writeVersion}
+use Rattle.protocol.specs.Directory.{writeIndex}
+use Rattle.protocol.specs.Client.{Phase as Work, step as stepOf, Client, writeWork, workSize, writeRetained, retained, readClient, writeClient}
+use Rattle.protocol.proofs.FormatLaws.{format-number, Each, length-area, length-same}
+use Rattle.protocol.proofs.MeasureLaws.{passed}
+use Rattle.protocol.proofs.PointerLaws.{GoodPointer, format-pointer, length-number, length-version}
+use Rattle.protocol.proofs.DirectoryLaws.{GoodIndex, length-index}
+use Rattle.protocol.proofs.RowLaws.{pointer-fits}
+use Rattle.protocol.proofs.BytesWritten.{bytes-cons, bytes-append, bytes-number}
+use Rattle.protocol.proofs.ClientLaws.{GoodPhase, GoodReserved, GoodClient, client-only, work-fits, length-retained, step-byte}
+use Rattle.client.specs.declared.phase.Phase.{Phase}
+use Rattle.client.specs.Record.{recordOf, areaSize, workAt}
+
+-- ---- lists
+
+-- past a first part
+pub drop-past : (p q : List ℕ) (n j k : ℕ) → length p ≡ n → k ≡ n + j → drop k (p ++ q) ≡ drop j q
+drop-past p q n j k e f = let g : k ≡ length p + j = omega arith in rw g (drop-append-add p q j)
+
+-- one of many values of one length
+pub many-part : {A : Type 0} (w : A → List ℕ) (g : A → Type 0) (k : ℕ) → ((a : A) → g a → length (w a) ≡ k) → (d : A) (l : List A) → Each g l
+    → (i : ℕ) → i < length l → (t : List ℕ) → take k (drop (i * k) (writeMany w l ++ t)) ≡ w (getD l i d)
+unfolding writeMany
+many-part w g k h d [] e i b t = absurd (omega arith)
+many-part w g k h d (a ∷ l) e zero b t =
+    let z : 0 * k ≡ 0 = omega arith in
+    rw z (ap (take k) (append-assoc (w a) (writeMany w l) t) ∙ take-at (w a) (writeMany w l ++ t) k (h a (e .0)))
+many-part w g k h d (a ∷ l) e (suc i) b t =
+    ap (λ (x : List ℕ). take k (drop (suc i * k) x)) (append-assoc (w a) (writeMany w l) t)
+    ∙ ap (take k) (drop-past (w a) (writeMany w l ++ t) k (i * k) (suc i * k) (h a (e .0)) (omega (arith, suc-mul i k)))
+    ∙ many-part w g k h d l (e .1) i (omega arith) t
+
+number-same : (w m n : ℕ) → m < 256 ^ w → n < 256 ^ w → writeNumber w m ≡ writeNumber w n → m ≡ n
+number-same w m n a b e =
+    ap (λ (r : Read ℕ). r .value)
+    (some-eq (sym (format-number w .back m a []) ∙ ap (λ (l : List ℕ). readNumber w (l ++ [])) e ∙ format-number w .back n b []))
+
+-- ---- the record in its parts
+
+-- the phase and the area hold a client's record; what stands beyond it is `rest`
+pub record Shown (s : Measures) (p : Phase) (area : List ℕ) (c : Client) (rest : List ℕ) : Type 0 where
+  pub good : GoodClient s c
+  pub stands : p .step ≡ stepOf (c .phase)
+  pub reading : p .reading ≡ c .readingIndex
+  pub parts : area ≡ writeRetained s (retained c) ++ (writeArea (workSize s) (writeWork s) (c .phase) ++ rest)
+
+pub byte-written : (n : ℕ) (l : List ℕ) → n % 256 ≡ n → writeNumber 1 n ++ l ≡ n ∷ l
+unfolding writeNumber
+byte-written n l e = ap (λ (x : ℕ). x ∷ l) e
+
+-- a client as the code writes it
+pub written-parts : (s : Measures) (c : Client) (rest : List ℕ)
+    → writeClient s c ++ rest
+    ≡ recordOf (record { step = stepOf (c .phase); reading = c .readingIndex })
+    (writeRetained s (retained c) ++ (writeArea (workSize s) (writeWork s) (c .phase) ++ rest))
+unfolding writeClient writeIndex
+written-parts s c rest =
+    let a = writeNumber 4 (c .readingIndex .0) in
+    let b = writeRetained s (retained c) in
+    let d = writeArea (workSize s) (writeWork s) (c .phase) in
+    let n : stepOf (c .phase) % 256 ≡ stepOf (c .phase) = omega (arith, step-byte (c .phase)) in
+    append-assoc (writeNumber 1 (stepOf (c .phase))) (a ++ (b ++ d)) rest
+    ∙ byte-written (stepOf (c .phase)) ((a ++ (b ++ d)) ++ rest) n
+    ∙ ap (λ (l : List ℕ). stepOf (c .phase) ∷ l) (append-assoc a (b ++ d) rest ∙ ap (λ (l : List ℕ). a ++ l) (append-assoc b d rest))
+
+pub shown : (s : Measures) (p : Phase) (area : List ℕ) → p .step < 256 → p .reading .0 < 256 ^ 4 → Bytes area
+    → (r : Read Client) → readClient s (recordOf p area) ≡ some r → Shown s p area (r .value) (r .rest)
+shown s p area hs hr b r e =
+    let n = writeNumber 4 (p .reading .0) in
+    let x = client-only s (recordOf p area) r (bytes-cons (p .step) (n ++ area) hs (bytes-append n area (bytes-number 4 (p .reading .0)) b)) e in
+    let c = r .value in
+    let m = writeNumber 4 (c .readingIndex .0) in
+    let t = writeRetained s (retained c) ++ (writeArea (workSize s) (writeWork s) (c .phase) ++ r .rest) in
+    let f : recordOf p area ≡ stepOf (c .phase) ∷ (m ++ t) = x .1 ∙ written-parts s c (r .rest) in
+    let g : n ++ area ≡ m ++ t = ap (drop 1) f in
+    let i : n ≡ m =
+    sym (take-at n area 4 (length-number 4 (p .reading .0))) ∙ ap (take 4) g ∙ take-at m t 4 (length-number 4 (c .readingIndex .0))
+    in
+    let v : p .reading .0 ≡ c .readingIndex .0 = number-same 4 (p .reading .0) (c .readingIndex .0) hr (x .0 .index) i in
+    record {
+      good = x .0;
+      stands = ap (λ (l : List ℕ). getD l 0 0) f;
+      reading = λ j. record { 0 = v j };
+      parts =
+          sym (drop-at n area 4 (length-number 4 (p .reading .0))) ∙ ap (drop 4) g ∙ drop-at m t 4 (length-number 4 (c .readingIndex .0));
+    }
+
+-- where the fields stand
+module _ (s : Measures) (h : passes s ≡ true) (p : Phase) (area : List ℕ) (c : Client) (rest : List ℕ) (x : Shown s p area c rest) where
+  work-length : length (writeArea (workSize s) (writeWork s) (c .phase)) ≡ workSize s
+  work-length = length-area (workSize s) (writeWork s) (c .phase) (work-fits s (passed s h) (c .phase) (x .good .phase))
+
+  pub area-length : length area ≡ areaSize s + length rest
+  area-length =
+      let r = writeRetained s (retained c) in
+      let w = writeArea (workSize s) (writeWork s) (c .phase) in
+      omega (arith, ap length (x .parts), length-append r (w ++ rest), length-append w rest, length-retained s c (x .good), work-length)
+
+  pub retained-part : take (workAt s) area ≡ writeRetained s (retained c)
+  retained-part =
+      ap (take (workAt s)) (x .parts)
+      ∙ take-at (writeRetained s (retained c)) (writeArea (workSize s) (writeWork s) (c .phase) ++ rest) (workAt s) (length-retained s c (x .good))
+
+  pub work-onward : drop (workAt s) area ≡ writeArea (workSize s) (writeWork s) (c .phase) ++ rest
+  work-onward =
+      ap (drop (workAt s)) (x .parts)
+      ∙ drop-at (writeRetained s (retained c)) (writeArea (workSize s) (writeWork s) (c .phase) ++ rest) (workAt s) (length-retained s c (x .good))
+
+  pub work-part : take (workSize s) (drop (workAt s) area) ≡ writeArea (workSize s) (writeWork s) (c .phase)
+  work-part = ap (take (workSize s)) work-onward ∙ take-at (writeArea (workSize s) (writeWork s) (c .phase)) rest (workSize s) work-length
+
+  -- the work as it is written, then its spare bytes
+  pub work-front : drop (workAt s) area
+      ≡ writeWork s (c .phase) ++ (replicate (workSize s - length (writeWork s (c .phase))) 0 ++ rest)
+  unfolding writeArea
+  work-front = work-onward ∙ append-assoc (writeWork s (c .phase)) (replicate (workSize s - length (writeWork s (c .phase))) 0) rest
+
+  pub beyond : drop (workAt s + workSize s) area ≡ rest
+  beyond =
+      sym (drop-drop (workSize s) (workAt s) area) ∙ ap (drop (workSize s)) work-onward
+      ∙ drop-at (writeArea (workSize s) (writeWork s) (c .phase)) rest (workSize s) work-length
+
+-- the area starts with what the client retains; the rest follows
+pub record Retains (s : Measures) (area : List ℕ) (c : Client) (rest : List ℕ) : Type 0 where
+  pub good : GoodClient s c
+  pub parts : area ≡ writeRetained s (retained c) ++ rest
+
+pub shown-retains : (s : Measures) (p : Phase) (area : List ℕ) (c : Client) (rest : List ℕ) → Shown s p area c rest
+    → Retains s area c (writeArea (workSize s) (writeWork s) (c .phase) ++ rest)
+shown-retains s p area c rest x = record { good = x .good; parts = x .parts }
+
+-- where its fields stand
+module _ (s : Measures) (area : List ℕ) (c : Client) (rest : List ℕ) (x : Retains s area c rest) where
+  abbrev areaOf : Pointer → List ℕ
+  areaOf = writeArea (pointerSize s) writePointer
+
+  area-fields : area
+      ≡ writeMany areaOf (c .written ∷ c .frozen) ++ (writeMany writeVersion (c .reserved) ++ (writeMany writeIndex (c .frozenIndices) ++ rest))
+  unfolding writeRetained writeMany
+  area-fields =
+      let a = areaOf (c .written) in
+      let b = writeMany areaOf (c .frozen) in
+      let v = writeMany writeVersion (c .reserved) in
+      let i = writeMany writeIndex (c .frozenIndices) in
+      x .parts ∙ append-assoc a (b ++ (v ++ i)) rest
+      ∙ ap (λ (l : List ℕ). a ++ l) (append-assoc b (v ++ i) rest ∙ ap (λ (l : List ℕ). b ++ l) (append-assoc v i rest))
+      ∙ sym (append-assoc a b (v ++ (i ++ rest)))
+
+  pointers-good : Each (GoodPointer s) (c .written ∷ c .frozen)
+  pointers-good = (x .good .written, x .good .frozen .0)
+
+  pointer-length : (q : Pointer) → GoodPointer s q → length (areaOf q) ≡ pointerSize s
+  pointer-length q g = length-area (pointerSize s) writePointer q (pointer-fits s q g)
+
+  pointers-length : length (writeMany areaOf (c .written ∷ c .frozen)) ≡ (s .m + 1) * pointerSize s
+  pointers-length =
+      length-same areaOf (GoodPointer s) (pointerSize s) pointer-length (c .written ∷ c .frozen) pointers-good
+      ∙ ap (λ (n : ℕ). n * pointerSize s) (let e : suc (length (c .frozen)) ≡ s .m + 1 = omega (arith, x .good .frozen .1) in e)
+
+  reserved-length : length (writeMany writeVersion (c .reserved)) ≡ 5 * s .m
+  reserved-length =
+      length-same writeVersion (GoodReserved s) 5 (λ v g. length-version v) (c .reserved) (x .good .reserved .0) ∙ omega (arith, x .good .reserved .1)
+
+  pub written-part : take (pointerSize s) area ≡ writeArea (pointerSize s) writePointer (c .written)
+  written-part =
+      let z : 0 * pointerSize s ≡ 0 = omega arith in
+      ap (take (pointerSize s)) area-fields
+      ∙ ap (λ (n : ℕ). take (pointerSize s) (drop n (writeMany areaOf (c .written ∷ c .frozen) ++ (writeMany writeVersion (c .reserved) ++ (writeMany writeIndex (c .frozenIndices) ++ rest))))) (sym z)
+      ∙ many-part areaOf (GoodPointer s) (pointerSize s) pointer-length nonePointer (c .written ∷ c .frozen) pointers-good 0 (omega arith) _
+
+  pub frozen-part : (q : ℕ) → q < s .m
+      → take (pointerSize s) (drop ((q + 1) * pointerSize s) area) ≡ writeArea (pointerSize s) writePointer (getD (c .frozen) q nonePointer)
+  frozen-part q b =
+      let e : q + 1 ≡ suc q = omega arith in
+      let l : suc q < suc (length (c .frozen)) = omega (arith, x .good .frozen .1) in
+      rw e
+      (ap (λ (t : List ℕ). take (pointerSize s) (drop (suc q * pointerSize s) t)) area-fields
+      ∙ many-part areaOf (GoodPointer s) (pointerSize s) pointer-length nonePointer (c .written ∷ c .frozen) pointers-good (suc q) l _)
+
+  pub reserved-part : (q : ℕ) → q < s .m
+      → take 5 (drop ((s .m + 1) * pointerSize s + 5 * q) area) ≡ writeVersion (getD (c .reserved) q noVersion)
+  reserved-part q b =
+      let f = writeMany areaOf (c .written ∷ c .frozen) in
+      let t = writeMany writeIndex (c .frozenIndices) ++ rest in
+      ap (λ (l : List ℕ). take 5 (drop ((s .m + 1) * pointerSize s + 5 * q) l)) area-fields
+      ∙ ap (take 5)
+      (drop-past f (writeMany writeVersion (c .reserved) ++ t) ((s .m + 1) * pointerSize s) (q * 5) ((s .m + 1) * pointerSize s + 5 * q) pointers-length (omega arith))
+      ∙ many-part writeVersion (GoodReserved s) 5 (λ v g. length-version v) noVersion (c .reserved) (x .good .reserved .0) q
+      (omega (arith, x .good .reserved .1)) t
+
+  pub index-part : (q : ℕ) → q < s .m
+      → take 4 (drop ((s .m + 1) * pointerSize s + 5 * s .m + 4 * q) area) ≡ writeIndex (getD (c .frozenIndices) q (record { 0 = 0 }))
+  index-part q b =
+      let f = writeMany areaOf (c .written ∷ c .frozen) in
+      let v = writeMany writeVersion (c .reserved) in
+      let i = writeMany writeIndex (c .frozenIndices) in
+      let at = (s .m + 1) * pointerSize s + 5 * s .m + 4 * q in
+      ap (λ (l : List ℕ). take 4 (drop at l)) area-fields
+      ∙ ap (take 4)
+      (drop-past f (v ++ (i ++ rest)) ((s .m + 1) * pointerSize s) (5 * s .m + 4 * q) at pointers-length (omega arith)
+      ∙ drop-past v (i ++ rest) (5 * s .m) (q * 4) (5 * s .m + 4 * q) reserved-length (omega arith))
+      ∙ many-part writeIndex GoodIndex 4 (λ n g. length-index n) (record { 0 = 0 }) (c .frozenIndices) (x .good .indices .0) q
+      (omega (arith, x .good .indices .1)) rest
+
+-- a pointer that stands in its area at a place reads there
+pub area-reads : (s : Measures) (t : List ℕ) (at : ℕ) (q : Pointer) → GoodPointer s q
+    → take (pointerSize s) (drop at t) ≡ writeArea (pointerSize s) writePointer q
+    → readPointer s (drop at t)
+    ≡ some (record { value = q; rest = replicate (pointerSize s - length (writePointer q)) 0 ++ drop (at + pointerSize s) t })
+unfolding writeArea
+area-reads s t at q g e =
+    let z : List ℕ = replicate (pointerSize s - length (writePointer q)) 0 in
+    ap (readPointer s)
+    (sym (take-append-drop (pointerSize s) (drop at t))
+    ∙ (λ i. e i ++ drop-drop (pointerSize s) at t i)
+    ∙ append-assoc (writePointer q) z (drop (at + pointerSize s) t))
+    ∙ format-pointer s .back q g (z ++ drop (at + pointerSize s) t)
+
+-- ---- the record of another phase
+
+-- an idle client's work is zeros
+pub idle-work : (s : Measures) → writeArea (workSize s) (writeWork s) Work.idle ≡ replicate (workSize s) 0
+unfolding writeArea writeWork
+idle-work s = let e : workSize s - 0 ≡ workSize s = omega arith in ap (λ (n : ℕ). replicate n 0) e
+
+-- a client in another phase, with another reading index
+abbrev pub turnedTo : Work → ReadingIndex → Client → Client
+turnedTo q i c =
+    record {
+      phase = q;
+      readingIndex = i;
+      written = c .written;
+      frozen = c .frozen;
+      reserved = c .reserved;
+      frozenIndices = c .frozenIndices;
+    }
+
+module _ (s : Measures) (h : passes s ≡ true) (p : Phase) (area : List ℕ) (c : Client) (rest : List ℕ) (x : Shown s p area c rest)
+    (q : Work) (i : ReadingIndex) where
+  -- its work is written over the old one
+  pub turned-written : GoodPhase s q
+      → writeClient s (turnedTo q i c) ++ rest
+      ≡ recordOf (record { step = stepOf q; reading = i }) (paste area (workAt s) (writeArea (workSize s) (writeWork s) q) (workSize s))
+  turned-written g =
+      let r = writeRetained s (retained c) in
+      let w = writeArea (workSize s) (writeWork s) q in
+      let l : length w ≡ workSize s = length-area (workSize s) (writeWork s) q (work-fits s (passed s h) q g) in
+      written-parts s (turnedTo q i c) rest
+      ∙ ap (λ (a : List ℕ). recordOf (record { step = stepOf q; reading = i }) a)
+      (sym (append-assoc r w rest)
+      ∙ (λ j. (sym (retained-part s h p area c rest x) j ++ sym (take-all (workSize s) w (omega arith)) j) ++ sym (beyond s h p area c rest x) j))
+
+  -- a phase whose work is the same leaves the area as it is
+  pub turned-kept : writeWork s q ≡ writeWork s (c .phase)
+      → writeClient s (turnedTo q i c) ++ rest ≡ recordOf (record { step = stepOf q; reading = i }) area
+  unfolding writeArea
+  turned-kept e =
+      let r = writeRetained s (retained c) in
+      written-parts s (turnedTo q i c) rest
+      ∙ ap (λ (a : List ℕ). recordOf (record { step = stepOf q; reading = i }) a)
+      (ap (λ (w : List ℕ). r ++ ((w ++ replicate (workSize s - length w) 0) ++ rest)) e ∙ sym (x .parts))

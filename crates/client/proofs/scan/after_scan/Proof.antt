@@ -1,0 +1,80 @@
+use borrow.Author.Needs.{needs}
+use Prim.Native.Nat.{_^_, _<_}
+use native.Mathlib.Omega.{arith}
+use Rattle.coding.specs.Bytes.{Bytes}
+use Rattle.client.proofs.StartLaws.{ends-three}
+use Rattle.client.proofs.ScanLaws.{same-end, scanned-freezes, scanned-fetches, scanned-other}
+use Rattle.client.proofs.scan.after_scan.Statement.{statement}
+use Rattle.client.proofs.scan.after_scan.Tie as tie
+
+small : (c : tie.Else1) → (c .before .before .before .before .before .args .p .step < 256) × (c .before .before .before .before .before .args .p .reading .0 < 256 ^ 4)
+small c = (omega arith, omega arith)
+
+bytes : (c : tie.Else1) → Bytes (c .before .before .before .before .before .args .area .now)
+bytes c = λ i. c .before .before .before .before .slice-known .given i .fits
+
+first-scan-requires : tie.Need-first-scan-requires
+first-scan-requires c κs = search needs
+
+same-length : tie.Need-same-length
+same-length c = search needs
+
+same-length-2 : tie.Need-same-length-2
+same-length-2 c = search needs
+
+returns : tie.Need-returns
+returns c = c .before .before .before .before .first-scan .ensures
+
+freeze-requires : tie.Need-freeze-requires
+freeze-requires c κs = search needs
+
+same-length-3 : tie.Need-same-length-3
+same-length-3 c = search needs
+
+same-length-4 : tie.Need-same-length-4
+same-length-4 c = search needs
+
+returns-2 : tie.Need-returns-2
+returns-2 c =
+    let x = c .before .before .before .before .before .before .before .before .before in
+    let a = x .before .before .before .before .before .args in
+    same-end _ _ (scanned-freezes (a .s) (a .p) (small x .0) (small x .1) (a .area .now) (bytes x) (a .own) (a .rows .now) (a .room .now) (c .before .before .before .before .before .before .before .if2 .taken)) _ _ _ (c .before .before .before .before .freeze .ensures)
+
+fetch-requires : tie.Need-fetch-requires
+fetch-requires c κs = search needs
+
+same-length-5 : tie.Need-same-length-5
+same-length-5 c = search needs
+
+same-length-6 : tie.Need-same-length-6
+same-length-6 c = search needs
+
+returns-3 : tie.Need-returns-3
+returns-3 c =
+    let x = c .before .before .before .before .before .before .before .before .before .before .before in
+    let a = x .before .before .before .before .before .args in
+    same-end _ _ (scanned-fetches (a .s) (a .p) (small x .0) (small x .1) (a .area .now) (bytes x) (a .own) (a .rows .now) (a .room .now) (c .before .before .before .before .before .before .before .if3 .taken)) _ _ _ (c .before .before .before .before .fetch .ensures)
+
+returns-4 : tie.Need-returns-4
+returns-4 c =
+    let x = c .before .before .before .before in
+    let a = x .before .before .before .before .before .args in
+    ends-three _ _ (scanned-other (a .s) (a .p) (small x .0) (small x .1) (a .area .now) (bytes x) (a .own) (a .rows .now) (a .room .now) (x .before .before .before .before .before .pre .2) (x .if1 .left) (c .before .before .if2 .left) (c .if3 .left))
+
+pub after-scan-spec : {M : Type 1} → statement M
+after-scan-spec =
+    tie.close
+    (tie.spec
+    first-scan-requires
+    same-length
+    same-length-2
+    returns
+    freeze-requires
+    same-length-3
+    same-length-4
+    returns-2
+    fetch-requires
+    same-length-5
+    same-length-6
+    returns-3
+    returns-4)

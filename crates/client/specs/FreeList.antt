@@ -1,0 +1,59 @@
+-- A deposit's free list as the code builds it: versions ascending behind a tag byte at the front of a room.
+use mathlib.Core.Path.{_≡_}
+use mathlib.Core.Bool.{Bool, true, false, cond}
+use mathlib.Core.List.{List}
+use Prim.Native.Nat.{ℕ, _+_, _≤_}
+use lib.ListN.{length, getD}
+use Rattle.protocol.specs.declared.measures.Measures.{Measures}
+use Rattle.protocol.specs.declared.version.Version.{Version}
+use Rattle.protocol.specs.Format.{writeMany}
+use Rattle.protocol.specs.Measures.{passes}
+use Rattle.protocol.specs.Version.{none}
+use Rattle.protocol.specs.Nodes.{stands}
+use Rattle.protocol.specs.Pointer.{nonePointer, writeVersion}
+use Rattle.protocol.specs.Message.{ToNode, writeToNode}
+use Rattle.protocol.specs.Client.{Retained, readRetained}
+use Rattle.protocol.specs.ClientEvents.{lay}
+use Rattle.protocol.specs.Deposit.{insert, freeList}
+use Rattle.client.specs.Record.{workAt, isSome}
+use Rattle.records.specs.Places.{versionAt, from, splice}
+use Rattle.client.specs.Freeze.{keptVersions, replacedBy}
+
+-- the area holds what a client retains
+abbrev pub Holds : Measures → List ℕ → Type 0
+Holds s area = (passes s ≡ true) × (isSome (readRetained s area) ≡ true) × (workAt s ≤ length area)
+
+-- what is frozen and reserved for client q with the new version v
+abbrev pub frozenNow : ℕ → Retained → Version → ℕ → Version
+frozenNow map x v q = cond (stands map (q + 1)) v (getD (x .frozen) q nonePointer .version)
+
+abbrev pub reservedNow : ℕ → Retained → ℕ → Version
+reservedNow map x q = cond (stands map (q + 1)) (x .written .version) (getD (x .reserved) q none)
+
+-- n versions behind the tag
+abbrev pub listIn : ℕ → List ℕ → List Version
+listIn n t = from (versionAt t) 5 1 n
+
+-- a version is in its place among the n of t
+pub record Added (v : Version) (n : ℕ) (t : List ℕ) (r : ℕ) (u : List ℕ) : Type 0 where
+  pub many : r ≡ length (insert v (listIn n t))
+  pub laid : u ≡ splice t 1 (writeMany writeVersion (insert v (listIn n t)))
+
+-- unless it is left out
+abbrev pub Adds : Bool → Version → ℕ → List ℕ → ℕ → List ℕ → Type 0
+Adds true v n t r u = (r ≡ n) × (u ≡ t)
+Adds false v n t r u = Added v n t r u
+
+-- the room has a free list of n versions at its front, and beyond it what it had at first
+pub record Listing (first : List ℕ) (l : List Version) (n : ℕ) (room : List ℕ) : Type 0 where
+  pub many : n ≡ length l
+  pub shown : listIn n room ≡ l
+  pub laid : room ≡ lay (writeToNode (ToNode.free l)) first
+
+-- the free list of the first q clients
+abbrev pub freedUpTo : Measures → ℕ → Retained → Version → ℕ → List Version
+freedUpTo s map x v q = freeList (keptVersions s map x v) (replacedBy map x q)
+
+-- client q's versions are added to it
+abbrev pub Frees : Measures → ℕ → Retained → Version → ℕ → ℕ → List ℕ → ℕ → List ℕ → Type 0
+Frees s map x v q n t r u = (first : List ℕ) → Listing first (freedUpTo s map x v q) n t → Listing first (freedUpTo s map x v (q + 1)) r u

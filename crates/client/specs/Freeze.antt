@@ -1,0 +1,63 @@
+-- A deposit's second scan, with the clients whose readings it notices in a bit map: bit q for client q.
+use mathlib.Core.Path.{_≡_}
+use mathlib.Core.Bool.{cond}
+use mathlib.Core.List.{List, [], _∷_, _++_}
+use Prim.Native.Nat.{ℕ, zero, suc, _+_, _<_}
+use lib.ListN.{getD}
+use Rattle.coding.specs.Bytes.{tabulate}
+use Rattle.protocol.specs.declared.measures.Measures.{Measures}
+use Rattle.protocol.specs.declared.version.Version.{Version}
+use Rattle.protocol.specs.declared.version.ReadingIndex.{ReadingIndex}
+use Rattle.protocol.specs.Version.{none}
+use Rattle.protocol.specs.Nodes.{stands}
+use Rattle.protocol.specs.Pointer.{Pointer, nonePointer}
+use Rattle.protocol.specs.Directory.{Row, noRow, readDirectory}
+use Rattle.protocol.specs.Client.{Phase as Work, Retained, clientOf, readClient}
+use Rattle.protocol.specs.ClientEvents.{ClientEnd, onClient, freeze}
+use Rattle.protocol.specs.Deposit.{noticed, freeList}
+use Rattle.client.specs.Draw.{rowsOf}
+
+-- the clients of a bit map are those whose reading is noticed
+abbrev pub Notices : Measures → ℕ → Retained → List Row → ℕ → Type 0
+Notices s own x rows map = (q : ℕ) → q < s .m → stands map (q + 1) ≡ noticed own (clientOf 0 (record { 0 = 0 }) x Work.idle) rows q
+
+-- what is retained after it: with the new pointer, and the indices that the rows show
+unfoldable pub retainedAfter : Measures → ℕ → Retained → List Row → Pointer → Retained
+retainedAfter s map x rows p =
+    record {
+      written = p;
+      frozen = tabulate (s .m) (λ q. cond (stands map (q + 1)) p (getD (x .frozen) q nonePointer));
+      reserved = tabulate (s .m) (λ q. cond (stands map (q + 1)) (x .written .version) (getD (x .reserved) q none));
+      frozenIndices = tabulate (s .m) (λ q. cond (stands map (q + 1)) (getD rows q noRow .readingIndex) (getD (x .frozenIndices) q (record { 0 = 0 })));
+    }
+
+-- the versions that are still frozen or reserved, where v is the new one
+unfoldable pub keptVersions : Measures → ℕ → Retained → Version → List Version
+keptVersions s map x v =
+    tabulate (s .m) (λ q. cond (stands map (q + 1)) v (getD (x .frozen) q nonePointer .version))
+    ++ tabulate (s .m) (λ q. cond (stands map (q + 1)) (x .written .version) (getD (x .reserved) q none))
+
+-- the previous version, and the old frozen and reserved versions of the first n clients that are noticed
+unfoldable pub replacedBy : ℕ → Retained → ℕ → List Version
+replacedBy map x zero = x .written .version ∷ []
+replacedBy map x (suc q) =
+    cond (stands map (q + 1)) (getD (x .frozen) q nonePointer .version ∷ getD (x .reserved) q none ∷ replacedBy map x q) (replacedBy map x q)
+
+abbrev pub freedBy : Measures → ℕ → Retained → Version → List Version
+freedBy s map x v = freeList (keptVersions s map x v) (replacedBy map x (s .m))
+
+-- the new pointer of a deposit's second scan
+abbrev pub newPointer : Work → Pointer
+newPointer Work.idle = nonePointer
+newPointer (Work.scanning bytes) = nonePointer
+newPointer (Work.storing v a ds) = nonePointer
+newPointer (Work.updating p) = p
+newPointer (Work.freezing p) = p
+newPointer Work.raising = nonePointer
+newPointer Work.picking = nonePointer
+newPointer (Work.fetching p c m ps) = nonePointer
+
+-- what the second scan does to a client's record and room
+abbrev pub freezeEnd : Measures → ℕ → List ℕ → List ℕ → List ℕ → ClientEnd
+freezeEnd s own client rows room =
+    onClient s client room [] (readClient s client) (λ c. freeze s own c room (rowsOf (readDirectory s rows)) (newPointer (c .phase)))

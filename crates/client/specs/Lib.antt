@@ -1,0 +1,15 @@
+pub mod Answer
+pub mod Record
+pub mod Pick
+pub mod Gate
+pub mod Draw
+pub mod Choose
+pub mod Found
+pub mod Freeze
+pub mod Publish
+pub mod Reply
+pub mod Tell
+pub mod Retain
+pub mod Receive
+pub mod Scan
+pub mod FreeList

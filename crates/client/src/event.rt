@@ -1,0 +1,107 @@
+// Events at a client, whose phase is lent.
+use crate::answer::ClientAnswer;
+use crate::phase::Phase;
+use crate::turn::fresh_client;
+use crate::turn::message;
+use crate::turn::scan_answer;
+use crate::turn::start_deposit;
+use crate::turn::start_reading;
+use crate::turn::update_answer;
+use protocol::measures::Measures;
+ghost use mathlib.Core.Path.{_≡_};
+ghost use Rattle.protocol.specs.ClientEvents.{clientFresh, startDeposit, startReading, updateAnswer, scanAnswer, clientMessage};
+ghost use Rattle.client.specs.Answer.{answered};
+ghost use Rattle.client.specs.Record.{recordOf};
+
+// A fresh record is written.
+pub fn fresh(p: &mut Phase, s: Measures, area: &mut [u8]) -> ClientAnswer
+    ensures { λ r. ⌜ (answered r ≡ clientFresh s (recordOf (now (p .entry)) (now (area .entry))) .answer)
+        × (recordOf (now (p .exit)) (now (area .exit)) ≡ clientFresh s (recordOf (now (p .entry)) (now (area .entry))) .client) ⌝ }
+{
+    let t = fresh_client(*p, s, area);
+    *p = t.phase;
+    t.answer
+}
+
+// The start of a deposit.
+pub fn deposit(p: &mut Phase, s: Measures, own: usize, area: &mut [u8], page: &[u8]) -> ClientAnswer
+    ensures { λ r. ⌜ (answered r ≡ startDeposit s own (recordOf (now (p .entry)) (now (area .entry))) (now (page .entry)) .answer)
+        × (recordOf (now (p .exit)) (now (area .exit)) ≡ startDeposit s own (recordOf (now (p .entry)) (now (area .entry))) (now (page .entry)) .client) ⌝ }
+{
+    let t = start_deposit(*p, s, own, area, page);
+    *p = t.phase;
+    t.answer
+}
+
+// The start of a reading.
+pub fn read(
+    p: &mut Phase,
+    s: Measures,
+    own: usize,
+    area: &mut [u8],
+    room: &mut [u8],
+) -> ClientAnswer
+    ensures { λ r. ⌜ (answered r ≡ startReading s own (recordOf (now (p .entry)) (now (area .entry))) (now (room .entry)) .answer)
+        × (recordOf (now (p .exit)) (now (area .exit)) ≡ startReading s own (recordOf (now (p .entry)) (now (area .entry))) (now (room .entry)) .client)
+        × (now (room .exit) ≡ startReading s own (recordOf (now (p .entry)) (now (area .entry))) (now (room .entry)) .room) ⌝ }
+{
+    let t = start_reading(*p, s, own, area, room);
+    *p = t.phase;
+    t.answer
+}
+
+// The directory took an update.
+pub fn updated(
+    p: &mut Phase,
+    s: Measures,
+    own: usize,
+    area: &mut [u8],
+    room: &mut [u8],
+) -> ClientAnswer
+    ensures { λ r. ⌜ (answered r ≡ updateAnswer s own (recordOf (now (p .entry)) (now (area .entry))) (now (room .entry)) .answer)
+        × (recordOf (now (p .exit)) (now (area .exit)) ≡ updateAnswer s own (recordOf (now (p .entry)) (now (area .entry))) (now (room .entry)) .client)
+        × (now (room .exit) ≡ updateAnswer s own (recordOf (now (p .entry)) (now (area .entry))) (now (room .entry)) .room) ⌝ }
+{
+    let t = update_answer(*p, s, own, area, room);
+    *p = t.phase;
+    t.answer
+}
+
+// The directory answered a scan with its rows.
+pub fn scanned(
+    p: &mut Phase,
+    s: Measures,
+    own: usize,
+    area: &mut [u8],
+    rows: &[u8],
+    room: &mut [u8],
+) -> ClientAnswer
+    ensures { λ r. ⌜ (answered r ≡ scanAnswer s own (recordOf (now (p .entry)) (now (area .entry))) (now (rows .entry)) (now (room .entry)) .answer)
+        × (recordOf (now (p .exit)) (now (area .exit)) ≡ scanAnswer s own (recordOf (now (p .entry)) (now (area .entry))) (now (rows .entry)) (now (room .entry)) .client)
+        × (now (room .exit) ≡ scanAnswer s own (recordOf (now (p .entry)) (now (area .entry))) (now (rows .entry)) (now (room .entry)) .room) ⌝ }
+{
+    let t = scan_answer(*p, s, own, area, rows, room);
+    *p = t.phase;
+    t.answer
+}
+
+// A message came from node i.
+pub fn receive(
+    p: &mut Phase,
+    s: Measures,
+    own: usize,
+    i: usize,
+    area: &mut [u8],
+    b: &[u8],
+    room: &mut [u8],
+    out: &mut [u8],
+) -> ClientAnswer
+    ensures { λ r. ⌜ (answered r ≡ clientMessage s own i (recordOf (now (p .entry)) (now (area .entry))) (now (b .entry)) (now (room .entry)) (now (out .entry)) .answer)
+        × (recordOf (now (p .exit)) (now (area .exit)) ≡ clientMessage s own i (recordOf (now (p .entry)) (now (area .entry))) (now (b .entry)) (now (room .entry)) (now (out .entry)) .client)
+        × (now (room .exit) ≡ clientMessage s own i (recordOf (now (p .entry)) (now (area .entry))) (now (b .entry)) (now (room .entry)) (now (out .entry)) .room)
+        × (now (out .exit) ≡ clientMessage s own i (recordOf (now (p .entry)) (now (area .entry))) (now (b .entry)) (now (room .entry)) (now (out .entry)) .out) ⌝ }
+{
+    let t = message(*p, s, own, i, area, b, room, out);
+    *p = t.phase;
+    t.answer
+}

@@ -1,0 +1,18 @@
+mod acknowledge;
+pub mod answer;
+mod choose;
+mod draw;
+pub mod event;
+mod free;
+mod freeze;
+mod gate;
+mod notice;
+pub mod phase;
+pub mod pick;
+mod publish;
+mod receive;
+mod record;
+mod reply;
+mod scan;
+mod tell;
+pub mod turn;

@@ -1,0 +1,66 @@
+// Bit maps of nodes: bit i - 1 is node i's.
+ghost use mathlib.Core.Path.{_≡_};
+ghost use Prim.Native.Nat.{_-_, _≤_, _<_, _/_, _%_, _^_};
+ghost use lib.ListN.{length};
+ghost use Rattle.coding.specs.Nodes.{nodesOf};
+ghost use Rattle.protocol.specs.Nodes.{stands as standing, count as counted, withNode};
+ghost use Rattle.records.specs.Nodes.{nextNode};
+
+pub fn stands(map: u16, i: usize) -> bool
+    requires { ⌜ (1 ≤ i) × (i ≤ 16) ⌝ }
+    ensures { λ r. ⌜ r ≡ standing map i ⌝ }
+{
+    (map >> (i - 1)) & 1 == 1
+}
+
+fn bit(map: u16, i: usize) -> usize
+    requires { ⌜ i < 16 ⌝ }
+    ensures { λ r. ⌜ r ≡ map / 2 ^ i % 2 ⌝ }
+{
+    ((map >> i) & 1) as usize
+}
+
+// How many nodes a map names.
+pub fn count(map: u16) -> usize
+    ensures { λ r. ⌜ r ≡ counted map ⌝ }
+{
+    let mut n = 0;
+    for i in 0..16 {
+        n += bit(map, i);
+    }
+    n
+}
+
+// How many nodes below i a map names.
+pub fn rank(map: u16, i: usize) -> usize
+    requires { ⌜ (1 ≤ i) × (i ≤ 16) ⌝ }
+    ensures { λ r. ⌜ r ≡ length (nodesOf map (i - 1)) ⌝ }
+{
+    let end = i - 1;
+    let mut n = 0;
+    for j in 0..end {
+        n += bit(map, j);
+    }
+    n
+}
+
+pub fn with_node(map: u16, i: usize) -> u16
+    requires { ⌜ (1 ≤ i) × (i ≤ 16) ⌝ }
+    ensures { λ r. ⌜ r ≡ withNode map i ⌝ }
+{
+    map | (1u16 << (i - 1))
+}
+
+// The lowest node above i that a map names, or 17.
+pub fn next_node(map: u16, i: usize) -> usize
+    ensures { λ r. ⌜ r ≡ nextNode map i ⌝ }
+{
+    let mut p = i;
+    while p < 16 {
+        p += 1;
+        if stands(map, p) {
+            return p;
+        }
+    }
+    17
+}

@@ -1,0 +1,44 @@
+// A version in five bytes.
+use crate::bytes::u32_at;
+use protocol::measures::Measures;
+use protocol::version::Sequence;
+use protocol::version::Version;
+ghost use mathlib.Core.Path.{_≡_};
+ghost use Prim.Native.Nat.{_+_, _≤_};
+ghost use lib.ListN.{length};
+ghost use Rattle.records.specs.Places.{versionAt, properAt, versionAlone};
+
+// The version in the five bytes at a place.
+pub fn version_at(t: &[u8], at: usize) -> Version
+    requires { ⌜ at + 5 ≤ length (now t) ⌝ }
+    ensures { λ r. ⌜ r ≡ versionAt (now (t .entry)) at ⌝ }
+{
+    let q = u32_at(t, at);
+    Version {
+        sequence: Sequence(q),
+        client: t[at + 4],
+    }
+}
+
+// A version that a message names has a sequence of at least 1 and a client below m.
+pub fn proper_at(s: Measures, b: &[u8], at: usize) -> bool
+    requires { ⌜ at + 5 ≤ length (now b) ⌝ }
+    ensures { λ r. ⌜ r ≡ properAt s (now (b .entry)) at ⌝ }
+{
+    let v = version_at(b, at);
+    let q = v.sequence;
+    if q.0 < 1 {
+        return false;
+    }
+    (v.client as usize) < s.m
+}
+
+// A version alone.
+pub fn version_alone(s: Measures, b: &[u8]) -> bool
+    ensures { λ r. ⌜ r ≡ versionAlone s (now (b .entry)) ⌝ }
+{
+    if b.len() != 6 {
+        return false;
+    }
+    proper_at(s, b, 1)
+}
