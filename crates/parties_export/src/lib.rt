@@ -7,7 +7,8 @@ ghost use mathlib.Core.Path.{_≡_};
 ghost use Rattle.protocol.specs.Answer.{refuses};
 ghost use Rattle.protocol.specs.DirectoryEvents.{directoryFresh, directoryUpdate, directoryScan};
 ghost use Rattle.protocol.specs.NodeEvents.{nodeFresh, nodeMessage};
-ghost use Rattle.records.specs.Answer.{number, served};
+ghost use Rattle.records.specs.Answer.{number};
+ghost use Rattle.parties.specs.Answer.{served};
 ghost use Rattle.parties_export.specs.Code.{measured, code};
 
 fn refused(r: Refusal) -> u64

@@ -2,7 +2,7 @@ use borrow.Author.Needs.{needs}
 use mathlib.Core.Path.{sym, ap}
 use Prim.Native.Nat.{ℕ}
 use Rattle.protocol.specs.Answer.{refuses}
-use Rattle.parties.specs.declared.answer.Refusal.{Refusal}
+use Rattle.records.specs.declared.answer.Refusal.{Refusal}
 use Rattle.records.specs.Answer.{number}
 use Rattle.parties_export.specs.Code.{code}
 use Rattle.parties_export.proofs.refused.Statement.{statement}
