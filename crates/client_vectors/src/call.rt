@@ -8,25 +8,7 @@ use client::phase::Turned;
 use client::turn;
 use protocol::version::ReadingIndex;
 use protocol::version::Version;
-use records::answer::Refusal;
-ghost use mathlib.Core.Path.{_≡_};
 ghost use Prim.Native.Nat.{_≤_};
-ghost use Rattle.records.specs.Answer.{number as numberOf};
-
-fn document_number(r: Refusal) -> usize
-    ensures { λ x. ⌜ x ≡ numberOf r ⌝ }
-{
-    match r {
-        Refusal::Measures => 1,
-        Refusal::Short => 2,
-        Refusal::Number => 3,
-        Refusal::Form => 4,
-        Refusal::Turn => 5,
-        Refusal::TooLong => 6,
-        Refusal::Spent => 7,
-        Refusal::Full => 8,
-    }
-}
 
 fn print_version(v: Version) {
     let q = v.sequence;
@@ -39,7 +21,7 @@ fn print_answer(a: ClientAnswer) {
     match a {
         ClientAnswer::Refused(r) => {
             vectors::word(b" refused");
-            vectors::number(document_number(r));
+            vectors::number(r.number());
         }
         ClientAnswer::Waits => {
             vectors::word(b" waits");

@@ -5,24 +5,6 @@ use parties::answer::Service;
 use parties::directory;
 use parties::node;
 use protocol::measures::Measures;
-use records::answer::Refusal;
-ghost use mathlib.Core.Path.{_≡_};
-ghost use Rattle.records.specs.Answer.{number as numberOf};
-
-fn document_number(r: Refusal) -> usize
-    ensures { λ x. ⌜ x ≡ numberOf r ⌝ }
-{
-    match r {
-        Refusal::Measures => 1,
-        Refusal::Short => 2,
-        Refusal::Number => 3,
-        Refusal::Form => 4,
-        Refusal::Turn => 5,
-        Refusal::TooLong => 6,
-        Refusal::Spent => 7,
-        Refusal::Full => 8,
-    }
-}
 
 fn print(kind: u8, a: Service, table: &[u8], room: &[u8]) {
     vectors::digit(kind as usize);
@@ -33,7 +15,7 @@ fn print(kind: u8, a: Service, table: &[u8], room: &[u8]) {
         }
         Service::Refused(r) => {
             vectors::word(b" refused");
-            vectors::number(document_number(r));
+            vectors::number(r.number());
         }
     }
     vectors::number(vectors::checksum(table));

@@ -44,6 +44,7 @@ pub mod ViewLaws
 pub mod GoodLaws
 pub mod DepositLaws
 pub mod FreeLaws
+pub mod FreeListLaws
 pub mod PickLaws
 pub mod ReplyLaws
 pub mod HandLaws

@@ -1,4 +1,6 @@
-// The numbers of document 01 for what is refused.
+// What is refused.
+ghost use mathlib.Core.Path.{_≡_};
+ghost use Rattle.records.specs.Answer.{number as numberOf};
 
 pub enum Refusal {
     // 1: measures out of bounds
@@ -17,4 +19,22 @@ pub enum Refusal {
     Spent,
     // 8: a new version at a full node
     Full,
+}
+
+impl Refusal {
+    // Document 01's number.
+    pub fn number(self) -> usize
+        ensures { λ x. ⌜ x ≡ numberOf self ⌝ }
+    {
+        match self {
+            Refusal::Measures => 1,
+            Refusal::Short => 2,
+            Refusal::Number => 3,
+            Refusal::Form => 4,
+            Refusal::Turn => 5,
+            Refusal::TooLong => 6,
+            Refusal::Spent => 7,
+            Refusal::Full => 8,
+        }
+    }
 }
