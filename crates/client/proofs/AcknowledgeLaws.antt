@@ -1,134 +1,52 @@
 -- Acknowledgements of a version's stores: what each way out leaves.
 use mathlib.Core.Path.{_≡_, refl, sym, ap, subst, _∙_}
-use mathlib.Core.Bool.{Bool, true, false, cond, not, _&&_, _||_}
-use mathlib.Core.List.{List, [], _++_, map, append-assoc}
+use mathlib.Core.Bool.{Bool, true, false, cond, not, _&&_}
+use mathlib.Core.List.{List, [], _++_, append-assoc}
 use mathlib.Core.Option.{Option, some}
 use Prim.Native.Nat.{ℕ, _+_, _-_, _*_, _^_, _<_, _≤_}
 use native.Mathlib.Omega.{arith}
-use borrow.Author.Tests.{le-leb, leb-true, lt-ltb, le-ltb, eq-eqb, ne-eqb, not-true}
+use borrow.Author.Tests.{leb-true, lt-ltb, le-ltb, not-true, ltb-true}
 use lib.Dec.{leb, ltb}
-use lib.ListN.{length, getD, take, drop, replicate, length-append, length-map}
+use lib.ListN.{length, getD, take, drop, replicate, length-append}
 use lib.Seq.{paste, take-at, drop-at, take-add, drop-drop, take-all, ext-getD}
-use Rattle.coding.specs.Bytes.{Bytes}
-use Rattle.coding.specs.Nodes.{nodesOf}
 use Rattle.coding.proofs.Cases.{and-true}
 use Rattle.coding.proofs.BytesLaws.{length-tabulate, getD-tabulate}
-use Rattle.coding.proofs.NodesLaws.{nodes-within}
-use Rattle.coding.proofs.PageLaws.{some-eq}
 use Rattle.protocol.specs.declared.measures.Measures.{Measures}
 use Rattle.protocol.specs.declared.version.Version.{Version}
 use Rattle.protocol.specs.Format.{Read, readNumber, writeNumber, writeMany, writeArea}
 use Rattle.protocol.specs.Measures.{passes, pointerSize}
-use Rattle.protocol.specs.Version.{below}
-use Rattle.protocol.specs.Nodes.{nodesIn, count, stands, withNode}
-use Rattle.protocol.specs.Pointer.{Pointer, isNone, properPointer, readVersion, writeVersion, writePointer}
+use Rattle.protocol.specs.Nodes.{count, stands, withNode}
+use Rattle.protocol.specs.Pointer.{Pointer, isNone, writeVersion, writePointer}
 use Rattle.protocol.specs.Directory.{writeRecord}
-use Rattle.protocol.specs.Message.{properVersion}
 use Rattle.protocol.specs.Reading.{sameVersion}
 use Rattle.protocol.specs.Deposit.{pointerOf, depositFields}
 use Rattle.protocol.specs.Answer.{waits, update}
-use Rattle.protocol.specs.Client.{Phase as Work, step as stepOf, Client, retained, readClient, writeRetained, readRetained}
+use Rattle.protocol.specs.Client.{Phase as Work, step as stepOf, Client, retained, writeRetained, readRetained}
 use Rattle.protocol.specs.Client.{readSome, writeStores, writeWork, workSize}
 use Rattle.protocol.specs.ClientEvents.{Step, stays, does, withPhase, lay, acknowledge, storedAt, ClientEnd, unchanged, after, onClient}
-use Rattle.protocol.proofs.FormatLaws.{format-number, Each, length-area}
-use Rattle.protocol.proofs.EachLaws.{each-at, each-map}
+use Rattle.protocol.proofs.FormatLaws.{length-area}
 use Rattle.protocol.proofs.MeasureLaws.{passed}
-use Rattle.protocol.proofs.NodeMapLaws.{nodes-all, with-below, count-with}
-use Rattle.protocol.proofs.PointerLaws.{GoodVersion, GoodPointer, format-version, length-number, length-version}
+use Rattle.protocol.proofs.NodeMapLaws.{with-below, count-with}
+use Rattle.protocol.proofs.PointerLaws.{GoodPointer, length-number, length-version, some-pointer, some-length}
 use Rattle.protocol.proofs.ClientLaws.{GoodDigest, GoodPhase, map-fits, work-fits}
+use Rattle.protocol.proofs.GoodLaws.{formed-good}
 use Rattle.client.specs.declared.phase.Phase.{Phase}
 use Rattle.client.specs.Record.{recordOf, areaSize, workAt, isSome}
 use Rattle.records.specs.Places.{versionAt, numberAt}
 use Rattle.client.specs.Found.{retainedIn, pointerIn}
 use Rattle.client.specs.Publish.{digestsIn, pointerFrom, updateOf, storedEnd}
 use Rattle.client.proofs.ClientFormLaws.{sizes}
-use Rattle.client.proofs.ClientRecordLaws.{many-part, Shown, shown, written-parts, turnedTo, turned-written, area-length, retained-part, work-onward, beyond}
+use Rattle.client.proofs.ClientRecordLaws.{Shown, written-parts, turnedTo, turned-written, area-length, retained-part, work-onward, beyond}
 use Rattle.client.proofs.FoundLaws.{kept-reads, kept-is, pointer-reads, pointer-is}
-use Rattle.client.proofs.GateLaws.{some-value}
-use Rattle.client.proofs.PickLaws.{pointer-length}
-use Rattle.records.proofs.PlaceLaws.{read-number, read-version, number-told}
-
--- the parts of an end
-pub ends-four : (x y : ClientEnd) → x ≡ y → (y .answer ≡ x .answer) × (y .client ≡ x .client) × (y .room ≡ x .room) × (y .out ≡ x .out)
-ends-four x y e = (
-  ap (λ (z : ClientEnd). z .answer) (sym e),
-  ap (λ (z : ClientEnd). z .client) (sym e),
-  ap (λ (z : ClientEnd). z .room) (sym e),
-  ap (λ (z : ClientEnd). z .out) (sym e),
-)
+use Rattle.client.proofs.GateLaws.{work-within, Opened, found, found-shows, found-reads}
+use Rattle.records.proofs.PlaceLaws.{number-told, number-there, version-there}
+use Rattle.records.proofs.SpliceLaws.{many-part}
+use Rattle.client.proofs.StepLaws.{storesOf, storing-step}
 
 -- ---- the test of an acknowledgement
 
-module _ (v w u : Version) (z : Bool) (e : w ≡ u) where
-  there : (sameVersion v w && z) ≡ (sameVersion v u && z)
-  there = ap (λ (y : Version). sameVersion v y && z) e
-
-  pub adds-below : below v w ≡ true → false ≡ (sameVersion v u && z)
-  adds-below f = ap (λ (x : Bool). not (x || below w v) && z) (sym f) ∙ there
-
-  pub adds-above : below v w ≡ false → below w v ≡ true → false ≡ (sameVersion v u && z)
-  adds-above f g = (λ j. not (sym f j || sym g j) && z) ∙ there
-
-  pub adds-same : below v w ≡ false → below w v ≡ false → z ≡ (sameVersion v u && z)
-  adds-same f g = (λ j. not (sym f j || sym g j) && z) ∙ there
-
--- ---- the published pointer, of a version whose stores t + k nodes acknowledged
-
-module _ (s : Measures) (h : passes s ≡ true) (v : Version) (m : ℕ) (ds : List (List ℕ)) (fits : GoodVersion v) (proper : properVersion s v ≡ true)
-    (bits : m < 2 ^ s .n) (enough : count m ≡ s .t + s .k) (each : Each GoodDigest ds) (many : length ds ≡ s .n) where
-  one : 1 ≤ v .sequence .0
-  one = leb-true 1 (v .sequence .0) (and-true (leb 1 (v .sequence .0)) (ltb (v .client) (s .m)) proper .0)
-
-  -- a node that acknowledged is one of the n
-  among : (i : ℕ) → i < length (nodesIn m) → getD (nodesIn m) i 0 - 1 < s .n
-  among i l =
-      let e : nodesIn m ≡ nodesOf m (s .n) = nodes-all m (s .n) bits (passed s h .nodes .1) in
-      let q = nodes-within m (s .n) i (rw e at l) in
-      rw e (omega (arith, q .0, q .1))
-
-  named : Each GoodDigest (map (λ i. getD ds (i - 1) []) (nodesIn m))
-  named =
-      each-map GoodDigest (λ i. getD ds (i - 1) []) 0 (nodesIn m)
-      (λ i l. each-at GoodDigest [] ds each (getD (nodesIn m) i 0 - 1) (omega (arith, among i l, many)))
-
-  pub formed-good : GoodPointer s (pointerOf v m ds)
-  unfolding pointerOf properPointer
-  formed-good = (
-    (fits, (map-fits s (passed s h) m bits, (named, length-map (nodesIn m) _))),
-    simp (
-      ne-eqb (v .sequence .0) 0 (λ q. omega (arith, one)),
-      le-leb 1 (v .sequence .0) one,
-      and-true (leb 1 (v .sequence .0)) (ltb (v .client) (s .m)) proper .1,
-      eq-eqb (length (nodesIn m)) (s .t + s .k) enough,
-      lt-ltb m (2 ^ s .n) bits,
-    ),
-  )
-
-  pub formed-some : isNone (pointerOf v m ds) ≡ false
-  unfolding pointerOf
-  formed-some = simp (ne-eqb (v .sequence .0) 0 (λ q. omega (arith, one)))
-
-  pub formed-length : length (writePointer (pointerOf v m ds)) ≡ pointerSize s
-  unfolding pointerOf
-  formed-length = pointer-length s (pointerOf v m ds) formed-good ∙ ap (λ (n : ℕ). 7 + 32 * n) enough
-
--- ---- phases by their step
-
-record Storing (q : Work) : Type 0 where
-  version : Version
-  nodes : ℕ
-  digests : List (List ℕ)
-  is : q ≡ Work.storing version nodes digests
-
-storing-step : (q : Work) → stepOf q ≡ 2 → Storing q
-storing-step Work.idle e = absurd (omega arith)
-storing-step (Work.scanning page) e = absurd (omega arith)
-storing-step (Work.storing v a ds) e = record { version = v; nodes = a; digests = ds; is = refl }
-storing-step (Work.updating x) e = absurd (omega arith)
-storing-step (Work.freezing x) e = absurd (omega arith)
-storing-step Work.raising e = absurd (omega arith)
-storing-step Work.picking e = absurd (omega arith)
-storing-step (Work.fetching x c m ps) e = absurd (omega arith)
+pub adds-by : (v w u : Version) (z t : Bool) → w ≡ u → sameVersion v w ≡ t → (t && z) ≡ (sameVersion v u && z)
+adds-by v w u z t e f = ap (λ (b : Bool). b && z) (sym f ∙ ap (sameVersion v) e)
 
 other-step : (s : Measures) (i : ℕ) (c : Client) (room out : List ℕ) (v : Version) (q : Work) → (stepOf q ≡ 2 → ⊥)
     → storedAt s i c room out v q ≡ stays waits
@@ -143,20 +61,12 @@ other-step s i c room out v (Work.fetching x n m ps) d = refl
 
 -- ---- the ways out
 
--- what an acknowledgement finds
-pub record Asked (s : Measures) (p : Phase) (area : List ℕ) : Type 0 where
-  pub measures : passes s ≡ true
-  pub step : p .step < 256
-  pub reading : p .reading .0 < 256 ^ 4
-  pub bytes : Bytes area
-  pub reads : isSome (readClient s (recordOf p area)) ≡ true
-
-module _ (s : Measures) (p : Phase) (area : List ℕ) (asked : Asked s p area) (i : ℕ) (v : Version) where
+module _ (s : Measures) (p : Phase) (area : List ℕ) (opened : Opened s p area) (i : ℕ) (v : Version) where
   abbrev client : List ℕ
   client = recordOf p area
 
   abbrev read : Read Client
-  read = some-value (readClient s client) (asked .reads) .0
+  read = found s p area opened
 
   abbrev c : Client
   c = read .value
@@ -165,25 +75,19 @@ module _ (s : Measures) (p : Phase) (area : List ℕ) (asked : Asked s p area) (
   rest = read .rest
 
   h : passes s ≡ true
-  h = asked .measures
-
-  reads : readClient s client ≡ some read
-  reads = some-value (readClient s client) (asked .reads) .1
+  h = opened .measures
 
   shows : Shown s p area c rest
-  shows = shown s p area (asked .step) (asked .reading) (asked .bytes) read reads
+  shows = found-shows s p area opened
 
   abbrev went : List ℕ → List ℕ → Step → ClientEnd
   went room out x = after s client room out rest x
 
   through : (room out : List ℕ) → storedEnd s i v client room out ≡ went room out (storedAt s i c room out v (c .phase))
-  through room out = ap (λ (x : Option (Read Client)). onClient s client room out x (λ c. storedAt s i c room out v (c .phase))) reads
-
-  pub work-there : workAt s + workSize s ≤ length area
-  work-there = omega (arith, area-length s h p area c rest shows)
+  through room out = ap (λ (x : Option (Read Client)). onClient s client room out x (λ c. storedAt s i c room out v (c .phase))) (found-reads s p area opened)
 
   pub map-there : workAt s + 7 ≤ length area
-  map-there = omega (arith, work-there)
+  map-there = omega (arith, work-within s p area opened)
 
   -- the version is the one stored, and the node is new
   abbrev adds : Bool
@@ -204,20 +108,20 @@ module _ (s : Measures) (p : Phase) (area : List ℕ) (asked : Asked s p area) (
   stored-other d room out = through room out ∙ ap (went room out) (other-step s i c room out v (c .phase) (λ e. d (shows .stands ∙ e)))
 
   module _ (d : p .step ≡ 2) where
-    its : Storing (c .phase)
-    its = storing-step (c .phase) (sym (shows .stands) ∙ d)
-
     abbrev w : Version
-    w = its .version
+    w = storesOf (c .phase) .version
 
     abbrev a : ℕ
-    a = its .nodes
+    a = storesOf (c .phase) .acknowledged
 
     abbrev ds : List (List ℕ)
-    ds = its .digests
+    ds = storesOf (c .phase) .digests
+
+    phase-is : c .phase ≡ Work.storing w a ds
+    phase-is = storing-step (c .phase) (sym (shows .stands) ∙ d)
 
     good : GoodPhase s (Work.storing w a ds)
-    good = subst (GoodPhase s) (its .is) (shows .good .phase)
+    good = subst (GoodPhase s) phase-is (shows .good .phase)
 
     -- digests and spare bytes, which a map does not change
     abbrev behind : List ℕ
@@ -237,22 +141,16 @@ module _ (s : Measures) (p : Phase) (area : List ℕ) (asked : Asked s p area) (
 
     onward : drop (workAt s) area ≡ writeVersion w ++ (writeNumber 2 a ++ behind)
     onward =
-        work-onward s h p area c rest shows ∙ ap (λ (q : Work). writeArea (workSize s) (writeWork s) q ++ rest) (its .is) ∙ work-with a
+        work-onward s h p area c rest shows ∙ ap (λ (q : Work). writeArea (workSize s) (writeWork s) q ++ rest) phase-is ∙ work-with a
 
     version-is : versionAt area (workAt s) ≡ w
-    version-is =
-        ap (λ (r : Read Version). r .value)
-        (some-eq (sym (read-version area (workAt s) (omega (arith, map-there))) ∙ ap readVersion onward
-        ∙ format-version .back w (good .0) (writeNumber 2 a ++ behind)))
+    version-is = version-there area (workAt s) w (writeNumber 2 a ++ behind) (good .0) onward .1
 
     past-version : drop (workAt s + 5) area ≡ writeNumber 2 a ++ behind
     past-version = sym (drop-drop 5 (workAt s) area) ∙ ap (drop 5) onward ∙ drop-at (writeVersion w) (writeNumber 2 a ++ behind) 5 (length-version w)
 
     map-is : numberAt area (workAt s + 5) ≡ a
-    map-is =
-        ap (λ (r : Read ℕ). r .value)
-        (some-eq (sym (read-number area (workAt s + 5) (omega (arith, map-there))) ∙ ap (readNumber 2) past-version
-        ∙ format-number 2 .back a (map-fits s (passed s h) a (good .2)) behind))
+    map-is = number-there area (workAt s + 5) a behind (map-fits s (passed s h) a (good .2)) past-version .1
 
     past-map : drop (workAt s + 5 + 2) area ≡ behind
     past-map = sym (drop-drop 2 (workAt s + 5) area) ∙ ap (drop 2) past-version ∙ drop-at (writeNumber 2 a) behind 2 (length-number 2 a)
@@ -280,7 +178,7 @@ module _ (s : Measures) (p : Phase) (area : List ℕ) (asked : Asked s p area) (
     stored-by : (room out : List ℕ) (t : Bool) → adds ≡ t
         → storedEnd s i v client room out ≡ went room out (cond t (acknowledge s c room out w (withNode a i) ds) (stays waits))
     stored-by room out t e =
-        through room out ∙ ap (λ (q : Work). went room out (storedAt s i c room out v q)) (its .is)
+        through room out ∙ ap (λ (q : Work). went room out (storedAt s i c room out v q)) phase-is
         ∙ ap (λ (x : Bool). went room out (cond x (acknowledge s c room out w (withNode a i) ds) (stays waits)))
         ((λ j. sameVersion v (sym version-is j) && not (stands (sym map-is j) i)) ∙ e)
 
@@ -348,11 +246,17 @@ module _ (s : Measures) (p : Phase) (area : List ℕ) (asked : Asked s p area) (
         abbrev q : Pointer
         q = pointerOf w m ds
 
+        sequence : 1 ≤ w .sequence .0
+        sequence = leb-true 1 (w .sequence .0) (and-true (leb 1 (w .sequence .0)) (ltb (w .client) (s .m)) (good .1) .0)
+
         q-good : GoodPointer s q
-        q-good = formed-good s h w m ds (good .0) (good .1) published-bits published-enough (good .4) (good .5)
+        q-good =
+            formed-good s (passed s h) w m sequence (good .0 .0)
+            (ltb-true (w .client) (s .m) (and-true (leb 1 (w .sequence .0)) (ltb (w .client) (s .m)) (good .1) .1)) published-bits published-enough ds (good .4) (good .5)
 
         q-some : isNone q ≡ false
-        q-some = formed-some s h w m ds (good .0) (good .1) published-bits published-enough (good .4) (good .5)
+        unfolding pointerOf
+        q-some = some-pointer q (λ z. omega (arith, sequence, z))
 
         abbrev published : Client
         published = turnedTo (Work.updating q) (c .readingIndex) c
@@ -363,7 +267,7 @@ module _ (s : Measures) (p : Phase) (area : List ℕ) (asked : Asked s p area) (
           x-is : x ≡ paste area (workAt s) (writeArea (workSize s) (writeWork s) (Work.updating q)) (workSize s)
           unfolding writeArea writeWork
           x-is =
-              let l = formed-length s h w m ds (good .0) (good .1) published-bits published-enough (good .4) (good .5) in
+              let l = some-length s q q-good q-some in
               y ∙ (λ j. paste area (z j) (writePointer (pointerFrom s m area (z j)) ++ replicate (workSize s - pointerSize s) 0) (workSize s))
               ∙ (λ j. paste area (workAt s) (writePointer (formed-is m j) ++ replicate (workSize s - pointerSize s) 0) (workSize s))
               ∙ (λ j. paste area (workAt s) (writePointer q ++ replicate (workSize s - sym l j) 0) (workSize s))

@@ -1,6 +1,6 @@
 -- Laws of what the rows of a scan offer a reading.
 use mathlib.Core.Path.{_≡_, refl, sym, ap, ap₂, subst, _∙_}
-use mathlib.Core.Bool.{Bool, true, false, cond, _&&_, _||_}
+use mathlib.Core.Bool.{Bool, true, false, cond, _&&_, _||_, true≢false}
 use mathlib.Core.List.{List, [], _∷_, _++_, append-assoc, append-nil}
 use mathlib.Core.Option.{Option, some, none}
 use Prim.Native.Nat.{ℕ, suc, _+_, _-_, _*_, _^_, _<_, _≤_}
@@ -8,7 +8,7 @@ use native.Mathlib.Omega.{arith}
 use borrow.Author.Tests.{le-ltb, leb-true, eqb-true, ne-eqb}
 use lib.Dec.{leb, ltb, eqb}
 use lib.ListN.{length, take, drop, getD, replicate, length-replicate, length-append, length-drop}
-use lib.Seq.{take-all, length-take-le, drop-drop, drop-at, drop-cons, drop-length, split-at, paste}
+use lib.Seq.{length-take-le, drop-drop, drop-cons, drop-length, split-at, paste}
 use Rattle.coding.specs.Bytes.{Bytes}
 use Rattle.coding.proofs.PageLaws.{none≢some, some-eq}
 use Rattle.coding.proofs.Cases.{and-true}
@@ -19,16 +19,16 @@ use Rattle.protocol.specs.Format.{Read, readNumber, readMany, writeMany, writeA
 use Rattle.protocol.specs.Measures.{rowSize}
 use Rattle.protocol.specs.Nodes.{nodesIn}
 use Rattle.protocol.specs.Version as version
-use Rattle.protocol.specs.Pointer.{Pointer, nonePointer, isNone, properPointer, readVersion, readPointer, writeNamed, writePointer}
+use Rattle.protocol.specs.Pointer.{Pointer, nonePointer, isNone, properPointer, readPointer, writeNamed, writePointer}
 use Rattle.protocol.specs.Directory.{Row, noRow, rowFields, writeIndex, writeContent, writeFields, writeRow, readRow, readDirectory}
 use Rattle.protocol.specs.Reading.{candidate, pick}
 use Rattle.protocol.specs.Message.{ToNode, writeToNode}
 use Rattle.protocol.specs.ClientEvents.{lay}
-use Rattle.protocol.proofs.FormatLaws.{Each, length-same, format-number, format-many}
+use Rattle.protocol.proofs.FormatLaws.{Each, length-same, format-many}
 use Rattle.protocol.proofs.EachLaws.{each-at}
-use Rattle.protocol.proofs.PointerLaws.{GoodPointer, format-version, format-pointer}
+use Rattle.protocol.proofs.PointerLaws.{GoodPointer, format-pointer}
 use Rattle.protocol.proofs.DirectoryLaws.{GoodIndex, length-index}
-use Rattle.protocol.proofs.RowLaws.{format-row, format-directory}
+use Rattle.protocol.proofs.RowLaws.{format-row}
 use Rattle.client.specs.declared.choose.Offer.{Offer}
 use Rattle.records.specs.Form.{rest}
 use Rattle.client.specs.Record.{isSome}
@@ -37,26 +37,23 @@ use Rattle.records.specs.Places.{versionAt, splice}
 use Rattle.client.specs.Draw.{rowsOf}
 use Rattle.client.specs.Choose.{rowOf, offered}
 use Rattle.records.proofs.RecordLaws.{bytes-drop}
-use Rattle.records.proofs.SpliceLaws.{paste-splice, splice-next, many-append}
+use Rattle.records.proofs.SpliceLaws.{many-append, to-end, paste-all, area-put, many-at}
 use Rattle.parties.proofs.ShownLaws.{version-bytes, each-left, each-right}
-use Rattle.client.proofs.PickLaws.{pointer-length, picked-pointer}
-use Rattle.records.proofs.PlaceLaws.{read-version}
+use Rattle.client.proofs.PickLaws.{picked-pointer}
+use Rattle.records.proofs.PlaceLaws.{number-read, version-there}
 use Rattle.records.proofs.SizeLaws.{below-rows}
 use Rattle.parties.proofs.UpdateLaws.{row-bytes}
 use Rattle.parties.proofs.UpdateEndLaws.{own-row}
-
--- what is there to read
-pub some-read : {A : Type 0} (o : Option (Read A)) → isSome o ≡ true → (r : Read A) × (o ≡ some r)
-some-read none e = absurd (omega (arith, ap (λ (b : Bool). cond {A = ℕ} b 1 0) e))
-some-read (some r) e = (r, refl)
+use Rattle.client.proofs.GateLaws.{some-value}
+use Rattle.client.proofs.DrawLaws.{rows-count}
 
 pub no-rest : {A : Type 0} (o : Option (Read A)) → isSome o ≡ true → rest o ≡ none → ⊥
-no-rest none e n = omega (arith, ap (λ (b : Bool). cond {A = ℕ} b 1 0) e)
+no-rest none e n = true≢false (sym e)
 no-rest (some r) e n = none≢some (sym n)
 
 -- ---- a row's parts
 
-pub fields-bytes : (r : Row) (u : List ℕ)
+fields-bytes : (r : Row) (u : List ℕ)
     → writeFields (rowFields r) ++ u
     ≡ writeMany writePointer (r .written ∷ r .frozen) ++ (writeMany writeIndex (r .frozenIndices) ++ (writeMany writeIndex (r .readingIndex ∷ []) ++ u))
 unfolding writeFields writeContent writeMany
@@ -71,33 +68,39 @@ fields-bytes r u =
     ∙ ap (λ (x : List ℕ). (w ++ f) ++ x) (append-assoc i j u)
 
 -- what the row at a place says, and its bytes
-record Row-at (s : Measures) (t : List ℕ) (at : ℕ) (v : Row) : Type 0 where
+pub record Row-at (s : Measures) (t : List ℕ) (at : ℕ) (v : Row) : Type 0 where
   pub written : GoodPointer s (v .written)
   pub frozen : Each (GoodPointer s) (v .frozen)
   pub clients : length (v .frozen) ≡ s .m
   pub indices : Each GoodIndex (v .frozenIndices)
   pub many : length (v .frozenIndices) ≡ s .m
-  pub after : List ℕ
-  pub bytes : drop (at + 1) t ≡ writeMany writePointer (v .written ∷ v .frozen) ++ (writeMany writeIndex (v .frozenIndices) ++ after)
+  pub index : GoodIndex (v .readingIndex)
+  pub spare : List ℕ
+  pub bytes : drop (at + 1) t
+      ≡ writeMany writePointer (v .written ∷ v .frozen) ++ (writeMany writeIndex (v .frozenIndices) ++ (writeIndex (v .readingIndex) ++ spare))
 
-row-at : (s : Measures) (t : List ℕ) (at : ℕ) (r : Read Row) → Bytes t → readRow s (drop at t) ≡ some r → Row-at s t at (r .value)
-unfolding writeArea
+pub row-at : (s : Measures) (t : List ℕ) (at : ℕ) (r : Read Row) → Bytes t → readRow s (drop at t) ≡ some r → Row-at s t at (r .value)
+unfolding writeArea writeMany
 row-at s t at r b e =
     let v = r .value in
     let x = format-row s .only (drop at t) r (bytes-drop at t b) e in
     let g = x .0 .0 .0 .0 .1 in
     let z = replicate {A = ℕ} (rowSize s - length (writeRow v)) 0 in
+    let p = writeMany writePointer (v .written ∷ v .frozen) in
+    let f = writeMany writeIndex (v .frozenIndices) in
     record {
       written = g .1 .0 .0 .0;
       frozen = g .1 .1 .1 .0 .0;
       clients = g .1 .1 .1 .0 .1;
       indices = g .1 .1 .1 .1 .1 .0 .0;
       many = g .1 .1 .1 .1 .1 .0 .1;
-      after = writeMany writeIndex (v .readingIndex ∷ []) ++ (z ++ r .rest);
+      index = g .1 .1 .1 .1 .1 .1 .1 .0 .0 .0;
+      spare = z ++ r .rest;
       bytes =
           sym (drop-drop 1 at t)
           ∙ ap (drop 1) (x .1 ∙ append-assoc (writeRow v) z (r .rest) ∙ ap (λ (l : List ℕ). l ++ (z ++ r .rest)) (row-bytes v))
-          ∙ fields-bytes v (z ++ r .rest);
+          ∙ fields-bytes v (z ++ r .rest)
+          ∙ ap (λ (l : List ℕ). p ++ (f ++ l)) (append-assoc (writeIndex (v .readingIndex)) [] (z ++ r .rest));
     }
 
 -- the pointers in two parts: those before this client's frozen one, and the others; then the indices
@@ -111,8 +114,11 @@ module _ (s : Measures) (t : List ℕ) (at : ℕ) (v : Row) (x : Row-at s t at v
   abbrev others : List Pointer
   others = mine ∷ drop (suc own) (v .frozen)
 
+  abbrev after : List ℕ
+  after = writeIndex (v .readingIndex) ++ x .spare
+
   abbrev behind : List ℕ
-  behind = writeMany writeIndex (v .frozenIndices) ++ x .after
+  behind = writeMany writeIndex (v .frozenIndices) ++ after
 
   cut : v .frozen ≡ take own (v .frozen) ++ others
   cut = split-at (v .frozen) own nonePointer (omega (arith, x .clients))
@@ -153,7 +159,7 @@ module _ (s : Measures) (t : List ℕ) (at : ℕ) (v : Row) (x : Row-at s t at v
         arith,
         ap length e,
         length-drop indices t,
-        length-append (writeMany writeIndex (v .frozenIndices)) (x .after),
+        length-append (writeMany writeIndex (v .frozenIndices)) after,
         length-same writeIndex GoodIndex 4 (λ i g. length-index i) (v .frozenIndices) (x .indices),
         x .many,
       )
@@ -163,25 +169,15 @@ module _ (s : Measures) (t : List ℕ) (at : ℕ) (v : Row) (x : Row-at s t at v
 
   index-told : (indices i : ℕ) (u : List ℕ) → drop indices t ≡ behind → readNumber 4 (drop (indices + 4 * own) t) ≡ some (record { value = i; rest = u })
       → frozenIndex .0 ≡ i
-  unfolding writeMany writeIndex
+  unfolding writeIndex
   index-told indices i u e h =
       let l = v .frozenIndices in
       let n : own < length l = omega (arith, x .many) in
-      let c = split-at l own (record { 0 = 0 }) n in
-      let a = writeMany writeIndex (take own l) in
-      let k : length a ≡ 4 * own =
-      length-same writeIndex GoodIndex 4 (λ i g. length-index i) (take own l) (each-left GoodIndex (take own l) (frozenIndex ∷ drop (suc own) l) (subst (Each GoodIndex) c (x .indices)))
-      ∙ omega (arith, length-take-le own l (omega arith)) in
-      let z = writeMany writeIndex (drop (suc own) l) ++ x .after in
-      let d : behind ≡ a ++ (writeIndex frozenIndex ++ z) =
-      ap (λ (y : List ReadingIndex). writeMany writeIndex y ++ x .after) c
-      ∙ ap (λ (y : List ℕ). y ++ x .after) (many-append writeIndex (take own l) (frozenIndex ∷ drop (suc own) l))
-      ∙ append-assoc a (writeIndex frozenIndex ++ writeMany writeIndex (drop (suc own) l)) (x .after)
-      ∙ ap (λ (y : List ℕ). a ++ y) (append-assoc (writeIndex frozenIndex) (writeMany writeIndex (drop (suc own) l)) (x .after)) in
-      let f : drop (indices + 4 * own) t ≡ writeIndex frozenIndex ++ z =
-      sym (drop-drop (4 * own) indices t) ∙ ap (drop (4 * own)) (e ∙ d) ∙ drop-at a (writeIndex frozenIndex ++ z) (4 * own) k in
-      ap (λ (r : Read ℕ). r .value)
-      (some-eq (sym (format-number 4 .back (frozenIndex .0) (each-at GoodIndex (record { 0 = 0 }) l (x .indices) own n) z) ∙ ap (readNumber 4) (sym f) ∙ h))
+      let k : 4 * own ≡ own * 4 = omega arith in
+      let f = sym (drop-drop (4 * own) indices t) ∙ (λ j. drop (k j) (e j))
+      ∙ many-at writeIndex GoodIndex 4 (λ i g. length-index i) after (record { 0 = 0 }) l own (x .indices) n
+      in
+      sym (number-read 4 t (indices + 4 * own) (frozenIndex .0) _ (each-at GoodIndex (record { 0 = 0 }) l (x .indices) own n) f i u h)
 
   mine-good : GoodPointer s mine
   mine-good = each-right (GoodPointer s) (take own (v .frozen)) others cut-good .0
@@ -207,16 +203,14 @@ module _ (s : Measures) (t : List ℕ) (at : ℕ) (v : Row) (x : Row-at s t at v
 -- parts to the end of some bytes, as the code takes them
 pub picked-whole : (t : List ℕ) (a b : ℕ) (index frozenIndex : ReadingIndex)
     → pickedPart (take (length t - a) (drop a t)) (take (length t - b) (drop b t)) index frozenIndex ≡ pickedPart (drop a t) (drop b t) index frozenIndex
-picked-whole t a b index frozenIndex =
-    ap₂ (λ (x y : List ℕ). pickedPart x y index frozenIndex)
-    (take-all (length t - a) (drop a t) (omega (arith, length-drop a t))) (take-all (length t - b) (drop b t) (omega (arith, length-drop b t)))
+picked-whole t a b index frozenIndex = ap₂ (λ (x y : List ℕ). pickedPart x y index frozenIndex) (to-end t a) (to-end t b)
 
 -- ---- the same at a place where a row reads
 
 module _ (s : Measures) (own : ℕ) (index : ReadingIndex) (t : List ℕ) (at : ℕ) (b : Bytes t) (o : own < s .m) (e : isSome (readRow s (drop at t)) ≡ true) where
   row-shown : Row-at s t at (rowOf (readRow s (drop at t)))
   row-shown =
-      let x = some-read (readRow s (drop at t)) e in
+      let x = some-value (readRow s (drop at t)) e in
       subst (Row-at s t at) (sym (ap rowOf (x .1))) (row-at s t at (x .0) b (x .1))
 
   pub front-reads : isSome (readMany (readPointer s) (own + 1) (drop (at + 1) t)) ≡ true
@@ -245,14 +239,15 @@ module _ (s : Measures) (own : ℕ) (index : ReadingIndex) (t : List ℕ) (at : 
 
 -- the version that some pointer's bytes show
 module _ (s : Measures) (p : Pointer) (g : GoodPointer s p) (u : List ℕ) (e : u ≡ writePointer p) where
+  shown-there : (0 + 5 ≤ length u) × (versionAt u 0 ≡ p .version)
+  unfolding writePointer
+  shown-there = version-there u 0 (p .version) (writeNamed (p .named)) (g .0 .0) e
+
   pub version-fits : 0 + 5 ≤ length u
-  version-fits = omega (arith, ap length e, pointer-length s p g)
+  version-fits = shown-there .0
 
   pub version-shown : versionAt u 0 ≡ p .version
-  unfolding writePointer
-  version-shown =
-      ap (λ (r : Read Version). r .value)
-      (some-eq (sym (read-version u 0 version-fits) ∙ ap readVersion e ∙ format-version .back (p .version) (g .0 .0) (writeNamed (p .named))))
+  version-shown = shown-there .1
 
 either : (a b r : Bool) (P : Type 0) → (a || (b && r)) ≡ true → (a ≡ true → P) → (b ≡ true → P) → P
 either true b r P h f g = f refl
@@ -289,14 +284,9 @@ module _ (s : Measures) (own : ℕ) (index : ReadingIndex) (t : List ℕ) (b : B
   abbrev rows : List Row
   rows = rowsOf (readDirectory s t)
 
-  rows-many : length rows ≡ s .m
-  rows-many =
-      let x = some-read (readDirectory s t) e in
-      ap (λ (y : Option (Read (List Row))). length (rowsOf y)) (x .1) ∙ format-directory s .only t (x .0) b (x .1) .0 .1
-
   row-read : (i : ℕ) → i < s .m → readRow s (drop (i * rowSize s) t) ≡ some (record { value = getD rows i noRow; rest = drop (i * rowSize s + rowSize s) t })
   row-read i l =
-      let x = some-read (readDirectory s t) e in
+      let x = some-value (readDirectory s t) e in
       own-row s t b i l (x .0) (x .1)
       ∙ ap (λ (y : Option (Read (List Row))). some (record { value = getD (rowsOf y) i noRow; rest = drop (i * rowSize s + rowSize s) t })) (sym (x .1))
 
@@ -307,7 +297,7 @@ module _ (s : Measures) (own : ℕ) (index : ReadingIndex) (t : List ℕ) (b : B
   unfolding offered
   offered-row i l = ap (λ (y : Option (Read Row)). candidate own index (rowOf y)) (row-read i l)
 
-  abbrev pub offer : ℕ → Offer
+  abbrev offer : ℕ → Offer
   offer i = record { row = i * rowSize s; version = offered s own index t (i * rowSize s) .version }
 
   -- one row more
@@ -316,7 +306,7 @@ module _ (s : Measures) (own : ℕ) (index : ReadingIndex) (t : List ℕ) (b : B
       ≡ cond (version.below (offered s own index t (i * rowSize s) .version) (p .version)) p (offered s own index t (i * rowSize s))
   unfolding pick
   pick-more i l p q =
-      ap (pick own index) (drop-cons rows i noRow (omega (arith, rows-many)))
+      ap (pick own index) (drop-cons rows i noRow (omega (arith, rows-count s t b e)))
       ∙ ap₂ (λ (a c : Pointer). cond (version.below (c .version) (a .version)) a c) q (sym (offered-row i l))
 
   pub chosen-last : 1 ≤ s .m → Chosen s own index t (s .m - 1) (offer (s .m - 1))
@@ -326,7 +316,7 @@ module _ (s : Measures) (own : ℕ) (index : ReadingIndex) (t : List ℕ) (b : B
       let k : i < s .m = omega arith in
       let n : suc i ≡ s .m = omega arith in
       let x = row-there i k in
-      let d : pick own index (drop (suc i) rows) ≡ nonePointer = ap (λ (y : ℕ). pick own index (drop y rows)) (n ∙ sym rows-many) ∙ ap (pick own index) (drop-length rows) in
+      let d : pick own index (drop (suc i) rows) ≡ nonePointer = ap (λ (y : ℕ). pick own index (drop y rows)) (n ∙ sym (rows-count s t b e)) ∙ ap (pick own index) (drop-length rows) in
       record {
         picked = pick-more i k nonePointer d
             ∙ ap (λ (y : Bool). cond y nonePointer (offered s own index t (i * rowSize s)))
@@ -368,13 +358,7 @@ request-laid room p b h =
 pub fetched-laid : (t : List ℕ) (at size : ℕ) (p : List ℕ) → length p ≤ size → at + size ≤ length t
     → paste (paste t at (drop 0 p) (length p)) (at + length p) (replicate (at + size - (at + length p)) 0) (at + size - (at + length p))
     ≡ splice t at (p ++ replicate (size - length p) 0)
+unfolding writeArea
 fetched-laid t at size p h l =
-    let n = length p in
-    let k : at + size - (at + n) ≡ size - n = omega arith in
-    let z = replicate {A = ℕ} (size - n) 0 in
-    let e : length z ≡ size - n = length-replicate (size - n) 0 in
-    ap (λ (j : ℕ). paste (paste t at p n) (at + n) (replicate j 0) j) k
-    ∙ ap (λ (u : List ℕ). paste u (at + n) z (size - n)) (paste-splice t at p n (omega arith) ∙ ap (splice t at) (take-all n p (omega arith)))
-    ∙ paste-splice (splice t at p) (at + n) z (size - n) (omega arith)
-    ∙ ap (splice (splice t at p) (at + n)) (take-all (size - n) z (omega arith))
-    ∙ splice-next t at p z (at + n) refl (omega arith)
+    area-put t at size p l h
+    ∙ paste-all t at (p ++ replicate (size - length p) 0) size (omega (arith, length-append p (replicate (size - length p) 0), length-replicate {A = ℕ} (size - length p) 0))

@@ -1,6 +1,6 @@
 -- What is left after the parts of a client's record, as its form test goes over them.
 use mathlib.Core.Path.{_≡_, refl, sym, ap, _∙_}
-use mathlib.Core.Bool.{Bool, true, false, cond, not, _&&_, _||_, true≢false}
+use mathlib.Core.Bool.{Bool, true, false, cond, not, _&&_}
 use mathlib.Core.List.{List, [], _∷_, _++_}
 use mathlib.Core.Option.{Option, some, none}
 use Prim.Native.Nat.{ℕ, suc, _+_, _-_, _*_, _^_, _<_, _≤_}
@@ -10,7 +10,7 @@ use native.Mathlib.Omega.{arith}
 use borrow.Author.Tests.{le-leb, lt-leb, ne-eqb}
 use lib.Dec.{leb, ltb, eqb}
 use lib.ListN.{length, take, drop, getD, length-append, length-drop}
-use lib.Seq.{drop-drop, drop-cons, length-take-le}
+use lib.Seq.{drop-drop, length-take-le}
 use Rattle.coding.specs.Nodes.{all}
 use Rattle.coding.specs.Bytes.{Bytes}
 use Rattle.coding.proofs.PageLaws.{none≢some, some-eq}
@@ -27,15 +27,17 @@ use Rattle.protocol.specs.Client.{Phase as Work, Fetches, readPage, readSome, r
 use Rattle.protocol.specs.Client.{properReserved, readReserved, pointerArea, readRetained, readClient}
 use Rattle.protocol.proofs.FormatLaws.{Format, format-bytes, format-number}
 use Rattle.protocol.proofs.MeasureLaws.{passed}
-use Rattle.protocol.proofs.PointerLaws.{GoodPointer, format-pointer}
+use Rattle.protocol.proofs.PointerLaws.{format-pointer, none-pointer, some-pointer}
 use Rattle.protocol.proofs.RowLaws.{pointer-fits}
-use Rattle.protocol.proofs.ClientLaws.{ReadsAt, format-work, phase-good, work-fits}
+use Rattle.protocol.proofs.ClientLaws.{ReadsAt, format-work, phase-good, work-fits, ReadsSome, format-some}
 use Rattle.client.specs.declared.phase.Phase.{Phase}
 use Rattle.records.specs.Form.{rest}
 use Rattle.client.specs.Record.{recordOf, workAt, isSome}
-use Rattle.records.proofs.FormLaws.{Goes, left-read, none-read, rest-make, rest-mapped, rest-both, rest-many, Fixed, fixed-fits, fixed-number, fixed-mapped, fixed-many, fixed-bytes, rest-zeros, rest-area, none-area}
-use Rattle.records.proofs.RecordLaws.{bytes-drop, number-one, chain-some, chain-none}
+use Rattle.records.proofs.FormLaws.{Goes, left-read, none-read, rest-make, rest-mapped, rest-both, rest-many, rest-zeros, rest-area, none-area, rest-check, none-either}
+use Rattle.records.proofs.FormLaws.{fixed-fits, fixed-number, fixed-many, fixed-bytes}
+use Rattle.records.proofs.RecordLaws.{bytes-drop, number-one, chain-some, chain-none, indices-fixed}
 use Rattle.records.proofs.SizeLaws.{pointer-bound, pointers-bound}
+use Rattle.records.proofs.PlaceLaws.{read-version, version-told}
 
 -- ---- sizes
 
@@ -107,23 +109,13 @@ module _ {A : Type 0} (n : ℕ) (r : Reader A) (w : A → List ℕ) (g : A → T
 
 -- ---- a version at a place
 
-one-at : (t : List ℕ) (at : ℕ) → at < length t → readNumber 1 (drop at t) ≡ some (record { value = getD t at 0; rest = drop (at + 1) t })
-one-at t at h = let e : suc at ≡ at + 1 = omega arith in rw (drop-cons t at 0 h) (rw e (number-one (getD t at 0) (drop (at + 1) t)))
-
-abbrev pub versionOf : ℕ → ℕ → Version
+abbrev versionOf : ℕ → ℕ → Version
 versionOf q c = record { sequence = record { 0 = q }; client = c }
 
-pub version-at : (t : List ℕ) (at q : ℕ) → at + 5 ≤ length t
+version-at : (t : List ℕ) (at q : ℕ) → at + 5 ≤ length t
     → readNumber 4 (drop at t) ≡ some (record { value = q; rest = drop (at + 4) t })
     → readVersion (drop at t) ≡ some (record { value = versionOf q (getD t (at + 4) 0); rest = drop (at + 5) t })
-unfolding readVersion
-version-at t at q h e =
-    let k : at + 4 + 1 ≡ at + 5 = omega arith in
-    rw e (rw (one-at t (at + 4) (omega arith)) (ap (λ (i : ℕ). some (record { value = versionOf q (getD t (at + 4) 0); rest = drop i t })) k))
-
-rest-check : {A : Type 0} (b : Bool) (a : A) (t : List ℕ) → rest (check b a t) ≡ cond b (some t) none
-rest-check true a t = refl
-rest-check false a t = refl
+version-at t at q h e = read-version t at h ∙ ap (λ (v : Version). some (record { value = v; rest = drop (at + 5) t })) (sym (version-told t at q (drop (at + 4) t) h e))
 
 pub reserved-at : (s : Measures) (t : List ℕ) (at q : ℕ) → at + 5 ≤ length t
     → readNumber 4 (drop at t) ≡ some (record { value = q; rest = drop (at + 4) t })
@@ -133,10 +125,6 @@ reserved-at s t at q h e =
     rw (version-at t at q h e) (rest-check (properReserved s (versionOf q (getD t (at + 4) 0))) (versionOf q (getD t (at + 4) 0)) (drop (at + 5) t))
 
 -- ---- what is kept between operations
-
-fixed-indices : (n : ℕ) → Fixed (n * 4) (readMany readIndex n)
-unfolding readIndex
-fixed-indices n = fixed-many 4 readIndex (fixed-mapped 4 (λ n. record { 0 = n }) (readNumber 4) (fixed-number 4)) n
 
 module _ (s : Measures) where
   abbrev Kept : Type 0
@@ -189,7 +177,7 @@ module _ (s : Measures) where
             let l : s .m * 4 ≤ length (drop (after + s .m * 5) t) = omega (arith, length-drop (after + s .m * 5) t) in
             let j : after + s .m * 5 + s .m * 4 ≡ workAt s = omega arith in
             chain-some _ (drop (after + s .m * 5) t) (λ w. rest (readMany readIndex (s .m) w)) d
-            ∙ fixed-fits (s .m * 4) (readMany readIndex (s .m)) (fixed-indices (s .m)) (drop (after + s .m * 5) t) l
+            ∙ fixed-fits (s .m * 4) (readMany readIndex (s .m)) (indices-fixed (s .m)) (drop (after + s .m * 5) t) l
             ∙ ap some (drop-drop (s .m * 4) (after + s .m * 5) t ∙ ap (λ (n : ℕ). drop n t) j)
 
 -- ---- the work of a phase
@@ -281,40 +269,15 @@ module _ (s : Measures) (u v : List ℕ) (q : ℕ) (e : readNumber 4 u ≡ some 
       go (some r) false h = rw (h r refl) refl
 
   pub some-broken : Bytes u → q ≡ 0 → rest (readSome s u) ≡ none
-  unfolding properPointer
-  some-broken b z = some-read true (λ r d. none-there r (sequence-read r d ∙ z) (format-pointer s .only u r b d .0 .1))
-    where
-      none-there : (r : Read Pointer) → r .value .version .sequence .0 ≡ 0 → properPointer s (r .value) ≡ true → isNone (r .value) ≡ true
-      none-there r f g = go (isNone (r .value)) (leb 1 (r .value .version .sequence .0)) (lt-leb 1 (r .value .version .sequence .0) (omega arith)) g
-        where
-          go : (b a : Bool) → a ≡ false
-              → (b || (a && (ltb (r .value .version .client) (s .m)
-              && (eqb (count (r .value .named .nodes)) (s .t + s .k) && ltb (r .value .named .nodes) (2 ^ s .n))))) ≡ true
-              → b ≡ true
-          go true a f g = refl
-          go false true f g = absurd (true≢false f)
-          go false false f g = g
+  some-broken b z = some-read true (λ r d. none-pointer s (r .value) (format-pointer s .only u r b d .0) (sequence-read r d ∙ z))
 
   pub some-left : (q ≡ 0 → ⊥) → rest (readSome s u) ≡ rest (readPointer s u)
-  some-left z =
-      some-read false (λ r d. simp (ne-eqb (r .value .version .sequence .0) 0 (λ f. z (sym (sequence-read r d) ∙ f))))
+  some-left z = some-read false (λ r d. some-pointer (r .value) (λ f. z (sym (sequence-read r d) ∙ f)))
 
 -- and it ends within a pointer's size
-given-read : {A : Type 0} (test : A → Bool) (o : Option (Read A)) (r : Read A) → bind o (λ a t. check (test a) a t) ≡ some r → o ≡ some r
-given-read test none r e = absurd (none≢some e)
-given-read test (some a) r e = go (test (a .value)) e
-  where
-    go : (b : Bool) → check b (a .value) (a .rest) ≡ some r → some a ≡ some r
-    go true e = e
-    go false e = absurd (none≢some e)
-
 pub some-ends : (s : Measures) (t : List ℕ) (at next : ℕ) → Bytes t → Goes t at next (rest (readSome s (drop at t))) → next ≤ at + pointerSize s
-unfolding readSome
-some-ends s t at next b x =
-    let y = left-read (readSome s (drop at t)) (drop next t) (x .left) in
-    let p = given-read (λ p. not (isNone p)) (readPointer s (drop at t)) (y .0) (y .1) in
-    area-ends (pointerSize s) (readPointer s) writePointer (GoodPointer s) (format-pointer s) (pointer-fits s) t b at next
-    (record { left = ap rest p ∙ ap some (y .2); from = x .from; to = x .to })
+some-ends s t at next b =
+    area-ends (pointerSize s) (readSome s) writePointer (ReadsSome s) (format-some s) (λ p g. pointer-fits s p (g .0)) t b at next
 
 -- ---- pieces
 
@@ -421,17 +384,13 @@ module _ (s : Measures) (t : List ℕ) (at : ℕ) where
         (rw (y .2 ∙ drop-drop 2 p t)
         (rw d (rw k (go (x .0 .value) (y .0 .value) (readPieces s (drop (p + 4) t))))))))
       where
-        no : (b : Bool) → _≡_ {A = Option (List ℕ)} none (cond b none none)
-        no true = refl
-        no false = refl
-
         go : (v : Pointer) (c : ℕ) (o : Option (Read (List (List ℕ))))
             → rest (bind (bind (bind (bind o (λ l u. some (record { value = (m, l); rest = u })))
             (λ (x : ℕ × List (List ℕ)) u. some (record { value = (c, x); rest = u })))
             (λ (x : ℕ × (ℕ × List (List ℕ))) u. some (record { value = record { pointer = v; counted = x .0; matching = x .1 .0; pieces = x .1 .1 }; rest = u })))
             (λ (x : Fetches) t. check (ltb (x .matching) (2 ^ s .n) && ltb (count (x .matching)) (s .k)) x t))
             ≡ cond (ltb m (2 ^ s .n) && ltb (count m) (s .k)) (rest o) none
-        go v c none = no (ltb m (2 ^ s .n) && ltb (count m) (s .k))
+        go v c none = none-either (ltb m (2 ^ s .n) && ltb (count m) (s .k))
         go v c (some r) = rest-check (ltb m (2 ^ s .n) && ltb (count m) (s .k)) _ (r .rest)
 
 -- ---- the work by its step
@@ -446,7 +405,7 @@ between : (k n : ℕ) → k ≤ n → n ≤ k + 1 → (n ≡ k + 1 → ⊥) → 
 between k n h l d = omega arith
 
 module _ (s : Measures) (u : List ℕ) where
-  pub work-idle : rest (readWork s 0 u) ≡ some u
+  work-idle : rest (readWork s 0 u) ≡ some u
   unfolding readWork
   work-idle = refl
 
@@ -466,11 +425,11 @@ module _ (s : Measures) (u : List ℕ) where
   unfolding readWork
   work-freezing = rest-mapped Work.freezing (readSome s) u
 
-  pub work-raising : rest (readWork s 5 u) ≡ some u
+  work-raising : rest (readWork s 5 u) ≡ some u
   unfolding readWork
   work-raising = refl
 
-  pub work-picking : rest (readWork s 6 u) ≡ some u
+  work-picking : rest (readWork s 6 u) ≡ some u
   unfolding readWork
   work-picking = refl
 
@@ -503,7 +462,7 @@ module _ (s : Measures) (u : List ℕ) where
 
 -- ---- the record
 
-pub some-left-is : {A : Type 0} (o : Option (Read A)) (b : Bool) (u : List ℕ) → rest o ≡ cond b (some u) none → b ≡ isSome o
+some-left-is : {A : Type 0} (o : Option (Read A)) (b : Bool) (u : List ℕ) → rest o ≡ cond b (some u) none → b ≡ isSome o
 some-left-is none true u e = absurd (none≢some e)
 some-left-is none false u e = refl
 some-left-is (some r) true u e = refl
@@ -518,7 +477,8 @@ module _ (s : Measures) (h : passes s ≡ true) (p : Phase) (hr : p .reading .0 
   rest-client =
       rw (number-one (p .step) (writeNumber 4 (p .reading .0) ++ t))
       (rw (format-number 4 .back (p .reading .0) hr t)
-      (rest-make _ (bind (bind (readRetained s t) (λ x v. bind (readArea (workSize s) (readWork s (p .step)) (writeWork s) v) (λ w z. some (record { value = (x, w); rest = z })))) (λ y v. some (record { value = (p .reading, y); rest = v })))
+      (rest-make _ (bind (bind (readRetained s t) (λ x v. bind (readArea (workSize s) (readWork s (p .step)) (writeWork s) v) (λ w z. some (record { value = (x, w); rest = z }))))
+      (λ y v. some (record { value = (p .reading, y); rest = v })))
       ∙ rest-make _ (bind (readRetained s t) (λ x v. bind (readArea (workSize s) (readWork s (p .step)) (writeWork s) v) (λ w z. some (record { value = (x, w); rest = z }))))
       ∙ rest-both (readRetained s) (readArea (workSize s) (readWork s (p .step)) (writeWork s)) (λ x w. (x, w)) t))
 

@@ -3,11 +3,10 @@ use mathlib.Core.Path.{_≡_, sym, ap, _∙_}
 use mathlib.Core.Bool.{true}
 use mathlib.Core.List.{List, [], _∷_, _++_, append-assoc}
 use mathlib.Core.Option.{some}
-use Prim.Native.Nat.{ℕ, zero, suc, _+_, _-_, _*_, _%_, _^_, _<_}
-use native.Mathlib.Nat.{suc-mul}
+use Prim.Native.Nat.{ℕ, suc, _+_, _-_, _*_, _%_, _^_, _<_}
 use native.Mathlib.Omega.{arith}
-use lib.ListN.{length, getD, take, drop, replicate, length-append, take-append-drop}
-use lib.Seq.{take-at, drop-at, drop-append-add, drop-drop, take-all, paste}
+use lib.ListN.{length, getD, take, drop, replicate, length-append}
+use lib.Seq.{take-at, drop-at, drop-drop, take-all, paste}
 use Rattle.coding.specs.Bytes.{Bytes}
 use Rattle.coding.proofs.PageLaws.{some-eq}
 use Rattle.protocol.specs.declared.measures.Measures.{Measures}
@@ -15,37 +14,19 @@ use Rattle.protocol.specs.declared.version.ReadingIndex.{ReadingIndex}
 use Rattle.protocol.specs.Format.{Read, readNumber, writeNumber, writeMany, writeArea}
 use Rattle.protocol.specs.Measures.{passes, pointerSize}
 use Rattle.protocol.specs.Version.{none as noVersion}
-use Rattle.protocol.specs.Pointer.{Pointer, nonePointer, readPointer, writePointer, writeVersion}
+use Rattle.protocol.specs.Pointer.{Pointer, nonePointer, writePointer, writeVersion}
 use Rattle.protocol.specs.Directory.{writeIndex}
-use Rattle.protocol.specs.Client.{Phase as Work, step as stepOf, Client, writeWork, workSize, writeRetained, retained, readClient, writeClient}
+use Rattle.protocol.specs.Client.{Phase as Work, step as stepOf, Client, writeWork, workSize, writeRetained, retained, readClient, writeClient, Retained}
 use Rattle.protocol.proofs.FormatLaws.{format-number, Each, length-area, length-same}
 use Rattle.protocol.proofs.MeasureLaws.{passed}
-use Rattle.protocol.proofs.PointerLaws.{GoodPointer, format-pointer, length-number, length-version}
+use Rattle.protocol.proofs.PointerLaws.{GoodPointer, length-number, length-version}
 use Rattle.protocol.proofs.DirectoryLaws.{GoodIndex, length-index}
 use Rattle.protocol.proofs.RowLaws.{pointer-fits}
 use Rattle.protocol.proofs.BytesWritten.{bytes-cons, bytes-append, bytes-number}
 use Rattle.protocol.proofs.ClientLaws.{GoodPhase, GoodReserved, GoodClient, client-only, work-fits, length-retained, step-byte}
 use Rattle.client.specs.declared.phase.Phase.{Phase}
 use Rattle.client.specs.Record.{recordOf, areaSize, workAt}
-
--- ---- lists
-
--- past a first part
-pub drop-past : (p q : List ℕ) (n j k : ℕ) → length p ≡ n → k ≡ n + j → drop k (p ++ q) ≡ drop j q
-drop-past p q n j k e f = let g : k ≡ length p + j = omega arith in rw g (drop-append-add p q j)
-
--- one of many values of one length
-pub many-part : {A : Type 0} (w : A → List ℕ) (g : A → Type 0) (k : ℕ) → ((a : A) → g a → length (w a) ≡ k) → (d : A) (l : List A) → Each g l
-    → (i : ℕ) → i < length l → (t : List ℕ) → take k (drop (i * k) (writeMany w l ++ t)) ≡ w (getD l i d)
-unfolding writeMany
-many-part w g k h d [] e i b t = absurd (omega arith)
-many-part w g k h d (a ∷ l) e zero b t =
-    let z : 0 * k ≡ 0 = omega arith in
-    rw z (ap (take k) (append-assoc (w a) (writeMany w l) t) ∙ take-at (w a) (writeMany w l ++ t) k (h a (e .0)))
-many-part w g k h d (a ∷ l) e (suc i) b t =
-    ap (λ (x : List ℕ). take k (drop (suc i * k) x)) (append-assoc (w a) (writeMany w l) t)
-    ∙ ap (take k) (drop-past (w a) (writeMany w l ++ t) k (i * k) (suc i * k) (h a (e .0)) (omega (arith, suc-mul i k)))
-    ∙ many-part w g k h d l (e .1) i (omega arith) t
+use Rattle.records.proofs.SpliceLaws.{drop-past, many-part}
 
 number-same : (w m n : ℕ) → m < 256 ^ w → n < 256 ^ w → writeNumber w m ≡ writeNumber w n → m ≡ n
 number-same w m n a b e =
@@ -123,9 +104,6 @@ module _ (s : Measures) (h : passes s ≡ true) (p : Phase) (area : List ℕ) (c
       ap (drop (workAt s)) (x .parts)
       ∙ drop-at (writeRetained s (retained c)) (writeArea (workSize s) (writeWork s) (c .phase) ++ rest) (workAt s) (length-retained s c (x .good))
 
-  pub work-part : take (workSize s) (drop (workAt s) area) ≡ writeArea (workSize s) (writeWork s) (c .phase)
-  work-part = ap (take (workSize s)) work-onward ∙ take-at (writeArea (workSize s) (writeWork s) (c .phase)) rest (workSize s) work-length
-
   -- the work as it is written, then its spare bytes
   pub work-front : drop (workAt s) area
       ≡ writeWork s (c .phase) ++ (replicate (workSize s - length (writeWork s (c .phase))) 0 ++ rest)
@@ -142,36 +120,36 @@ pub record Retains (s : Measures) (area : List ℕ) (c : Client) (rest : List �
   pub good : GoodClient s c
   pub parts : area ≡ writeRetained s (retained c) ++ rest
 
-pub shown-retains : (s : Measures) (p : Phase) (area : List ℕ) (c : Client) (rest : List ℕ) → Shown s p area c rest
-    → Retains s area c (writeArea (workSize s) (writeWork s) (c .phase) ++ rest)
-shown-retains s p area c rest x = record { good = x .good; parts = x .parts }
+abbrev pub areaOf : Measures → Pointer → List ℕ
+areaOf s = writeArea (pointerSize s) writePointer
+
+pub area-sized : (s : Measures) (q : Pointer) → GoodPointer s q → length (areaOf s q) ≡ pointerSize s
+area-sized s q g = length-area (pointerSize s) writePointer q (pointer-fits s q g)
+
+pub fields-are : (s : Measures) (x : Retained) (rest : List ℕ) → writeRetained s x ++ rest
+    ≡ writeMany (areaOf s) (x .written ∷ x .frozen) ++ (writeMany writeVersion (x .reserved) ++ (writeMany writeIndex (x .frozenIndices) ++ rest))
+unfolding writeRetained writeMany
+fields-are s x rest =
+    let a = areaOf s (x .written) in
+    let b = writeMany (areaOf s) (x .frozen) in
+    let v = writeMany writeVersion (x .reserved) in
+    let i = writeMany writeIndex (x .frozenIndices) in
+    append-assoc a (b ++ (v ++ i)) rest
+    ∙ ap (λ (l : List ℕ). a ++ l) (append-assoc b (v ++ i) rest ∙ ap (λ (l : List ℕ). b ++ l) (append-assoc v i rest))
+    ∙ sym (append-assoc a b (v ++ (i ++ rest)))
 
 -- where its fields stand
 module _ (s : Measures) (area : List ℕ) (c : Client) (rest : List ℕ) (x : Retains s area c rest) where
-  abbrev areaOf : Pointer → List ℕ
-  areaOf = writeArea (pointerSize s) writePointer
-
   area-fields : area
-      ≡ writeMany areaOf (c .written ∷ c .frozen) ++ (writeMany writeVersion (c .reserved) ++ (writeMany writeIndex (c .frozenIndices) ++ rest))
-  unfolding writeRetained writeMany
-  area-fields =
-      let a = areaOf (c .written) in
-      let b = writeMany areaOf (c .frozen) in
-      let v = writeMany writeVersion (c .reserved) in
-      let i = writeMany writeIndex (c .frozenIndices) in
-      x .parts ∙ append-assoc a (b ++ (v ++ i)) rest
-      ∙ ap (λ (l : List ℕ). a ++ l) (append-assoc b (v ++ i) rest ∙ ap (λ (l : List ℕ). b ++ l) (append-assoc v i rest))
-      ∙ sym (append-assoc a b (v ++ (i ++ rest)))
+      ≡ writeMany (areaOf s) (c .written ∷ c .frozen) ++ (writeMany writeVersion (c .reserved) ++ (writeMany writeIndex (c .frozenIndices) ++ rest))
+  area-fields = x .parts ∙ fields-are s (retained c) rest
 
   pointers-good : Each (GoodPointer s) (c .written ∷ c .frozen)
   pointers-good = (x .good .written, x .good .frozen .0)
 
-  pointer-length : (q : Pointer) → GoodPointer s q → length (areaOf q) ≡ pointerSize s
-  pointer-length q g = length-area (pointerSize s) writePointer q (pointer-fits s q g)
-
-  pointers-length : length (writeMany areaOf (c .written ∷ c .frozen)) ≡ (s .m + 1) * pointerSize s
+  pointers-length : length (writeMany (areaOf s) (c .written ∷ c .frozen)) ≡ (s .m + 1) * pointerSize s
   pointers-length =
-      length-same areaOf (GoodPointer s) (pointerSize s) pointer-length (c .written ∷ c .frozen) pointers-good
+      length-same (areaOf s) (GoodPointer s) (pointerSize s) (area-sized s) (c .written ∷ c .frozen) pointers-good
       ∙ ap (λ (n : ℕ). n * pointerSize s) (let e : suc (length (c .frozen)) ≡ s .m + 1 = omega (arith, x .good .frozen .1) in e)
 
   reserved-length : length (writeMany writeVersion (c .reserved)) ≡ 5 * s .m
@@ -182,8 +160,9 @@ module _ (s : Measures) (area : List ℕ) (c : Client) (rest : List ℕ) (x : Re
   written-part =
       let z : 0 * pointerSize s ≡ 0 = omega arith in
       ap (take (pointerSize s)) area-fields
-      ∙ ap (λ (n : ℕ). take (pointerSize s) (drop n (writeMany areaOf (c .written ∷ c .frozen) ++ (writeMany writeVersion (c .reserved) ++ (writeMany writeIndex (c .frozenIndices) ++ rest))))) (sym z)
-      ∙ many-part areaOf (GoodPointer s) (pointerSize s) pointer-length nonePointer (c .written ∷ c .frozen) pointers-good 0 (omega arith) _
+      ∙ ap (λ (n : ℕ). take (pointerSize s) (drop n (writeMany (areaOf s) (c .written ∷ c .frozen) ++
+      (writeMany writeVersion (c .reserved) ++ (writeMany writeIndex (c .frozenIndices) ++ rest))))) (sym z)
+      ∙ many-part (areaOf s) (GoodPointer s) (pointerSize s) (area-sized s) nonePointer (c .written ∷ c .frozen) pointers-good 0 (omega arith) _
 
   pub frozen-part : (q : ℕ) → q < s .m
       → take (pointerSize s) (drop ((q + 1) * pointerSize s) area) ≡ writeArea (pointerSize s) writePointer (getD (c .frozen) q nonePointer)
@@ -192,12 +171,12 @@ module _ (s : Measures) (area : List ℕ) (c : Client) (rest : List ℕ) (x : Re
       let l : suc q < suc (length (c .frozen)) = omega (arith, x .good .frozen .1) in
       rw e
       (ap (λ (t : List ℕ). take (pointerSize s) (drop (suc q * pointerSize s) t)) area-fields
-      ∙ many-part areaOf (GoodPointer s) (pointerSize s) pointer-length nonePointer (c .written ∷ c .frozen) pointers-good (suc q) l _)
+      ∙ many-part (areaOf s) (GoodPointer s) (pointerSize s) (area-sized s) nonePointer (c .written ∷ c .frozen) pointers-good (suc q) l _)
 
   pub reserved-part : (q : ℕ) → q < s .m
       → take 5 (drop ((s .m + 1) * pointerSize s + 5 * q) area) ≡ writeVersion (getD (c .reserved) q noVersion)
   reserved-part q b =
-      let f = writeMany areaOf (c .written ∷ c .frozen) in
+      let f = writeMany (areaOf s) (c .written ∷ c .frozen) in
       let t = writeMany writeIndex (c .frozenIndices) ++ rest in
       ap (λ (l : List ℕ). take 5 (drop ((s .m + 1) * pointerSize s + 5 * q) l)) area-fields
       ∙ ap (take 5)
@@ -208,7 +187,7 @@ module _ (s : Measures) (area : List ℕ) (c : Client) (rest : List ℕ) (x : Re
   pub index-part : (q : ℕ) → q < s .m
       → take 4 (drop ((s .m + 1) * pointerSize s + 5 * s .m + 4 * q) area) ≡ writeIndex (getD (c .frozenIndices) q (record { 0 = 0 }))
   index-part q b =
-      let f = writeMany areaOf (c .written ∷ c .frozen) in
+      let f = writeMany (areaOf s) (c .written ∷ c .frozen) in
       let v = writeMany writeVersion (c .reserved) in
       let i = writeMany writeIndex (c .frozenIndices) in
       let at = (s .m + 1) * pointerSize s + 5 * s .m + 4 * q in
@@ -218,20 +197,6 @@ module _ (s : Measures) (area : List ℕ) (c : Client) (rest : List ℕ) (x : Re
       ∙ drop-past v (i ++ rest) (5 * s .m) (q * 4) (5 * s .m + 4 * q) reserved-length (omega arith))
       ∙ many-part writeIndex GoodIndex 4 (λ n g. length-index n) (record { 0 = 0 }) (c .frozenIndices) (x .good .indices .0) q
       (omega (arith, x .good .indices .1)) rest
-
--- a pointer that stands in its area at a place reads there
-pub area-reads : (s : Measures) (t : List ℕ) (at : ℕ) (q : Pointer) → GoodPointer s q
-    → take (pointerSize s) (drop at t) ≡ writeArea (pointerSize s) writePointer q
-    → readPointer s (drop at t)
-    ≡ some (record { value = q; rest = replicate (pointerSize s - length (writePointer q)) 0 ++ drop (at + pointerSize s) t })
-unfolding writeArea
-area-reads s t at q g e =
-    let z : List ℕ = replicate (pointerSize s - length (writePointer q)) 0 in
-    ap (readPointer s)
-    (sym (take-append-drop (pointerSize s) (drop at t))
-    ∙ (λ i. e i ++ drop-drop (pointerSize s) at t i)
-    ∙ append-assoc (writePointer q) z (drop (at + pointerSize s) t))
-    ∙ format-pointer s .back q g (z ++ drop (at + pointerSize s) t)
 
 -- ---- the record of another phase
 

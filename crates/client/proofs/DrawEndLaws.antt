@@ -1,5 +1,5 @@
 -- A deposit's first scan whose answer has a next sequence: what it leaves.
-use mathlib.Core.Path.{_≡_, refl, sym, ap, _∙_}
+use mathlib.Core.Path.{_≡_, sym, ap, _∙_}
 use mathlib.Core.Bool.{true}
 use mathlib.Core.List.{List, [], _++_}
 use mathlib.Core.Option.{Option, some}
@@ -8,7 +8,6 @@ use native.Mathlib.Omega.{arith}
 use borrow.Author.Tests.{le-leb, lt-ltb}
 use lib.ListN.{length, take, drop, replicate, length-append, length-drop}
 use lib.Seq.{paste, length-take-le}
-use Rattle.coding.specs.Bytes.{Bytes}
 use Rattle.coding.specs.Pieces.{columns}
 use Rattle.protocol.specs.declared.measures.Measures.{Measures}
 use Rattle.protocol.specs.declared.version.Sequence.{Sequence}
@@ -18,42 +17,32 @@ use Rattle.protocol.specs.Format.{Read, readNumber, writeNumber, writeMany, wri
 use Rattle.protocol.specs.Measures.{passes}
 use Rattle.protocol.specs.Pointer.{writeVersion}
 use Rattle.protocol.specs.Answer.{stores}
-use Rattle.protocol.specs.Client.{Phase as Work, step as stepOf, Client, readClient, workSize, writeWork, writeStores}
+use Rattle.protocol.specs.Client.{Phase as Work, Client, workSize, writeWork, writeStores}
 use Rattle.protocol.specs.Deposit.{digestsOf}
 use Rattle.protocol.specs.ClientEvents.{onClient, draw, roomSize, storesRoom}
 use Rattle.protocol.proofs.PointerLaws.{length-number, length-version}
 use Rattle.protocol.proofs.DepositLaws.{storing-good}
 use Rattle.client.specs.declared.phase.Phase.{Phase}
-use Rattle.client.specs.Record.{recordOf, workAt, isSome}
+use Rattle.client.specs.Record.{recordOf, workAt}
 use Rattle.client.specs.Draw.{roomDigests, storesWork, pageOf, drawEnd}
 use Rattle.client.proofs.ClientFormLaws.{sizes}
-use Rattle.client.proofs.ClientRecordLaws.{Shown, shown, turned-written, area-length}
-use Rattle.client.proofs.GateLaws.{some-value}
+use Rattle.client.proofs.ClientRecordLaws.{Shown, turned-written}
+use Rattle.client.proofs.GateLaws.{work-within, Opened, found, found-reads, found-shows}
 use Rattle.client.proofs.DrawLaws.{length-room-digests, digests-there, page-short, page-length, page-there}
+use Rattle.client.proofs.StepLaws.{scanning-step}
 
-scanning-step : (q : Work) → stepOf q ≡ 1 → q ≡ Work.scanning (pageOf q)
-scanning-step Work.idle e = absurd (omega arith)
-scanning-step (Work.scanning page) e = refl
-scanning-step (Work.storing v a ds) e = absurd (omega arith)
-scanning-step (Work.updating x) e = absurd (omega arith)
-scanning-step (Work.freezing x) e = absurd (omega arith)
-scanning-step Work.raising e = absurd (omega arith)
-scanning-step Work.picking e = absurd (omega arith)
-scanning-step (Work.fetching x c m ps) e = absurd (omega arith)
-
-module _ (s : Measures) (h : passes s ≡ true) (own : ℕ) (within : own < s .m) (p : Phase) (d : p .step ≡ 1) (hr : p .reading .0 < 256 ^ 4)
-    (area : List ℕ) (b : Bytes area) (o : isSome (readClient s (recordOf p area)) ≡ true) where
+module _ (s : Measures) (own : ℕ) (within : own < s .m) (p : Phase) (area : List ℕ) (opened : Opened s p area) (d : p .step ≡ 1) where
   abbrev client : List ℕ
   client = recordOf p area
 
   abbrev read : Read Client
-  read = some-value (readClient s client) o .0
+  read = found s p area opened
 
-  reads : readClient s client ≡ some read
-  reads = some-value (readClient s client) o .1
+  h : passes s ≡ true
+  h = opened .measures
 
   shows : Shown s p area (read .value) (read .rest)
-  shows = shown s p area (omega arith) hr b read reads
+  shows = found-shows s p area opened
 
   abbrev bytes : List ℕ
   bytes = pageOf (read .value .phase)
@@ -61,17 +50,14 @@ module _ (s : Measures) (h : passes s ≡ true) (own : ℕ) (within : own < s .m
   phase-is : read .value .phase ≡ Work.scanning bytes
   phase-is = scanning-step (read .value .phase) (sym (shows .stands) ∙ d)
 
-  pub work-within : workAt s + workSize s ≤ length area
-  work-within = omega (arith, area-length s h p area (read .value) (read .rest) shows)
-
   module _ (n : ℕ) (u : List ℕ) (f : readNumber 4 (drop (workAt s) area) ≡ some (record { value = n; rest = u })) where
     n-is : n ≡ length bytes
     n-is = page-length s h p area (read .value) (read .rest) shows bytes phase-is n u f
 
-    pub drawn-short : n ≤ s .k * s .f - 4
+    drawn-short : n ≤ s .k * s .f - 4
     drawn-short = omega (arith, n-is, page-short s h p area (read .value) (read .rest) shows bytes phase-is)
 
-    pub drawn-page : take n (drop (workAt s + 4) area) ≡ bytes
+    drawn-page : take n (drop (workAt s + 4) area) ≡ bytes
     drawn-page =
         ap (λ (k : ℕ). take k (drop (workAt s + 4) area)) n-is ∙ page-there s h p area (read .value) (read .rest) shows bytes phase-is
 
@@ -115,7 +101,7 @@ module _ (s : Measures) (h : passes s ≡ true) (own : ℕ) (within : own < s .m
       drawn-bytes =
           let c = read .value in
           let g = storing-good s h v bytes ((hq, omega (arith, sizes s h .clients)), simp (le-leb 1 (q .0) one, lt-ltb own (s .m) within)) in
-          ap (λ (x : Option (Read Client)). onClient s client room [] x (λ c. draw s own c room (pageOf (c .phase)) (NextSequence.Drawn q))) reads
+          ap (λ (x : Option (Read Client)). onClient s client room [] x (λ c. draw s own c room (pageOf (c .phase)) (NextSequence.Drawn q))) (found-reads s p area opened)
           ∙ (λ j. record {
             answer = stores v (columns (s .k) (length bytes));
             client =
@@ -125,7 +111,7 @@ module _ (s : Measures) (h : passes s ≡ true) (own : ℕ) (within : own < s .m
             out = [];
           })
 
-      pub drawn : (page : List ℕ) → page ≡ take n (drop (workAt s + 4) area) → (len : ℕ) → len ≡ columns (s .k) (length page)
+      drawn : (page : List ℕ) → page ≡ take n (drop (workAt s + 4) area) → (len : ℕ) → len ≡ columns (s .k) (length page)
           → (r : List ℕ) → r ≡ storesRoom s v page room
           → (a : List ℕ) → a ≡ paste area (workAt s) (storesWork s v (roomDigests (s .n) (s .f) v len r)) (workSize s)
           → drawEnd s own q client room
@@ -149,7 +135,7 @@ module _ (s : Measures) (h : passes s ≡ true) (own : ℕ) (within : own < s .m
     there = ap (λ (k : ℕ). readNumber 4 (drop k area)) (sym w) ∙ f
 
     pub page-fits : at + 4 + n ≤ length area
-    page-fits = let z = sizes s h in omega (arith, work-within, drawn-short n u there, z .frame, z .pieces)
+    page-fits = let z = sizes s h in omega (arith, work-within s p area opened, drawn-short n u there, z .frame, z .pieces)
 
     pub page-short-at : length (take (at + 4 + n - (at + 4)) (drop (at + 4) area)) ≤ s .k * s .f - 4
     page-short-at =

@@ -8,7 +8,7 @@ use native.Mathlib.Omega.{arith}
 use borrow.Author.Tests.{leb-true}
 use lib.Dec.{ltb}
 use lib.ListN.{length, getD, take, drop, set, replicate, length-replicate, length-append, length-set, length-drop, take-append-drop}
-use lib.Seq.{take-at, getD-at, take-append-add, take-paste, drop-paste, paste-suc, drop-at, set-at, take-all, drop-cons, drop-length, drop-drop, paste, length-paste, length-take-le}
+use lib.Seq.{take-at, getD-at, paste-suc, drop-at, set-at, take-all, drop-cons, drop-length, drop-drop, paste, length-paste, length-take-le}
 use Rattle.coding.specs.Bytes.{Bytes, tabulate}
 use Rattle.coding.specs.Pieces.{columns, piece}
 use Rattle.coding.specs.declared.answer.Refusal.{Refusal}
@@ -21,6 +21,7 @@ use Rattle.coding.specs.Sha256.{sha256}
 use Rattle.coding.proofs.BytesLaws.{length-tabulate, getD-tabulate, tabulate-ext}
 use Rattle.coding.proofs.PageLaws.{some-eq}
 use Rattle.coding.proofs.DigestLaws.{length-digest}
+use Rattle.coding.proofs.Cases.{chosen-of}
 use Rattle.protocol.specs.declared.measures.Measures.{Measures}
 use Rattle.protocol.specs.declared.version.Sequence.{Sequence}
 use Rattle.protocol.specs.declared.version.Version.{Version}
@@ -32,7 +33,7 @@ use Rattle.protocol.specs.Message.{ToNode, writeToNode}
 use Rattle.protocol.specs.Deposit.{highest, digestsOf}
 use Rattle.protocol.specs.Client.{Phase as Work, Client, workSize, writeWork, writePage}
 use Rattle.protocol.specs.ClientEvents.{roomSize, storesRoom}
-use Rattle.protocol.proofs.FormatLaws.{Each, format-number, length-area, length-same}
+use Rattle.protocol.proofs.FormatLaws.{Each, length-area, length-same}
 use Rattle.protocol.proofs.EachLaws.{each-at, each-tabulate}
 use Rattle.protocol.proofs.MeasureLaws.{passed}
 use Rattle.protocol.proofs.GoodLaws.{proper-passed}
@@ -44,7 +45,9 @@ use Rattle.client.specs.declared.phase.Phase.{Phase}
 use Rattle.client.specs.Record.{workAt, isSome}
 use Rattle.client.specs.Draw.{rowsOf, roomDigest, roomDigests, storesWork}
 use Rattle.records.proofs.BytesLaws.{Copied, copied-length, copied-block, copied-all}
-use Rattle.client.proofs.ClientRecordLaws.{many-part, byte-written, Shown, work-front}
+use Rattle.records.proofs.PlaceLaws.{number-read}
+use Rattle.records.proofs.SpliceLaws.{to-end, paste-join, many-part}
+use Rattle.client.proofs.ClientRecordLaws.{byte-written, Shown, work-front}
 use Rattle.client.proofs.ClientFormLaws.{sizes}
 use Rattle.client.proofs.GateLaws.{some-value}
 
@@ -111,13 +114,8 @@ module _ (s : Measures) (t : List ℕ) (b : Bytes t) (o : isSome (readDirectory 
       ∙ append-assoc (n ++ x .0) z a
       ∙ append-assoc n (x .0) (z ++ a)
       in
-      ap (λ (y : Read ℕ). y .value)
-      (some-eq (sym e ∙ ap (readNumber 4) f ∙ format-number 4 .back (sequenceOf r) (g .0 .0 .0 .1 .1 .0 .0 .0 .0 .0 .0) (x .0 ++ (z ++ a))))
+      number-read 4 t (i * w + 1) (sequenceOf r) (x .0 ++ (z ++ a)) (g .0 .0 .0 .1 .1 .0 .0 .0 .0 .0 .0) f q u e
       ∙ ap (λ (l : List Row). sequenceOf (getD l i noRow)) (sym rows-read)
-
-either : (b : Bool) (p q : Sequence) → cond b (p .0) (q .0) ≡ cond b p q .0
-either true p q = refl
-either false p q = refl
 
 -- no row yet; one row more, from the last on
 module _ (l : List Row) (n : ℕ) (e : length l ≡ n) where
@@ -132,7 +130,7 @@ module _ (l : List Row) (n : ℕ) (e : length l ≡ n) where
       let r = getD l i noRow in
       let o = highest (drop (suc i) l) in
       (λ j. cond (ltb (g j) (f j)) (f j) (g j))
-      ∙ either (ltb (o .0) (sequenceOf r)) (r .written .version .sequence) o
+      ∙ chosen-of (λ (x : Sequence). x .0) (ltb (o .0) (sequenceOf r)) (r .written .version .sequence) o
       ∙ ap (λ (x : List Row). highest x .0) (sym (drop-cons l i noRow (omega arith)))
 
 -- ---- the front of the store messages
@@ -247,21 +245,6 @@ digests-there s h v bytes room short enough =
 
 -- ---- the work area
 
--- one write after another is a write of both
-pub paste-join : (t : List ℕ) (at : ℕ) (a b : List ℕ) (m n : ℕ) → length a ≡ m → length b ≡ n → at + m + n ≤ length t
-    → paste (paste t at a m) (at + m) b n ≡ paste t at (a ++ b) (m + n)
-paste-join t at a b m n e f h =
-    let x : drop (at + m + n) (paste t at a m) ≡ drop (at + m + n) t =
-    sym (drop-drop n (at + m) (paste t at a m)) ∙ ap (drop n) (drop-paste t at a m (omega arith) (omega arith)) ∙ drop-drop n (at + m) t
-    in
-    let y : take (m + n) (a ++ b) ≡ take m a ++ take n b =
-    ap (λ (k : ℕ). take (k + n) (a ++ b)) (sym e) ∙ take-append-add a b n ∙ ap (λ (l : List ℕ). l ++ take n b) (sym (take-all m a (omega arith)))
-    in
-    let z : at + m + n ≡ at + (m + n) = omega arith in
-    (λ i. take-paste t at a m (omega arith) (omega arith) i ++ take n b ++ x i)
-    ∙ ap (λ (l : List ℕ). l ++ drop (at + m + n) t) (append-assoc (take at t) (take m a) (take n b))
-    ∙ (λ i. take at t ++ sym y i ++ drop (z i) t)
-
 pub version-put : (t : List ℕ) (at : ℕ) (v : Version) → v .client < 256 → at + 5 ≤ length t
     → set (paste t at (writeNumber 4 (v .sequence .0)) 4) (at + 4) (v .client) ≡ paste t at (writeVersion v) 5
 unfolding writeVersion
@@ -328,8 +311,7 @@ module _ (s : Measures) (h : passes s ≡ true) (p : Phase) (area : List ℕ) (c
   page-length n u f =
       let z = sizes s h in
       let b : length bytes < 256 ^ 4 = omega (arith, z .frame, page-short) in
-      ap (λ (y : Read ℕ). y .value)
-      (some-eq (sym f ∙ ap (readNumber 4) page-onward ∙ format-number 4 .back (length bytes) b (bytes ++ spare)))
+      number-read 4 area (workAt s) (length bytes) (bytes ++ spare) b page-onward n u f
 
   pub page-there : take (length bytes) (drop (workAt s + 4) area) ≡ bytes
   page-there =
@@ -344,13 +326,10 @@ module _ (s : Measures) (h : passes s ≡ true) (v : Version) (page room : List 
   abbrev behind : List ℕ
   behind = take (length room - 6) (drop 6 room)
 
-  behind-all : behind ≡ drop 6 room
-  behind-all = take-all (length room - 6) (drop 6 room) (omega (arith, length-drop 6 room))
-
   cut-end : split (s .n) (s .k) (s .f) page behind
       ≡ record { outcome = Outcome.gives (columns (s .k) (length page)); room = written (s .k) (s .f) page behind (s .n) }
   cut-end =
-      split-done (s .n) (s .k) (s .f) page behind (proper-passed s (passed s h)) (rw behind-all (omega (arith, length-drop 6 room))) short
+      split-done (s .n) (s .k) (s .f) page behind (proper-passed s (passed s h)) (rw (to-end room 6) (omega (arith, length-drop 6 room))) short
 
   -- the answer is a length of pieces
   pub cut-gives : (a : SplitAnswer) → splitOutcome a ≡ split (s .n) (s .k) (s .f) page behind .outcome → (len : ℕ) → a ≡ SplitAnswer.Pieces len
@@ -376,4 +355,4 @@ module _ (s : Measures) (h : passes s ≡ true) (v : Version) (page room : List 
       let n : drop (length room - 6) (drop 6 room) ≡ [] = ap (λ (k : ℕ). drop k (drop 6 room)) (sym (length-drop 6 room)) ∙ drop-length (drop 6 room) in
       ap (λ (l : List ℕ). writeToNode (ToNode.store v []) ++ l)
       (drop-at (take 6 room) (u ++ drop (length room - 6) (drop 6 room)) 6 (length-take-le 6 room (omega arith))
-      ∙ ap (λ (l : List ℕ). u ++ l) n ∙ append-nil u ∙ e ∙ ap (λ (l : List ℕ). split (s .n) (s .k) (s .f) page l .room) behind-all)
+      ∙ ap (λ (l : List ℕ). u ++ l) n ∙ append-nil u ∙ e ∙ ap (λ (l : List ℕ). split (s .n) (s .k) (s .f) page l .room) (to-end room 6))

@@ -1,7 +1,8 @@
 -- Laws of a deposit's free list: what the area retains, what stays, and versions put in their places.
 use mathlib.Core.Path.{_≡_, refl, sym, ap, ap₂, subst, _∙_}
-use mathlib.Core.Bool.{Bool, true, false, true≢false, not, cond, _&&_, _||_}
+use mathlib.Core.Bool.{Bool, true, false, true≢false, not, cond, _&&_, _||_, or-true}
 use mathlib.Core.List.{List, [], _∷_, _++_, append-assoc}
+use mathlib.Core.Logic.{_⊎_, inl, inr}
 use Prim.Native.Nat.{ℕ, zero, suc, _+_, _-_, _*_, _<_, _≤_}
 use native.Mathlib.Nat.{mul-le-mul-left, mul-le-mul-right}
 use native.Mathlib.Decide.{decLt}
@@ -12,32 +13,33 @@ use lib.ListN.{length, getD, take, drop, set, replicate, length-append, length-d
 use lib.Seq.{drop-at, drop-drop, drop-append-add, take-add, length-take-le, paste}
 use Rattle.coding.specs.Bytes.{Bytes, tabulate}
 use Rattle.coding.proofs.Cases.{and-true}
-use Rattle.coding.proofs.PageLaws.{some-eq}
 use Rattle.protocol.specs.declared.measures.Measures.{Measures}
 use Rattle.protocol.specs.declared.version.Version.{Version}
-use Rattle.protocol.specs.Format.{Read, writeMany, writeArea}
+use Rattle.protocol.specs.Format.{writeMany, writeArea}
 use Rattle.protocol.specs.Measures.{passes, pointerSize}
 use Rattle.protocol.specs.Version.{below, none}
 use Rattle.protocol.specs.Nodes.{stands}
-use Rattle.protocol.specs.Pointer.{Pointer, nonePointer, readVersion, writeVersion, writeNamed, writePointer}
+use Rattle.protocol.specs.Pointer.{Pointer, nonePointer, writeVersion, writeNamed, writePointer}
 use Rattle.protocol.specs.Node.{listed}
 use Rattle.protocol.specs.Message.{ToNode, writeToNode}
 use Rattle.protocol.specs.Client.{Retained}
 use Rattle.protocol.specs.ClientEvents.{roomSize, lay}
 use Rattle.protocol.specs.Deposit.{insert, freeList}
+use Rattle.protocol.specs.Reading.{sameVersion}
 use Rattle.protocol.proofs.FormatLaws.{Each}
 use Rattle.protocol.proofs.EachLaws.{each-at}
 use Rattle.protocol.proofs.VersionLaws.{not-below-back}
-use Rattle.protocol.proofs.PointerLaws.{GoodVersion, format-version, length-version, GoodPointer}
+use Rattle.protocol.proofs.PointerLaws.{GoodVersion, length-version, GoodPointer}
 use Rattle.protocol.proofs.ClientLaws.{GoodReserved, keeper}
-use Rattle.protocol.proofs.FreeLaws.{listed-append, insert-length, free-length}
+use Rattle.protocol.proofs.FreeLaws.{listed-append, insert-length, free-length, listed-split, tabulate-listed}
+use Rattle.protocol.proofs.MessageLaws.{length-versions}
 use Rattle.client.specs.Record.{workAt}
 use Rattle.records.specs.Places.{versionAt, from, rank, splice}
 use Rattle.client.specs.Found.{retainedIn}
-use Rattle.client.specs.Freeze.{keptVersions, replacedBy, freedBy}
-use Rattle.client.specs.FreeList.{Holds, frozenNow, reservedNow, listIn, Added, Adds, Listing, freedUpTo}
+use Rattle.client.specs.Freeze.{keptVersions, replacedBy, freedBy, frozenNow, reservedNow}
+use Rattle.client.specs.FreeList.{Holds, listIn, Added, Adds, Listing, freedUpTo}
 use Rattle.records.proofs.PositionLaws.{from-length, from-split, from-first, from-none}
-use Rattle.records.proofs.PlaceLaws.{read-version}
+use Rattle.records.proofs.PlaceLaws.{version-there}
 use Rattle.parties.proofs.ShownLaws.{version-bytes}
 use Rattle.parties.proofs.SeekLaws.{rank-within, rank-stop}
 use Rattle.records.proofs.SpliceLaws.{paste-splice, paste-all, splice-parts, splice-self, many-append}
@@ -46,12 +48,6 @@ use Rattle.client.proofs.ClientRecordLaws.{Retains, written-part, froze
 use Rattle.client.proofs.FoundLaws.{kept}
 
 -- ---- versions in the area
-
--- the version whose bytes stand at a place
-version-there : (t : List ℕ) (at : ℕ) (v : Version) (y : List ℕ) → GoodVersion v → drop at t ≡ writeVersion v ++ y → (at + 5 ≤ length t) × (versionAt t at ≡ v)
-version-there t at v y g e =
-    let l : at + 5 ≤ length t = omega (arith, ap length e, length-drop at t, length-append (writeVersion v) y, length-version v) in
-    (l, ap (λ (r : Read Version). r .value) (some-eq (sym (read-version t at l) ∙ ap readVersion e ∙ format-version .back v g y)))
 
 -- the version of a pointer in its area
 pointer-there : (s : Measures) (t : List ℕ) (at : ℕ) (p : Pointer) → GoodPointer s p
@@ -107,17 +103,13 @@ module _ (s : Measures) (area : List ℕ) (b : Bytes area) (h : Holds s area) wh
 
 -- ---- what stays
 
-pub same-below : (a b : Version) → below a b ≡ true → false ≡ listed a (b ∷ [])
+same-listed : (a b : Version) → sameVersion a b ≡ listed a (b ∷ [])
 unfolding listed
-same-below a b e = sym (simp e)
-
-pub same-else : (a b : Version) → below a b ≡ false → not (below b a) ≡ listed a (b ∷ [])
-unfolding listed
-same-else a b e = go (below b a) refl
+same-listed a b = go (below a b || below b a)
   where
-    go : (c : Bool) → below b a ≡ c → not c ≡ cond (below a b || below b a) false true
-    go true f = sym (simp (e, f))
-    go false f = sym (simp (e, f))
+    go : (c : Bool) → not c ≡ cond c false true
+    go true = refl
+    go false = refl
 
 or-false : (a b : Bool) → (a || b) ≡ false → (a ≡ false) × (b ≡ false)
 or-false true b e = absurd (true≢false e)
@@ -125,19 +117,12 @@ or-false false b e = (refl, e)
 
 module _ (v : Version) where
   listed-tabulate : (f : ℕ → Version) (m q : ℕ) → q < m → listed v (f q ∷ []) ≡ true → listed v (tabulate m f) ≡ true
-  unfolding tabulate
-  listed-tabulate f zero q h e = absurd (omega arith)
-  listed-tabulate f (suc m) q h e = listed-append v (tabulate m f) (f m ∷ []) ∙ go (decLt q m) (listed-tabulate f m q)
+  unfolding listed
+  listed-tabulate f m q h e = go (listed-split v (f q) [] e)
     where
-      or-right : (b : Bool) → (b || true) ≡ true
-      or-right true = refl
-      or-right false = refl
-
-      go : Dec (q < m) → (q < m → listed v (f q ∷ []) ≡ true → listed v (tabulate m f) ≡ true) → (listed v (tabulate m f) || listed v (f m ∷ [])) ≡ true
-      go (yes l) ih = ap (λ (b : Bool). b || listed v (f m ∷ [])) (ih l e)
-      go (no l) ih =
-          let z : q ≡ m = omega arith in
-          ap (λ (b : Bool). listed v (tabulate m f) || b) (subst (λ (k : ℕ). listed v (f k ∷ []) ≡ true) z e) ∙ or-right (listed v (tabulate m f))
+      go : (f q ≡ v) ⊎ (listed v [] ≡ true) → listed v (tabulate m f) ≡ true
+      go (inl x) = tabulate-listed v m f q h x
+      go (inr x) = absurd (true≢false (sym x))
 
   -- of the first q clients none keeps v
   pub record Clear (f g : ℕ → Version) (q : ℕ) : Type 0 where
@@ -145,9 +130,9 @@ module _ (v : Version) where
     pub frozen : listed v (tabulate q f) ≡ false
     pub reserved : listed v (tabulate q g) ≡ false
 
-  pub clear-none : (f g : ℕ → Version) → listed v (none ∷ []) ≡ false → Clear f g 0
+  pub clear-none : (f g : ℕ → Version) → sameVersion v none ≡ false → Clear f g 0
   unfolding tabulate listed
-  clear-none f g e = record { other = e; frozen = refl; reserved = refl }
+  clear-none f g e = record { other = sym (same-listed v none) ∙ e; frozen = refl; reserved = refl }
 
   pub clear-more : (f g : ℕ → Version) (q : ℕ) → Clear f g q → (listed v (f q ∷ []) || listed v (g q ∷ [])) ≡ false → Clear f g (q + 1)
   unfolding tabulate
@@ -170,8 +155,10 @@ module _ (v : Version) where
         listed-append v (none ∷ []) (keptVersions s map x new)
         ∙ ap (λ (b : Bool). listed v (none ∷ []) || b) (listed-append v (tabulate (s .m) (frozenNow map x new)) (tabulate (s .m) (reservedNow map x)))
 
-    pub stays-none : listed v (none ∷ []) ≡ true → true ≡ stayed
-    stays-none e = sym (parts ∙ ap (λ (b : Bool). b || (listed v (tabulate (s .m) (frozenNow map x new)) || listed v (tabulate (s .m) (reservedNow map x)))) e)
+    pub stays-none : sameVersion v none ≡ true → true ≡ stayed
+    stays-none e =
+        sym (parts ∙ ap (λ (b : Bool). b || (listed v (tabulate (s .m) (frozenNow map x new)) || listed v (tabulate (s .m) (reservedNow map x))))
+        (sym (same-listed v none) ∙ e))
 
     pub stays-found : (q : ℕ) → q < s .m → Clear (frozenNow map x new) (reservedNow map x) q
         → (listed v (frozenNow map x new q ∷ []) || listed v (reservedNow map x q ∷ [])) ≡ true → true ≡ stayed
@@ -179,14 +166,12 @@ module _ (v : Version) where
         sym (parts ∙ ap (λ (b : Bool). b || (listed v (tabulate (s .m) (frozenNow map x new)) || listed v (tabulate (s .m) (reservedNow map x)))) (c .other)
         ∙ go (listed v (frozenNow map x new q ∷ [])) refl e)
       where
-        either : (a b : Bool) → b ≡ true → (a || b) ≡ true
-        either true b e = refl
-        either false b e = e
-
         go : (a : Bool) → listed v (frozenNow map x new q ∷ []) ≡ a → (a || listed v (reservedNow map x q ∷ [])) ≡ true
             → (listed v (tabulate (s .m) (frozenNow map x new)) || listed v (tabulate (s .m) (reservedNow map x))) ≡ true
         go true f e = ap (λ (b : Bool). b || listed v (tabulate (s .m) (reservedNow map x))) (listed-tabulate (frozenNow map x new) (s .m) q h f)
-        go false f e = either (listed v (tabulate (s .m) (frozenNow map x new))) (listed v (tabulate (s .m) (reservedNow map x))) (listed-tabulate (reservedNow map x) (s .m) q h e)
+        go false f e =
+            ap (λ (b : Bool). listed v (tabulate (s .m) (frozenNow map x new)) || b) (listed-tabulate (reservedNow map x) (s .m) q h e)
+            ∙ or-true (listed v (tabulate (s .m) (frozenNow map x new)))
 
     pub stays-not : (q : ℕ) → q ≡ s .m → Clear (frozenNow map x new) (reservedNow map x) q → false ≡ stayed
     stays-not q e c =
@@ -195,7 +180,7 @@ module _ (v : Version) where
 
 -- ---- a version in its place
 
-pub insert-longer : (v : Version) (l : List Version) → length l ≤ length (insert v l)
+insert-longer : (v : Version) (l : List Version) → length l ≤ length (insert v l)
 unfolding insert
 insert-longer v [] = omega arith
 insert-longer v (w ∷ l) = go (below v w) (below w v) (insert-longer v l)
@@ -215,7 +200,7 @@ insert-good g v (w ∷ l) h e = go (below v w) (below w v) (insert-good g v l h 
     go false true i = (e .0, i)
     go false false i = e
 
-pub free-good : (g : Version → Type 0) (k l : List Version) → Each g l → Each g (freeList k l)
+free-good : (g : Version → Type 0) (k l : List Version) → Each g l → Each g (freeList k l)
 unfolding freeList
 free-good g k [] e = tt
 free-good g k (v ∷ l) e = go (listed v (none ∷ k)) (free-good g k l (e .1))
@@ -290,11 +275,6 @@ module _ (t : List ℕ) (v : Version) where
         go (yes l) false f = absurd (true≢false (sym (simp (lt-ltb j n l, f)) ∙ h))
 
 -- ---- the bytes of a list
-
-pub versions-length : (l : List Version) → length (writeMany writeVersion l) ≡ length l * 5
-unfolding writeMany
-versions-length [] = refl
-versions-length (v ∷ l) = length-append (writeVersion v) (writeMany writeVersion l) ∙ omega (arith, length-version v, versions-length l)
 
 run-bytes : (t : List ℕ) → Bytes t → (at n : ℕ) → at + n * 5 ≤ length t → take (n * 5) (drop at t) ≡ writeMany writeVersion (from (versionAt t) 5 at n)
 unfolding writeMany from
@@ -395,7 +375,7 @@ adds-few false v n t r u a = omega (arith, a .many, insert-length v (listIn n t)
 -- ---- the list in the room
 
 -- the tag alone
-pub listing-none : (room : List ℕ) → 6 ≤ length room → Listing room [] 0 (set room 0 3)
+listing-none : (room : List ℕ) → 6 ≤ length room → Listing room [] 0 (set room 0 3)
 unfolding writeToNode writeMany from
 listing-none [] h = absurd (omega arith)
 listing-none (x ∷ room) h = record { many = refl; shown = refl; laid = refl }
@@ -409,7 +389,7 @@ listing-more first l n room v r u g h x a =
     let k = insert v l in
     let z = writeMany writeVersion k in
     let m : r ≡ length k = a .many ∙ ap (λ (y : List Version). length (insert v y)) (x .shown) in
-    let i : length w + (length z - length w) ≡ length z = omega (arith, versions-length l, versions-length k, insert-longer v l) in
+    let i : length w + (length z - length w) ≡ length z = omega (arith, length-versions l, length-versions k, insert-longer v l) in
     let o : 1 + length z ≡ suc (length z) = omega arith in
     let j : suc (length w) + (length z - length w) ≡ suc (length z) = omega arith in
     let d : drop (length z) (w ++ drop (suc (length w)) first) ≡ drop (suc (length z)) first =
@@ -490,15 +470,15 @@ replaced-few map x (suc q) = go (stands map (q + 1)) (replaced-few map x q)
     go false e = omega arith
 
 -- at most 2q + 1 versions of the first q clients
-pub freed-few : (s : Measures) (map : ℕ) (x : Retained) (new : Version) (q : ℕ) → length (freedUpTo s map x new q) ≤ 2 * q + 1
+freed-few : (s : Measures) (map : ℕ) (x : Retained) (new : Version) (q : ℕ) → length (freedUpTo s map x new q) ≤ 2 * q + 1
 freed-few s map x new q = omega (arith, free-length (keptVersions s map x new) (replacedBy map x q), replaced-few map x q)
 
 pub room-enough : (s : Measures) → 10 * s .m + 6 ≤ roomSize s
 room-enough s = let p : 7 ≤ pointerSize s = omega arith in omega (arith, mul-le-mul-left (s .m + 1) p)
 
-pub list-length : (l : List Version) → length (writeToNode (ToNode.free l)) ≡ 1 + 5 * length l
+list-length : (l : List Version) → length (writeToNode (ToNode.free l)) ≡ 1 + 5 * length l
 unfolding writeToNode
-list-length l = omega (arith, versions-length l)
+list-length l = omega (arith, length-versions l)
 
 module _ (s : Measures) (map : ℕ) (x : Retained) (new : Version) (q : ℕ) (first : List ℕ) (n : ℕ) (room : List ℕ) (l : Listing first (freedUpTo s map x new q) n room) where
   pub listing-few : n ≤ 2 * q + 1
@@ -517,20 +497,13 @@ frozen-bound s h q l = let k : q + 1 ≤ s .m + 1 = omega arith in omega (arith,
 
 -- ---- ways out
 
-pub now-new : (b : Bool) (x y : Version) → b ≡ true → x ≡ cond b x y
-now-new true x y e = refl
-now-new false x y e = absurd (true≢false (sym e))
+pub kept-first : (v a f : Version) → a ≡ f → sameVersion v a ≡ true → (y : Bool) → true ≡ (listed v (f ∷ []) || y)
+kept-first v a f p e y = ap (λ (b : Bool). b || y) (sym e ∙ same-listed v a ∙ ap (λ (x : Version). listed v (x ∷ [])) p)
 
-pub now-old : (b : Bool) (x y z : Version) → b ≡ false → z ≡ y → z ≡ cond b x y
-now-old true x y z e f = absurd (true≢false e)
-now-old false x y z e f = f
-
-pub kept-first : (v a f : Version) → a ≡ f → listed v (a ∷ []) ≡ true → (y : Bool) → true ≡ (listed v (f ∷ []) || y)
-kept-first v a f p e y = ap (λ (b : Bool). b || y) (sym e ∙ ap (λ (x : Version). listed v (x ∷ [])) p)
-
-pub kept-second : (v a f b g : Version) → a ≡ f → listed v (a ∷ []) ≡ false → b ≡ g → listed v (b ∷ []) ≡ (listed v (f ∷ []) || listed v (g ∷ []))
+pub kept-second : (v a f b g : Version) → a ≡ f → sameVersion v a ≡ false → b ≡ g → sameVersion v b ≡ (listed v (f ∷ []) || listed v (g ∷ []))
 kept-second v a f b g p e q =
-    ap (λ (x : Version). listed v (x ∷ [])) q ∙ ap (λ (c : Bool). c || listed v (g ∷ [])) (sym e ∙ ap (λ (x : Version). listed v (x ∷ [])) p)
+    same-listed v b ∙ ap (λ (x : Version). listed v (x ∷ [])) q
+    ∙ ap (λ (c : Bool). c || listed v (g ∷ [])) (sym e ∙ same-listed v a ∙ ap (λ (x : Version). listed v (x ∷ [])) p)
 
 module _ (t : List ℕ) (n j : ℕ) (v : Version) where
   pub reaches-none : n ≤ j → false ≡ (ltb j n && not (below v (versionAt t (1 + j * 5))))

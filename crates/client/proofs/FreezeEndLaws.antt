@@ -1,28 +1,27 @@
 -- A deposit's second scan: what it leaves, where a bit map has the clients whose readings are noticed.
 use mathlib.Core.Path.{_≡_, refl, sym, ap, ap₂, subst, _∙_}
-use mathlib.Core.Bool.{Bool, true, false, cond}
-use mathlib.Core.List.{List, [], _∷_, _++_, map, map-append, append-assoc}
-use mathlib.Core.Option.{Option, some}
-use Prim.Native.Nat.{ℕ, zero, suc, _+_, _-_, _^_, _<_, _≤_}
+use mathlib.Core.Bool.{true, false, cond}
+use mathlib.Core.List.{List, [], _∷_, _++_, map, append-assoc}
+use mathlib.Core.Option.{Option}
+use Prim.Native.Nat.{ℕ, zero, suc, _+_, _-_, _<_, _≤_}
 use native.Mathlib.Omega.{arith}
 use lib.ListN.{length, getD, drop, replicate}
-use Rattle.coding.specs.Bytes.{Bytes, tabulate}
-use Rattle.coding.proofs.BytesLaws.{tabulate-ext}
-use Rattle.coding.proofs.PageLaws.{some-eq}
+use Rattle.coding.proofs.BytesLaws.{tabulate-ext, map-tabulate}
+use Rattle.coding.proofs.Cases.{chosen-of}
 use Rattle.protocol.specs.declared.measures.Measures.{Measures}
 use Rattle.protocol.specs.declared.version.Version.{Version}
 use Rattle.protocol.specs.Format.{Read}
 use Rattle.protocol.specs.Measures.{passes}
 use Rattle.protocol.specs.Nodes.{stands}
 use Rattle.protocol.specs.Version.{none as noVersion}
-use Rattle.protocol.specs.Pointer.{Pointer, nonePointer, isNone, readVersion, writeVersion, writeNamed, writePointer}
+use Rattle.protocol.specs.Pointer.{Pointer, nonePointer, isNone, writeVersion, writeNamed, writePointer}
 use Rattle.protocol.specs.Directory.{Row, noRow, readDirectory}
 use Rattle.protocol.specs.Message.{ToNode, writeToNode}
 use Rattle.protocol.specs.Answer.{deposited}
-use Rattle.protocol.specs.Client.{Phase as Work, step as stepOf, Client, Retained, retained, readClient, readRetained, readSome, workSize, writeWork, writeRetained, writeClient}
+use Rattle.protocol.specs.Client.{Phase as Work, Client, Retained, retained, readClient, readRetained, readSome, workSize, writeWork, writeRetained, writeClient}
 use Rattle.protocol.specs.Deposit.{noticed, frozenAfter, replaced, stillRetained, freeList, freed}
 use Rattle.protocol.specs.ClientEvents.{onClient, freeze, lay}
-use Rattle.protocol.proofs.PointerLaws.{GoodPointer, format-version}
+use Rattle.protocol.proofs.PointerLaws.{GoodPointer}
 use Rattle.protocol.proofs.ClientLaws.{GoodPhase}
 use Rattle.client.specs.declared.phase.Phase.{Phase}
 use Rattle.client.specs.Record.{recordOf, areaSize, workAt, isSome}
@@ -30,28 +29,20 @@ use Rattle.records.specs.Places.{versionAt}
 use Rattle.client.specs.Draw.{rowsOf}
 use Rattle.client.specs.Found.{retainedIn, pointerIn}
 use Rattle.client.specs.Freeze.{Notices, retainedAfter, keptVersions, replacedBy, freedBy, newPointer, freezeEnd}
-use Rattle.client.proofs.ClientRecordLaws.{Shown, shown, area-length, work-front, beyond, written-parts, idle-work}
-use Rattle.client.proofs.GateLaws.{some-value}
-use Rattle.records.proofs.PlaceLaws.{read-version}
+use Rattle.client.proofs.ClientRecordLaws.{Shown, area-length, work-front, beyond, written-parts, idle-work}
+use Rattle.client.proofs.GateLaws.{Opened, found as open-found, found-reads, found-shows}
+use Rattle.records.proofs.PlaceLaws.{version-there}
 use Rattle.client.proofs.FoundLaws.{kept-reads, kept-is, pointer-reads, pointer-is}
+use Rattle.client.proofs.StepLaws.{freezing-step}
 
 -- ---- by the bit map as by the rows
-
-map-tabulate : {A B : Type 0} (g : A → B) (n : ℕ) (f : ℕ → A) → map g (tabulate n f) ≡ tabulate n (λ i. g (f i))
-unfolding tabulate
-map-tabulate g zero f = refl
-map-tabulate {B = B} g (suc n) f = map-append g (tabulate n f) (f n ∷ []) ∙ ap (λ (t : List B). t ++ (g (f n) ∷ [])) (map-tabulate g n f)
-
-version-cond : (b : Bool) (p q : Pointer) → cond b (p .version) (q .version) ≡ cond b p q .version
-version-cond true p q = refl
-version-cond false p q = refl
 
 module _ (s : Measures) (own : ℕ) (map : ℕ) (c : Client) (rows : List Row) (notices : Notices s own (retained c) rows map) where
   told : (q : ℕ) → q < s .m → stands map (q + 1) ≡ noticed own c rows q
   unfolding noticed
   told q l = notices q l
 
-  pub after-is : (p : Pointer) → retainedAfter s map (retained c) rows p ≡ retained (frozenAfter s own c rows p)
+  after-is : (p : Pointer) → retainedAfter s map (retained c) rows p ≡ retained (frozenAfter s own c rows p)
   unfolding retainedAfter frozenAfter
   after-is p =
       λ j. record {
@@ -68,7 +59,7 @@ module _ (s : Measures) (own : ℕ) (map : ℕ) (c : Client) (rows : List Row) (
       (tabulate-ext (s .m) _ (λ q. cond (noticed own c rows q) p (getD (c .frozen) q nonePointer) .version)
       (λ q l.
       (λ i. cond (told q l i) (p .version) (getD (c .frozen) q nonePointer .version))
-      ∙ version-cond (noticed own c rows q) p (getD (c .frozen) q nonePointer))
+      ∙ chosen-of (λ (x : Pointer). x .version) (noticed own c rows q) p (getD (c .frozen) q nonePointer))
       ∙ sym (map-tabulate (λ (x : Pointer). x .version) (s .m) (λ q. cond (noticed own c rows q) p (getD (c .frozen) q nonePointer))))
       (tabulate-ext (s .m) _ _ (λ q l i. cond (told q l i) (c .written .version) (getD (c .reserved) q noVersion)))
 
@@ -78,37 +69,26 @@ module _ (s : Measures) (own : ℕ) (map : ℕ) (c : Client) (rows : List Row) (
   replaced-is (suc q) h =
       λ i. cond (told q h i) (getD (c .frozen) q nonePointer .version ∷ getD (c .reserved) q noVersion ∷ replaced-is q (omega arith) i) (replaced-is q (omega arith) i)
 
-  pub freed-is : (p : Pointer) → freedBy s map (retained c) (p .version) ≡ freed s own c rows p
+  freed-is : (p : Pointer) → freedBy s map (retained c) (p .version) ≡ freed s own c rows p
   freed-is p = ap₂ freeList (kept-is-still p) (replaced-is (s .m) (omega arith))
 
 -- ---- the record that is shown
 
-freezing-step : (q : Work) → stepOf q ≡ 4 → q ≡ Work.freezing (newPointer q)
-freezing-step Work.idle e = absurd (omega arith)
-freezing-step (Work.scanning page) e = absurd (omega arith)
-freezing-step (Work.storing v a ds) e = absurd (omega arith)
-freezing-step (Work.updating x) e = absurd (omega arith)
-freezing-step (Work.freezing x) e = refl
-freezing-step Work.raising e = absurd (omega arith)
-freezing-step Work.picking e = absurd (omega arith)
-freezing-step (Work.fetching x c m ps) e = absurd (omega arith)
-
-module _ (s : Measures) (h : passes s ≡ true) (p : Phase) (d : p .step ≡ 4) (hr : p .reading .0 < 256 ^ 4)
-    (area : List ℕ) (b : Bytes area) (o : isSome (readClient s (recordOf p area)) ≡ true) where
+module _ (s : Measures) (p : Phase) (area : List ℕ) (opened : Opened s p area) (d : p .step ≡ 4) where
   abbrev client : List ℕ
   client = recordOf p area
 
   abbrev read : Read Client
-  read = some-value (readClient s client) o .0
+  read = open-found s p area opened
 
   abbrev found : Client
   found = read .value
 
-  reads : readClient s client ≡ some read
-  reads = some-value (readClient s client) o .1
+  h : passes s ≡ true
+  h = opened .measures
 
   shows : Shown s p area found (read .rest)
-  shows = shown s p area (omega arith) hr b read reads
+  shows = found-shows s p area opened
 
   abbrev new : Pointer
   new = newPointer (found .phase)
@@ -138,11 +118,8 @@ module _ (s : Measures) (h : passes s ≡ true) (p : Phase) (d : p .step ≡ 4) 
       let v = writeVersion (new .version) in
       let n = writeNamed (new .named) in
       let z = replicate {A = ℕ} (workSize s - length (writeWork s (found .phase))) 0 ++ read .rest in
-      ap (λ (r : Read Version). r .value)
-      (some-eq
-      (sym (read-version area (workAt s) (omega (arith, freeze-long)))
-      ∙ ap readVersion (work-front s h p area found (read .rest) shows ∙ ap (λ (w : List ℕ). w ++ z) writes ∙ append-assoc v n z)
-      ∙ format-version .back (new .version) (new-good .0 .0 .0) (n ++ z)))
+      version-there area (workAt s) (new .version) (n ++ z) (new-good .0 .0 .0)
+      (work-front s h p area found (read .rest) shows ∙ ap (λ (w : List ℕ). w ++ z) writes ∙ append-assoc v n z) .1
 
   module _ (own : ℕ) (rows : List Row) where
     abbrev after : Client
@@ -192,7 +169,7 @@ module _ (s : Measures) (h : passes s ≡ true) (p : Phase) (d : p .step ≡ 4) 
             let a2 : writeRetained s (retained after) ++ (replicate (workSize s) 0 ++ drop (areaSize s) area) ≡ a =
             ap (λ (x : Retained). writeRetained s x ++ (replicate (workSize s) 0 ++ drop (areaSize s) area)) (sym after-found) ∙ sym ea
             in
-            ap (λ (x : Option (Read Client)). onClient s client room [] x (λ c. freeze s own c room rows (newPointer (c .phase)))) reads
+            ap (λ (x : Option (Read Client)). onClient s client room [] x (λ c. freeze s own c room rows (newPointer (c .phase)))) (found-reads s p area opened)
             ∙ (λ j. record {
               answer = deposited (sym (ev ∙ version-is) j) (l2 j);
               client = (frozen-client ∙ ap (λ (x : List ℕ). recordOf (record { step = 0; reading = p .reading }) x) a2) j;

@@ -17,13 +17,13 @@ use Rattle.protocol.specs.Client.{Retained, readRetained, writeRetained, readSo
 use Rattle.protocol.proofs.FormatLaws.{length-area}
 use Rattle.protocol.proofs.EachLaws.{each-as}
 use Rattle.protocol.proofs.PointerLaws.{GoodPointer}
-use Rattle.protocol.proofs.RowLaws.{pointer-fits}
 use Rattle.client.specs.Record.{areaSize, workAt, isSome}
 use Rattle.client.specs.Found.{retainedIn, pointerIn}
 use Rattle.client.specs.Freeze.{retainedAfter}
 use Rattle.client.specs.Retain.{notice}
 use Rattle.client.proofs.FoundLaws.{kept, pointer-length, pointer-there}
 use Rattle.client.proofs.RetainLaws.{Keeping, keeping-length, partly, partly-none, partly-more, partly-ends}
+use Rattle.client.proofs.ClientRecordLaws.{areaOf, area-sized}
 
 -- the first q clients are through
 abbrev pub Retaining : Measures → ℕ → List Row → List ℕ → List ℕ → ℕ → Type 0
@@ -37,13 +37,10 @@ module _ (s : Measures) (map : ℕ) (rows : List Row) (area₀ : List ℕ) (b : 
   abbrev p : Pointer
   p = pointerIn s area₀
 
-  abbrev areaOf : Pointer → List ℕ
-  areaOf = writeArea (pointerSize s) writePointer
-
-  sized : length (areaOf p) ≡ pointerSize s
+  sized : length (areaOf s p) ≡ pointerSize s
   sized = length-area (pointerSize s) writePointer p (omega (arith, pointer-length s area₀ b n))
 
-  there : take (pointerSize s) (drop (workAt s) area₀) ≡ areaOf p
+  there : take (pointerSize s) (drop (workAt s) area₀) ≡ areaOf s p
   unfolding writeArea
   there =
       let z : 0 ≡ pointerSize s - length (writePointer p) = omega (arith, pointer-length s area₀ b n) in
@@ -55,9 +52,11 @@ module _ (s : Measures) (map : ℕ) (rows : List Row) (area₀ : List ℕ) (b : 
   starts =
       let k = kept s area₀ b o in
       let g = k .good in
-      let l : (a : Pointer) → GoodPointer s a → length (areaOf a) ≡ pointerSize s = λ a h. length-area (pointerSize s) writePointer a (pointer-fits s a h) in
       record {
-        pointers = (l (x .written) (g .written), each-as (GoodPointer s) (λ a. length (areaOf a) ≡ pointerSize s) l (x .frozen) (g .frozen .0));
+        pointers = (
+          area-sized s (x .written) (g .written),
+          each-as (GoodPointer s) (λ a. length (areaOf s a) ≡ pointerSize s) (area-sized s) (x .frozen) (g .frozen .0),
+        );
         frozen = g .frozen .1;
         reserved = g .reserved .1;
         indices = g .indices .1;

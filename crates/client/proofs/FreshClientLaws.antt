@@ -6,7 +6,7 @@ use Prim.Native.Nat.{ℕ, zero, suc, _+_, _-_, _*_, _<_, _≤_}
 use native.Mathlib.Nat.{suc-mul}
 use native.Mathlib.Omega.{arith}
 use borrow.Author.Tests.{le-leb, lt-leb}
-use lib.ListN.{length, drop, set, replicate, length-append, length-replicate, length-set, replicate-append-replicate}
+use lib.ListN.{length, drop, set, replicate, length-replicate, length-set, replicate-append-replicate}
 use lib.Seq.{take-all, paste}
 use Rattle.protocol.specs.declared.measures.Measures.{Measures}
 use Rattle.protocol.specs.Format.{writeNumber, writeMany, writeArea}
@@ -20,7 +20,10 @@ use Rattle.protocol.specs.ClientEvents.{unchanged, clientFresh}
 use Rattle.protocol.proofs.PointerLaws.{length-number}
 use Rattle.client.specs.declared.phase.Phase.{Phase}
 use Rattle.client.specs.Record.{recordOf, areaSize, marked}
-use Rattle.client.proofs.ClientRecordLaws.{drop-past, written-parts, idle-work}
+use Rattle.records.proofs.SpliceLaws.{drop-past, many-same, many-zeros}
+use Rattle.parties.proofs.RoomLaws.{many-replicated, many-last}
+use Rattle.parties.proofs.FreshLaws.{index-bytes}
+use Rattle.client.proofs.ClientRecordLaws.{written-parts, idle-work}
 use Rattle.client.proofs.GateLaws.{long-record}
 
 -- ---- marks
@@ -64,16 +67,10 @@ length-block : (k : ℕ) → 5 ≤ k → length (block k) ≡ k
 length-block k h = omega (arith, length-replicate {A = ℕ} (k - 5) 0)
 
 length-blocks : (k n : ℕ) → 5 ≤ k → length (blocks k n) ≡ n * k
-unfolding writeMany
-length-blocks k zero h = omega arith
-length-blocks k (suc n) h = length-append (block k) (blocks k n) ∙ omega (arith, length-block k h, length-blocks k n h, suc-mul n k)
+length-blocks k n h = many-replicated (λ b. b) (block k) k n (length-block k h)
 
 blocks-more : (k n : ℕ) (t : List ℕ) → blocks k n ++ (block k ++ t) ≡ blocks k (suc n) ++ t
-unfolding writeMany
-blocks-more k zero t = sym (append-assoc (block k) [] t)
-blocks-more k (suc n) t =
-    append-assoc (block k) (blocks k n) (block k ++ t) ∙ ap (λ (l : List ℕ). block k ++ l) (blocks-more k n t)
-    ∙ sym (append-assoc (block k) (blocks k (suc n)) t)
+blocks-more k n t = sym (append-assoc (blocks k n) (block k) t) ∙ ap (λ (l : List ℕ). l ++ t) (many-last (λ b. b) (block k) n)
 
 module _ (k : ℕ) (h : 5 ≤ k) (p t : List ℕ) (at : ℕ) (e : length p ≡ at) (n : ℕ) where
   mark-some : (j : ℕ) → j ≤ n → marked (p ++ (replicate (n * k) 0 ++ t)) at k j ≡ p ++ (blocks k j ++ (replicate ((n - j) * k) 0 ++ t))
@@ -99,11 +96,6 @@ module _ (k : ℕ) (h : 5 ≤ k) (p t : List ℕ) (at : ℕ) (e : length p ≡ a
 
 -- ---- a fresh record's fields
 
-many-same : {A : Type 0} (w : A → List ℕ) (a : A) (k : ℕ) → w a ≡ block k → (n : ℕ) → writeMany w (replicate n a) ≡ blocks k n
-unfolding writeMany
-many-same w a k e zero = refl
-many-same w a k e (suc n) = λ i. e i ++ many-same w a k e n i
-
 none-area : (s : Measures) → writeArea (pointerSize s) writePointer nonePointer ≡ block (pointerSize s)
 unfolding writeArea writePointer writeVersion writeNamed writeNumber writeMany
 none-area s =
@@ -112,13 +104,6 @@ none-area s =
 none-version : writeVersion none ≡ block 5
 unfolding writeVersion writeNumber
 none-version = refl
-
-zero-indices : (n : ℕ) → writeMany writeIndex (replicate n (record { 0 = 0 })) ≡ replicate (n * 4) 0
-unfolding writeMany writeIndex writeNumber
-zero-indices zero = refl
-zero-indices (suc n) =
-    let e : suc n * 4 ≡ suc (suc (suc (suc (n * 4)))) = omega (arith, suc-mul n 4) in
-    ap (λ (l : List ℕ). 0 ∷ 0 ∷ 0 ∷ 0 ∷ l) (zero-indices n) ∙ ap (λ (m : ℕ). replicate m 0) (sym e)
 
 -- ---- the event
 
@@ -182,8 +167,8 @@ module _ (s : Measures) (p : Phase) (area : List ℕ) where
     retained-fields =
         let e : suc (s .m) ≡ s .m + 1 = omega arith in
         (λ i. none-area s i
-        ++ (many-same (writeArea (pointerSize s) writePointer) nonePointer (pointerSize s) (none-area s) (s .m) i
-        ++ (many-same writeVersion none 5 none-version (s .m) i ++ zero-indices (s .m) i)))
+        ++ (many-same (writeArea (pointerSize s) writePointer) nonePointer (block (pointerSize s)) (none-area s) (s .m) i
+        ++ (many-same writeVersion none (block 5) none-version (s .m) i ++ many-zeros writeIndex (record { 0 = 0 }) 4 index-bytes (s .m) i)))
         ∙ sym (append-assoc (block (pointerSize s)) (blocks (pointerSize s) (s .m)) (blocks 5 (s .m) ++ replicate (s .m * 4) 0))
         ∙ ap (λ (n : ℕ). blocks (pointerSize s) n ++ (blocks 5 (s .m) ++ replicate (s .m * 4) 0)) e
 

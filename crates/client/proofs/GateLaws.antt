@@ -7,23 +7,23 @@ use Prim.Native.Nat.{ℕ, _+_, _^_, _<_, _≤_}
 use native.Mathlib.Decide.{decLe}
 use native.Mathlib.Omega.{arith}
 use borrow.Author.Tests.{le-leb, lt-leb}
-use lib.Dec.{leb, ltb}
+use lib.Dec.{leb}
 use lib.ListN.{length, length-append}
 use Rattle.coding.specs.Bytes.{Bytes}
 use Rattle.protocol.specs.declared.measures.Measures.{Measures}
 use Rattle.protocol.specs.Format.{Read, writeNumber}
 use Rattle.protocol.specs.Measures.{passes}
 use Rattle.protocol.specs.Answer.{ClientAnswer, refused}
-use Rattle.protocol.specs.Client.{Client, readClient, clientSize}
+use Rattle.protocol.specs.Client.{Client, readClient, clientSize, workSize}
 use Rattle.protocol.specs.ClientEvents.{Step, ClientEnd, unchanged, after, onClient, guarded}
 use Rattle.protocol.proofs.PointerLaws.{length-number}
 use Rattle.client.specs.declared.phase.Phase.{Phase}
 use Rattle.records.specs.declared.answer.Refusal.{Refusal}
 use Rattle.client.specs.declared.gate.Gate.{Gate}
 use Rattle.records.specs.Answer.{number}
-use Rattle.client.specs.Record.{recordOf, areaSize, isSome}
+use Rattle.client.specs.Record.{recordOf, areaSize, isSome, workAt}
 use Rattle.client.specs.Gate.{Gated}
-use Rattle.client.proofs.ClientRecordLaws.{Shown, shown}
+use Rattle.client.proofs.ClientRecordLaws.{Shown, shown, area-length}
 
 pub record-length : (p : Phase) (area : List ℕ) → length (recordOf p area) ≡ 5 + length area
 record-length p area =
@@ -40,9 +40,6 @@ long-record s p area = go (decLe (areaSize s) (length area))
         lt-leb (clientSize s) (length (recordOf p area)) (omega (arith, record-length p area)) ∙ sym (lt-leb (areaSize s) (length area) (omega arith))
 
 module _ (s : Measures) (enough within : Bool) (e : ClientEnd) (refuse : ClientAnswer → ClientEnd) where
-  pub guarded-measures : passes s ≡ false → guarded s enough within e refuse ≡ refuse (refused 1)
-  guarded-measures h = simp h
-
   module _ (h : passes s ≡ true) where
     pub guarded-short : enough ≡ false → guarded s enough within e refuse ≡ refuse (refused 2)
     guarded-short a = simp (h, a)
@@ -83,15 +80,14 @@ through s enough within client room out f refuse r h a b e =
 -- ---- behind an open gate
 
 -- what every event finds there
-pub record Opened (s : Measures) (own : ℕ) (p : Phase) (area : List ℕ) : Type 0 where
+pub record Opened (s : Measures) (p : Phase) (area : List ℕ) : Type 0 where
   pub measures : passes s ≡ true
-  pub within : ltb own (s .m) ≡ true
   pub step : p .step < 256
   pub reading : p .reading .0 < 256 ^ 4
   pub bytes : Bytes area
   pub reads : isSome (readClient s (recordOf p area)) ≡ true
 
-module _ (s : Measures) (own : ℕ) (p : Phase) (area : List ℕ) (opened : Opened s own p area) where
+module _ (s : Measures) (p : Phase) (area : List ℕ) (opened : Opened s p area) where
   -- the client whose record it is
   abbrev pub found : Read Client
   found = some-value (readClient s (recordOf p area)) (opened .reads) .0
@@ -101,3 +97,6 @@ module _ (s : Measures) (own : ℕ) (p : Phase) (area : List ℕ) (opened : Open
 
   pub found-shows : Shown s p area (found .value) (found .rest)
   found-shows = shown s p area (opened .step) (opened .reading) (opened .bytes) found found-reads
+
+  pub work-within : workAt s + workSize s ≤ length area
+  work-within = omega (arith, area-length s (opened .measures) p area (found .value) (found .rest) found-shows)

@@ -20,7 +20,7 @@ use Rattle.protocol.specs.Deposit.{pointerOf}
 use Rattle.protocol.proofs.FormatLaws.{length-same}
 use Rattle.protocol.proofs.EachLaws.{each-map}
 use Rattle.protocol.proofs.NodeMapLaws.{nodes-all}
-use Rattle.protocol.proofs.PointerLaws.{length-number, length-version}
+use Rattle.protocol.proofs.PointerLaws.{length-number, length-version, length-pointer}
 use Rattle.records.specs.Places.{versionAt, splice}
 use Rattle.client.specs.Publish.{digestsIn, pointerFrom}
 use Rattle.records.proofs.NodesLaws.{bit-of}
@@ -44,7 +44,7 @@ splice-before t at k x y e h =
 -- ---- the digests of the first nodes
 
 -- those of the nodes up to i that the map names, as they are written
-abbrev pub gathered : ℕ → ℕ → List ℕ → ℕ → ℕ → List ℕ
+abbrev gathered : ℕ → ℕ → List ℕ → ℕ → ℕ → List ℕ
 gathered n map t at i = writeMany (λ d. d) (each (λ j. getD (digestsIn n t at) (j - 1) []) (nodesOf map i))
 
 module _ (n map : ℕ) (t : List ℕ) (at : ℕ) where
@@ -74,7 +74,7 @@ module _ (n map : ℕ) (t : List ℕ) (at : ℕ) where
     digest-length j a b =
         ap length (getD-tabulate n (λ i. take 32 (drop (at + 7 + 32 * i) t)) (j - 1) [] (omega arith)) ∙ part-length (j - 1) (omega arith)
 
-    pub gathered-length : (i : ℕ) → i ≤ n → length (gathered n map t at i) ≡ 32 * length (nodesOf map i)
+    gathered-length : (i : ℕ) → i ≤ n → length (gathered n map t at i) ≡ 32 * length (nodesOf map i)
     gathered-length i h =
         length-same (λ d. d) (λ d. length d ≡ 32) 32 (λ d g. g) (each digest (nodesOf map i))
         (each-map (λ d. length d ≡ 32) digest 0 (nodesOf map i)
@@ -163,19 +163,14 @@ module _ (s : Measures) (h : passes s ≡ true) (map : ℕ) (b : map < 2 ^ s .n)
 
   -- ---- the pointer
   module _ (f : count map ≡ s .t + s .k) (ht : at + workSize s ≤ length t) where
-    pub digests-length : length digests ≡ 32 * (s .t + s .k)
+    digests-length : length digests ≡ 32 * (s .t + s .k)
     digests-length =
         sym (ap length digests-are)
         ∙ gathered-length (s .n) map t at (omega (arith, sizes s h .pieces)) (s .n) (omega arith)
         ∙ omega (arith, ap length (nodes-all map (s .n) b (sizes s h .nodes)))
 
     formed-length : length (writePointer p) ≡ pointerSize s
-    unfolding writePointer writeNamed pointerFrom pointerOf
-    formed-length =
-        let x = writeVersion (p .version) in
-        let y = writeNumber 2 map in
-        length-append x (y ++ digests)
-        ∙ omega (arith, length-append y digests, length-version (p .version), length-number 2 map, digests-length)
+    formed-length = length-pointer p ∙ omega (arith, digests-length)
 
     pointer-written : writeVersion (versionAt t at) ++ (writeNumber 2 map ++ digests) ≡ writePointer p
     unfolding writePointer writeNamed pointerFrom pointerOf

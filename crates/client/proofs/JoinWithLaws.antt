@@ -1,35 +1,19 @@
--- A piece in its area, lengths by value, and an area lent to a piece and put back.
+-- Lengths by value, an area lent to a piece and put back, and a join that refuses.
 use mathlib.Core.Path.{_≡_, refl, sym, ap, _∙_}
 use mathlib.Core.Bool.{Bool, true, false, cond, _&&_, _||_, true≢false}
-use mathlib.Core.List.{List, [], _∷_, _++_, append-assoc}
+use mathlib.Core.List.{List, _++_, append-assoc}
 use mathlib.Core.Option.{Option, some, none}
-use Prim.Native.Nat.{ℕ, _+_, _-_, _*_, _^_, _<_, _≤_}
-use native.Mathlib.Numerals.{add-one}
+use Prim.Native.Nat.{ℕ, _+_, _-_, _*_, _^_, _≤_}
 use native.Mathlib.Omega.{arith}
 use lib.Dec.{ltb}
-use lib.ListN.{length, getD, take, drop, set, replicate, length-set, length-drop, length-replicate, take-append-drop}
-use lib.Seq.{paste, take-at, take-add, take-suc, take-suc-set, take-set-lt, drop-paste, getD-drop, length-take-le}
+use lib.ListN.{length, take, drop, set, take-append-drop}
+use lib.Seq.{paste, take-at, take-add, take-set-lt, drop-paste, length-take-le}
 use Rattle.coding.specs.Answer.{Outcome}
 use Rattle.coding.specs.Bytes.{tabulate}
 use Rattle.coding.specs.Join.{joined, pageOf, pageEnd, join}
 use Rattle.coding.specs.Nodes.{nodesOf, sound, firstLength}
 use Rattle.coding.specs.Pieces.{proper}
 use Rattle.coding.proofs.BytesLaws.{Lanes}
-use Rattle.protocol.specs.Format.{writeArea}
-use Rattle.client.proofs.DrawLaws.{paste-join}
-
--- a piece, and zeros after it
-pub area-put : (t : List ℕ) (at f : ℕ) (piece : List ℕ) → at + f ≤ length t → length piece ≤ f
-    → paste (paste t at piece (length piece)) (at + length piece) (replicate (at + f - (at + length piece)) 0) (at + f - (at + length piece))
-    ≡ paste t at (writeArea f (λ p. p) piece) f
-unfolding writeArea
-area-put t at f piece h l =
-    let n = length piece in
-    let e : at + f - (at + n) ≡ f - n = omega arith in
-    let g : n + (f - n) ≡ f = omega arith in
-    (λ i. paste (paste t at piece n) (at + n) (replicate (e i) 0) (e i))
-    ∙ paste-join t at piece (replicate (f - n) 0) n (f - n) refl (length-replicate {A = ℕ} (f - n) 0) (omega arith)
-    ∙ ap (paste t at (piece ++ replicate (f - n) 0)) g
 
 -- the lengths, and another for one of them
 pub lengths-done : (g : ℕ → ℕ) (v : List ℕ) (j n i len : ℕ) → Lanes g v j → j ≤ n → n ≤ j → 1 ≤ i → i ≤ n
@@ -37,32 +21,6 @@ pub lengths-done : (g : ℕ → ℕ) (v : List ℕ) (j n i len : ℕ) → Lanes 
 lengths-done g v j n i len x a b lo up =
     let e : j ≡ n = omega arith in
     take-set-lt n v (i - 1) len (omega arith) ∙ ap (λ (l : List ℕ). set l (i - 1) len) (rw e at (x .done))
-
--- the first l bytes are saved
-pub record Saved (t : List ℕ) (at n : ℕ) (v : List ℕ) (l : ℕ) : Type 0 where
-  pub within : l ≤ n
-  pub whole : length v ≡ 4096
-  pub done : take l v ≡ take l (drop at t)
-
-pub saved-none : (t : List ℕ) (at n : ℕ) (v : List ℕ) → length v ≡ 4096 → Saved t at n v 0
-saved-none t at n v h = record { within = omega arith; whole = h; done = refl }
-
-module _ (t : List ℕ) (at n : ℕ) (small : n ≤ 4096) (h : at + n ≤ length t) (v : List ℕ) (l : ℕ) (s : Saved t at n v l) where
-  pub saved-more : l < n → Saved t at n (set v l (getD t (at + l) 0)) (l + 1)
-  saved-more b =
-      let a : l < length v = rw (s .whole) (omega arith) in
-      record {
-        within = omega arith;
-        whole = length-set v l (getD t (at + l) 0) ∙ s .whole;
-        done =
-            rw (add-one l)
-            (take-suc-set v l (getD t (at + l) 0) a
-            ∙ (λ i. s .done i ++ (sym (getD-drop at t l 0) i ∷ []))
-            ∙ sym (take-suc (drop at t) l 0 (omega (arith, length-drop at t))));
-      }
-
-  pub saved-all : n ≤ l → take n v ≡ take n (drop at t)
-  saved-all b = let e : l ≡ n = omega (arith, s .within) in rw e at (s .done)
 
 -- what was written over is put back
 pub put-back : (t : List ℕ) (at : ℕ) (w v : List ℕ) (n : ℕ) → at + n ≤ length t → length w ≡ n → take n v ≡ take n (drop at t)

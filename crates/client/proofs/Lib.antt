@@ -1,6 +1,7 @@
 pub mod PickLaws
 pub mod ClientRecordLaws
 pub mod ClientFormLaws
+pub mod StepLaws
 pub mod GateLaws
 pub mod FreshClientLaws
 pub mod StartLaws

@@ -19,18 +19,14 @@ use Rattle.protocol.specs.Pointer.{writeVersion}
 use Rattle.protocol.specs.Reading.{sameBytes, digestAt}
 use Rattle.protocol.proofs.NodeMapLaws.{stands-listed}
 use Rattle.client.specs.Reply.{matchesAt}
+use Rattle.records.proofs.NodesLaws.{bit-of}
+use Rattle.records.proofs.BytesLaws.{all-append}
 
 -- ---- nodes counted
 
-bit-of : (map i : ℕ) → stands map (i + 1) ≡ eqb (map / 2 ^ i % 2) 1
-unfolding stands
-bit-of map i = let e : i + 1 - 1 ≡ i = omega arith in ap (λ (j : ℕ). eqb (map / 2 ^ j % 2) 1) e
-
 all-last : (f : ℕ → Bool) (xs : List ℕ) (x : ℕ) → all f xs ≡ true → f x ≡ true → all f (xs ++ (x ∷ [])) ≡ true
 unfolding all
-all-last f [] x e h = ap (λ (b : Bool). b && true) h
-all-last f (y ∷ xs) x e h =
-    let a = and-true (f y) (all f xs) e in ap (λ (b : Bool). b && all f (xs ++ (x ∷ []))) (a .0) ∙ all-last f xs x (a .1) h
+all-last f xs x e h = all-append f xs (x ∷ []) ∙ (λ i. e i && (h i && true))
 
 module _ (named counted : ℕ) where
   pub counted-none : all (stands counted) (nodesOf named 0) ≡ true

@@ -28,16 +28,6 @@ use Rattle.client.specs.Receive.{receivedEnd}
 use Rattle.client.proofs.GateLaws.{long-record, guarded-through}
 use Rattle.client.proofs.TellLaws.{reply-long}
 
--- the parts of an end that is another
-pub ends-as : (x y : ClientEnd) → x ≡ y → {a : ClientAnswer} {c r o : List ℕ} → (a ≡ y .answer) × (c ≡ y .client) × (r ≡ y .room) × (o ≡ y .out)
-    → (a ≡ x .answer) × (c ≡ x .client) × (r ≡ x .room) × (o ≡ x .out)
-ends-as x y e p = (
-  p .0 ∙ ap (λ (z : ClientEnd). z .answer) (sym e),
-  p .1 ∙ ap (λ (z : ClientEnd). z .client) (sym e),
-  p .2 ∙ ap (λ (z : ClientEnd). z .room) (sym e),
-  p .3 ∙ ap (λ (z : ClientEnd). z .out) (sym e),
-)
-
 -- three tests, of which the code makes two at once
 pub two-fail : (a b c r : Bool) → r ≡ (a && b) → r ≡ false → false ≡ (a && (b && c))
 two-fail true true c r e f = absurd (true≢false (sym e ∙ f))

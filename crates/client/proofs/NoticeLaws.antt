@@ -1,42 +1,41 @@
 -- The readings that a deposit's second scan notices: the index that a row shows, the one that is kept, and the bit map.
 use mathlib.Core.Path.{_≡_, refl, sym, ap, subst, _∙_}
 use mathlib.Core.Bool.{Bool, true, false, not, cond, _&&_}
-use mathlib.Core.List.{List, [], _∷_, _++_, append-assoc}
+use mathlib.Core.List.{List, _∷_, _++_}
 use mathlib.Core.Option.{Option, some}
-use Prim.Native.Nat.{ℕ, suc, _+_, _-_, _*_, _^_, _<_, _≤_}
+use Prim.Native.Nat.{ℕ, suc, _+_, _*_, _<_, _≤_}
 use native.Mathlib.Decide.{decLt}
 use native.Mathlib.Omega.{arith}
 use borrow.Author.Tests.{ne-eqb}
 use lib.Dec.{ltb, eqb}
-use lib.ListN.{length, getD, take, drop, replicate, length-append, length-drop, take-append-drop}
+use lib.ListN.{length, getD, take, drop, length-append, length-drop, take-append-drop}
 use lib.Seq.{drop-at, drop-drop}
 use Rattle.coding.specs.Bytes.{Bytes}
 use Rattle.coding.proofs.PageLaws.{some-eq}
 use Rattle.protocol.specs.declared.measures.Measures.{Measures}
-use Rattle.protocol.specs.Format.{Read, readNumber, writeNumber, readMany, writeMany, writeArea}
+use Rattle.protocol.specs.Format.{Read, readNumber, writeNumber, readMany, writeMany}
 use Rattle.protocol.specs.Measures.{pointerSize, rowSize}
 use Rattle.protocol.specs.Nodes.{stands, withNode}
 use Rattle.protocol.specs.Pointer.{readPointer, writePointer}
-use Rattle.protocol.specs.Directory.{Row, noRow, writeIndex, writeRow, readRow, readDirectory}
+use Rattle.protocol.specs.Directory.{Row, noRow, writeIndex, readDirectory}
 use Rattle.protocol.specs.Client.{Client, readRetained}
 use Rattle.protocol.specs.Deposit.{noticed}
-use Rattle.protocol.proofs.FormatLaws.{length-same, format-number, format-many}
+use Rattle.protocol.proofs.FormatLaws.{length-same, format-many}
 use Rattle.protocol.proofs.EachLaws.{each-at}
 use Rattle.protocol.proofs.NodeMapLaws.{with-node, with-others, stands-none}
 use Rattle.protocol.proofs.PointerLaws.{GoodPointer, format-pointer}
 use Rattle.protocol.proofs.DirectoryLaws.{GoodIndex, length-index}
-use Rattle.protocol.proofs.RowLaws.{format-row}
 use Rattle.protocol.proofs.ClientLaws.{keeper}
 use Rattle.records.specs.Form.{rest}
 use Rattle.client.specs.Record.{workAt, isSome}
 use Rattle.client.specs.Draw.{rowsOf}
 use Rattle.client.specs.Found.{retainedIn}
-use Rattle.records.proofs.RecordLaws.{bytes-drop}
-use Rattle.parties.proofs.UpdateLaws.{row-bytes}
+use Rattle.records.proofs.PlaceLaws.{number-read}
 use Rattle.parties.proofs.UpdateEndLaws.{own-row}
 use Rattle.client.proofs.ClientRecordLaws.{index-part}
 use Rattle.client.proofs.FoundLaws.{kept}
-use Rattle.client.proofs.ChooseLaws.{some-read, fields-bytes}
+use Rattle.client.proofs.ChooseLaws.{Row-at, row-at}
+use Rattle.client.proofs.GateLaws.{some-value}
 
 pub notices-is : (own : ℕ) (c : Client) (rows : List Row) (p : ℕ)
     → (not (eqb p own) && ltb (getD (c .frozenIndices) p (record { 0 = 0 }) .0) (getD rows p noRow .readingIndex .0)) ≡ noticed own c rows p
@@ -45,65 +44,41 @@ notices-is own c rows p = refl
 
 -- ---- the index that a row shows
 
--- the number whose bytes stand at a place is read there
-number-there : (t : List ℕ) (at n : ℕ) (y : List ℕ) → n < 256 ^ 4 → drop at t ≡ writeNumber 4 n ++ y
-    → (i : ℕ) (u : List ℕ) → readNumber 4 (drop at t) ≡ some (record { value = i; rest = u }) → i ≡ n
-number-there t at n y g e i u h = ap (λ (r : Read ℕ). r .value) (some-eq (sym h ∙ ap (readNumber 4) e ∙ format-number 4 .back n g y))
-
--- the bytes of a row from its pointers on
-record Row-shown (s : Measures) (t : List ℕ) (at : ℕ) (v : Row) : Type 0 where
-  pub good : GoodIndex (v .readingIndex)
-  pub many : length (writeMany writeIndex (v .frozenIndices)) ≡ 4 * s .m
-  pub after : List ℕ
-  pub reads : readMany (readPointer s) (s .m + 1) (drop (at + 1) t)
-      ≡ some (record { value = v .written ∷ v .frozen; rest = writeMany writeIndex (v .frozenIndices) ++ (writeIndex (v .readingIndex) ++ after) })
-
-row-shown : (s : Measures) (t : List ℕ) (at : ℕ) (r : Read Row) → Bytes t → readRow s (drop at t) ≡ some r → Row-shown s t at (r .value)
-unfolding writeArea writeMany
-row-shown s t at r b e =
-    let v = r .value in
-    let x = format-row s .only (drop at t) r (bytes-drop at t b) e in
-    let g = x .0 .0 .0 .0 .1 in
-    let z = replicate {A = ℕ} (rowSize s - length (writeRow v)) 0 ++ r .rest in
-    let f = writeMany writeIndex (v .frozenIndices) in
-    let i = writeIndex (v .readingIndex) in
-    let k : suc (length (v .frozen)) ≡ s .m + 1 = omega (arith, g .1 .1 .1 .0 .1) in
-    record {
-      good = g .1 .1 .1 .1 .1 .1 .1 .0 .0 .0;
-      many =
-          length-same writeIndex GoodIndex 4 (λ i g. length-index i) (v .frozenIndices) (g .1 .1 .1 .1 .1 .0 .0) ∙ omega (arith, g .1 .1 .1 .1 .1 .0 .1);
-      after = z;
-      reads =
-          ap (readMany (readPointer s) (s .m + 1))
-          (sym (drop-drop 1 at t)
-          ∙ ap (drop 1) (x .1 ∙ append-assoc (writeRow v) (replicate {A = ℕ} (rowSize s - length (writeRow v)) 0) (r .rest) ∙ ap (λ (l : List ℕ). l ++ z) (row-bytes v))
-          ∙ fields-bytes v z
-          ∙ ap (λ (l : List ℕ). writeMany writePointer (v .written ∷ v .frozen) ++ (f ++ l)) (append-assoc i [] z))
-          ∙ format-many (readPointer s) writePointer (GoodPointer s) (format-pointer s) (s .m + 1) .back (v .written ∷ v .frozen)
-          ((g .1 .0 .0 .0, g .1 .1 .1 .0 .0), k) (f ++ (i ++ z));
-    }
-
 -- row q of a directory that reads, where rows have so many bytes
 module _ (s : Measures) (size : ℕ) (w : size ≡ rowSize s) (t : List ℕ) (b : Bytes t) (o : isSome (readDirectory s t) ≡ true) (q : ℕ) (h : q < s .m) where
-  there : Row-shown s t (q * size) (getD (rowsOf (readDirectory s t)) q noRow)
+  abbrev row : Row
+  row = getD (rowsOf (readDirectory s t)) q noRow
+
+  there : Row-at s t (q * size) row
   there =
-      let x = some-read (readDirectory s t) o in
-      subst (λ (k : ℕ). Row-shown s t (q * k) (getD (rowsOf (readDirectory s t)) q noRow)) (sym w)
-      (subst (λ (y : Option (Read (List Row))). Row-shown s t (q * rowSize s) (getD (rowsOf y) q noRow)) (sym (x .1))
-      (row-shown s t (q * rowSize s) _ b (own-row s t b q h (x .0) (x .1))))
+      let x = some-value (readDirectory s t) o in
+      subst (λ (k : ℕ). Row-at s t (q * k) row) (sym w)
+      (subst (λ (y : Option (Read (List Row))). Row-at s t (q * rowSize s) (getD (rowsOf y) q noRow)) (sym (x .1))
+      (row-at s t (q * rowSize s) _ b (own-row s t b q h (x .0) (x .1))))
+
+  abbrev frozenOf : List ℕ
+  frozenOf = writeMany writeIndex (row .frozenIndices)
+
+  abbrev shownOf : List ℕ
+  shownOf = writeIndex (row .readingIndex)
+
+  frozen-many : length frozenOf ≡ 4 * s .m
+  frozen-many = length-same writeIndex GoodIndex 4 (λ i g. length-index i) (row .frozenIndices) (there .indices) ∙ omega (arith, there .many)
+
+  pointers-read : readMany (readPointer s) (s .m + 1) (drop (q * size + 1) t)
+      ≡ some (record { value = row .written ∷ row .frozen; rest = frozenOf ++ (shownOf ++ there .spare) })
+  pointers-read =
+      let k : suc (length (row .frozen)) ≡ s .m + 1 = omega (arith, there .clients) in
+      ap (readMany (readPointer s) (s .m + 1)) (there .bytes)
+      ∙ format-many (readPointer s) writePointer (GoodPointer s) (format-pointer s) (s .m + 1) .back (row .written ∷ row .frozen)
+      ((there .written, there .frozen), k) (frozenOf ++ (shownOf ++ there .spare))
 
   pub shown-reads : isSome (readMany (readPointer s) (s .m + 1) (drop (q * size + 1) t)) ≡ true
-  shown-reads = ap isSome (there .reads)
+  shown-reads = ap isSome pointers-read
 
   module _ (indices : ℕ) (e : rest (readMany (readPointer s) (s .m + 1) (drop (q * size + 1) t)) ≡ some (drop indices t)) where
-    abbrev frozenOf : List ℕ
-    frozenOf = writeMany writeIndex (getD (rowsOf (readDirectory s t)) q noRow .frozenIndices)
-
-    abbrev shownOf : List ℕ
-    shownOf = writeIndex (getD (rowsOf (readDirectory s t)) q noRow .readingIndex)
-
-    left : drop indices t ≡ frozenOf ++ (shownOf ++ there .after)
-    left = some-eq (sym e ∙ ap rest (there .reads))
+    left : drop indices t ≡ frozenOf ++ (shownOf ++ there .spare)
+    left = some-eq (sym e ∙ ap rest pointers-read)
 
     pub shown-fits : indices + 4 * s .m + 4 ≤ length t
     shown-fits =
@@ -111,18 +86,18 @@ module _ (s : Measures) (size : ℕ) (w : size ≡ rowSize s) (t : List ℕ) (b 
           arith,
           ap length left,
           length-drop indices t,
-          length-append frozenOf (shownOf ++ there .after),
-          length-append shownOf (there .after),
-          length-index (getD (rowsOf (readDirectory s t)) q noRow .readingIndex),
-          there .many,
+          length-append frozenOf (shownOf ++ there .spare),
+          length-append shownOf (there .spare),
+          length-index (row .readingIndex),
+          frozen-many,
         )
 
     pub shown-told : (i : ℕ) (u : List ℕ) → readNumber 4 (drop (indices + 4 * s .m) t) ≡ some (record { value = i; rest = u })
         → i ≡ getD (rowsOf (readDirectory s t)) q noRow .readingIndex .0
     unfolding writeIndex
-    shown-told i u k =
-        number-there t (indices + 4 * s .m) (getD (rowsOf (readDirectory s t)) q noRow .readingIndex .0) (there .after) (there .good)
-        (sym (drop-drop (4 * s .m) indices t) ∙ ap (drop (4 * s .m)) left ∙ drop-at frozenOf (shownOf ++ there .after) (4 * s .m) (there .many)) i u k
+    shown-told =
+        number-read 4 t (indices + 4 * s .m) (row .readingIndex .0) (there .spare) (there .index)
+        (sym (drop-drop (4 * s .m) indices t) ∙ ap (drop (4 * s .m)) left ∙ drop-at frozenOf (shownOf ++ there .spare) (4 * s .m) frozen-many)
 
 -- ---- the index that is kept
 
@@ -138,7 +113,7 @@ kept-told s area b o q h at e i u k =
     let d : drop at area ≡ writeNumber 4 (n .0) ++ drop 4 (drop at area) =
     sym (take-append-drop 4 (drop at area))
     ∙ ap (λ (l : List ℕ). l ++ drop 4 (drop at area)) (ap (λ (p : ℕ). take 4 (drop p area)) e ∙ index-part s area (keeper x) (drop (workAt s) area) y q h) in
-    number-there area at (n .0) (drop 4 (drop at area))
+    number-read 4 area at (n .0) (drop 4 (drop at area))
     (each-at GoodIndex (record { 0 = 0 }) (x .frozenIndices) (y .good .indices .0) q (omega (arith, y .good .indices .1))) d i u k
 
 -- ---- the bit map

@@ -1,31 +1,21 @@
 -- Laws of the part that a pointer takes.
-use mathlib.Core.Path.{_≡_, refl, sym, ap, _∙_}
+use mathlib.Core.Path.{_≡_, sym, ap, _∙_}
 use mathlib.Core.Bool.{Bool, true, false, cond}
-use mathlib.Core.List.{List, [], _∷_, _++_, append-assoc}
-use mathlib.Core.Option.{some}
+use mathlib.Core.List.{List, _++_, append-assoc}
 use Prim.Native.Nat.{ℕ, _+_, _*_, _≤_}
 use native.Mathlib.Omega.{arith}
 use lib.Dec.{ltb}
 use lib.ListN.{length, take, drop, length-append}
 use lib.Seq.{take-all, take-at, drop-at}
-use Rattle.coding.specs.Bytes.{Bytes}
-use Rattle.coding.proofs.NodesLaws.{nodes-few}
 use Rattle.protocol.specs.declared.measures.Measures.{Measures}
 use Rattle.protocol.specs.declared.version.ReadingIndex.{ReadingIndex}
 use Rattle.protocol.specs.Format.{readNumber, writeNumber, writeMany}
 use Rattle.protocol.specs.Nodes.{count}
 use Rattle.protocol.specs.Pointer.{Pointer, writeVersion, writeNamed, writePointer}
-use Rattle.protocol.proofs.FormatLaws.{Each, format-number}
-use Rattle.protocol.proofs.PointerLaws.{GoodPointer, length-version, length-number}
+use Rattle.protocol.proofs.FormatLaws.{format-number}
+use Rattle.protocol.proofs.PointerLaws.{GoodPointer, length-version, pointer-length}
 use Rattle.client.specs.Pick.{mapOf, pointerPart, pickedPart}
 use Rattle.records.proofs.BytesLaws.{two-read}
-
-pub map-read : (s : List ℕ) (n : ℕ) (r : List ℕ) → 7 ≤ length s → readNumber 2 (drop 5 s) ≡ some (record { value = n; rest = r }) → n ≡ mapOf s
-map-read s n r h e = two-read s 5 n r h e
-
--- at most 16 nodes are named
-pub part-few : (map : ℕ) → count map ≤ 16
-part-few map = nodes-few map 16
 
 pub part-all : (s : List ℕ) → length s ≤ 7 + 32 * count (mapOf s) → s ≡ pointerPart s
 unfolding pointerPart
@@ -44,28 +34,7 @@ module _ (written frozen : List ℕ) (i frozenIndex : ReadingIndex) where
 
 -- ---- the part is the pointer, where one stands
 
-digests-length : (l : List (List ℕ)) → Each (λ d. Bytes d × (length d ≡ 32)) l → length (writeMany (λ d. d) l) ≡ 32 * length l
-unfolding writeMany
-digests-length [] e = refl
-digests-length (d ∷ l) e = length-append d (writeMany (λ d. d) l) ∙ omega (arith, e .0 .1, digests-length l (e .1))
-
 module _ (m : Measures) (p : Pointer) (g : GoodPointer m p) where
-  pub pointer-length : length (writePointer p) ≡ 7 + 32 * count (p .named .nodes)
-  unfolding writePointer writeNamed
-  pointer-length =
-      let x = writeVersion (p .version) in
-      let y = writeNumber 2 (p .named .nodes) in
-      let z = writeMany (λ d. d) (p .named .digests) in
-      length-append x (y ++ z)
-      ∙ omega (
-        arith,
-        length-append y z,
-        length-version (p .version),
-        length-number 2 (p .named .nodes),
-        digests-length (p .named .digests) (g .0 .1 .1 .0),
-        g .0 .1 .1 .1,
-      )
-
   pointer-map : (s : List ℕ) → p .named .nodes ≡ mapOf (writePointer p ++ s)
   unfolding writePointer writeNamed
   pointer-map s =
@@ -73,8 +42,8 @@ module _ (m : Measures) (p : Pointer) (g : GoodPointer m p) where
       let y = writeNumber 2 (p .named .nodes) in
       let z = writeMany (λ d. d) (p .named .digests) in
       let e : (x ++ (y ++ z)) ++ s ≡ x ++ (y ++ (z ++ s)) = append-assoc x (y ++ z) s ∙ ap (λ (l : List ℕ). x ++ l) (append-assoc y z s) in
-      let l : 7 ≤ length (writePointer p ++ s) = omega (arith, length-append (writePointer p) s, pointer-length) in
-      map-read (writePointer p ++ s) (p .named .nodes) (z ++ s) l
+      let l : 7 ≤ length (writePointer p ++ s) = omega (arith, length-append (writePointer p) s, pointer-length m p g) in
+      two-read (writePointer p ++ s) 5 (p .named .nodes) (z ++ s) l
       (ap (λ (t : List ℕ). readNumber 2 (drop 5 t)) e
       ∙ ap (readNumber 2) (drop-at x (y ++ (z ++ s)) 5 (length-version (p .version)))
       ∙ format-number 2 .back (p .named .nodes) (g .0 .1 .0) (z ++ s))
@@ -83,7 +52,7 @@ module _ (m : Measures) (p : Pointer) (g : GoodPointer m p) where
   unfolding pointerPart
   pointer-part s =
       take-at (writePointer p) s (7 + 32 * count (mapOf (writePointer p ++ s)))
-      (pointer-length ∙ ap (λ (x : ℕ). 7 + 32 * count x) (pointer-map s))
+      (pointer-length m p g ∙ ap (λ (x : ℕ). 7 + 32 * count x) (pointer-map s))
 
 -- what is picked of two fields is the pointer that document 01 says
 pub picked-pointer : (m : Measures) (p q : Pointer) → GoodPointer m p → GoodPointer m q → (s t : List ℕ) (i frozenIndex : ReadingIndex)

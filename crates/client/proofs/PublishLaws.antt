@@ -29,7 +29,7 @@ use Rattle.client.specs.Pick.{pointerPart}
 use Rattle.client.specs.Found.{retainedIn, pointerIn}
 use Rattle.client.specs.Publish.{updateOf}
 use Rattle.records.proofs.SizeLaws.{below-rows}
-use Rattle.records.proofs.SpliceLaws.{paste-splice, length-splice, splice-next, splice-front, splice-self, tagged, many-append}
+use Rattle.records.proofs.SpliceLaws.{paste-splice, length-splice, splice-next, splice-front, splice-self, tagged, many-append, to-end}
 use Rattle.client.proofs.PickLaws.{pointer-part}
 use Rattle.client.proofs.ClientRecordLaws.{Retains, frozen-part}
 use Rattle.client.proofs.FoundLaws.{kept, pointer-length, pointer-there}
@@ -54,12 +54,12 @@ many-few w g k h (a ∷ l) e (suc q) =
 
 -- a part of a slice to its end
 pub part-whole : (t : List ℕ) (from : ℕ) → pointerPart (take (length t - from) (drop from t)) ≡ pointerPart (drop from t)
-part-whole t from = ap pointerPart (take-all (length t - from) (drop from t) (omega (arith, length-drop from t)))
+part-whole t from = ap pointerPart (to-end t from)
 
 -- ---- what is frozen
 
 -- the first q frozen pointers, as they are written
-abbrev pub frozenTo : Measures → List ℕ → ℕ → List ℕ
+abbrev frozenTo : Measures → List ℕ → ℕ → List ℕ
 frozenTo s area q = writeMany writePointer (take q (retainedIn s area .frozen))
 
 -- they stand in the room from a place on

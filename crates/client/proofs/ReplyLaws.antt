@@ -1,14 +1,14 @@
 -- A reply to a reading: what stands in the work area, and what each way out leaves.
 use mathlib.Core.Path.{_≡_, refl, sym, ap, _∙_, subst}
-use mathlib.Core.Bool.{Bool, true, false, cond, not, _&&_, _||_}
+use mathlib.Core.Bool.{Bool, true, false, cond, not, _&&_}
 use mathlib.Core.List.{List, [], _∷_, _++_, append-assoc}
 use mathlib.Core.Option.{Option, some, none}
 use Prim.Native.Nat.{ℕ, zero, suc, _+_, _-_, _*_, _^_, _<_, _≤_}
 use native.Mathlib.Omega.{arith}
-use borrow.Author.Tests.{eqb-true, leb-true, lt-ltb, le-ltb}
-use lib.Dec.{leb, ltb, eqb}
+use borrow.Author.Tests.{leb-true, lt-ltb, le-ltb}
+use lib.Dec.{leb, ltb}
 use lib.ListN.{length, getD, take, drop, set, replicate, length-append, length-set, length-map, take-append-drop, List·getD-map}
-use lib.Seq.{paste, take-at, drop-at, take-all, drop-drop, take-append-add, drop-append-add, ext-getD}
+use lib.Seq.{paste, take-at, drop-at, take-all, drop-drop, ext-getD}
 use Rattle.coding.specs.Answer.{Outcome}
 use Rattle.coding.specs.Bytes.{Bytes, tabulate}
 use Rattle.coding.specs.Digest.{pieceDigest}
@@ -16,70 +16,47 @@ use Rattle.coding.specs.Join.{JoinEnd, join}
 use Rattle.coding.specs.Nodes.{all, nodesOf}
 use Rattle.coding.proofs.BytesLaws.{length-tabulate, getD-tabulate, tabulate-ext}
 use Rattle.coding.proofs.Cases.{and-true}
-use Rattle.coding.proofs.PageLaws.{some-eq}
 use Rattle.protocol.specs.declared.measures.Measures.{Measures}
 use Rattle.protocol.specs.declared.version.Version.{Version}
-use Rattle.protocol.specs.Format.{Read, readNumber, writeNumber, writeMany, writeArea}
+use Rattle.protocol.specs.Format.{Read, writeNumber, writeMany, writeArea}
 use Rattle.protocol.specs.Measures.{passes, pointerSize}
 use Rattle.protocol.specs.Nodes.{nodesIn, count, stands, withNode}
-use Rattle.protocol.specs.Pointer.{Pointer, isNone, properPointer, readVersion, writeVersion, writeNamed, writePointer}
+use Rattle.protocol.specs.Pointer.{Pointer, writeVersion, writeNamed, writePointer}
 use Rattle.protocol.specs.Reading.{sameVersion, sameBytes, digestOf, matches, allCounted}
 use Rattle.protocol.specs.Answer.{refused, waits, page, failed}
-use Rattle.protocol.specs.Client.{Phase as Work, step as stepOf, Client, Fetches, readClient, writeClient, lengths, areas, writePieces, writeFetches, writeWork, workSize, writeRetained, retained}
-use Rattle.protocol.specs.ClientEvents.{Step, stays, does, withPhase, goOn, joinedAt, ends, counted, repliedAt, ClientEnd, unchanged, after, onClient}
-use Rattle.protocol.proofs.FormatLaws.{Each, format-number, length-area, length-same}
-use Rattle.protocol.proofs.EachLaws.{each-set, each-at}
+use Rattle.protocol.specs.Client.{Phase as Work, step as stepOf, Client, Fetches, writeClient, lengths, areas, writePieces, writeFetches, writeWork, workSize, writeRetained, retained}
+use Rattle.protocol.specs.ClientEvents.{Step, stays, does, withPhase, goOn, joinedAt, ends, counted, repliedAt, unchanged, after, onClient}
+use Rattle.protocol.proofs.FormatLaws.{Each, length-area, length-same}
+use Rattle.protocol.proofs.EachLaws.{each-set, each-at, each-all}
 use Rattle.protocol.proofs.MeasureLaws.{passed}
-use Rattle.protocol.proofs.PointerLaws.{format-version, length-number, length-version}
+use Rattle.protocol.proofs.PointerLaws.{length-number, length-version, some-count, some-length}
 use Rattle.protocol.proofs.NodeMapLaws.{with-below}
 use Rattle.protocol.proofs.ClientLaws.{GoodDigest, ShortPiece, GoodPhase, map-fits, length-areas, length-retained}
 use Rattle.client.specs.declared.phase.Phase.{Phase}
 use Rattle.client.specs.declared.phase.Turned.{Turned}
 use Rattle.client.specs.declared.reply.Standing.{Standing}
 use Rattle.client.specs.Answer.{answered}
-use Rattle.records.specs.Places.{numberAt, versionAt}
-use Rattle.client.specs.Record.{recordOf, workAt, isSome}
-use Rattle.client.specs.Reply.{repliedEnd, fetchesOf, mapsAt, lengthsAt, standingAt, countsAt, digestPlace, matchesAt, wentOn, cleared, mapped, areaPut, piecePut, lengthsWith}
+use Rattle.records.specs.Places.{numberAt}
+use Rattle.client.specs.Record.{recordOf, workAt}
+use Rattle.client.specs.Reply.{repliedEnd, mapsAt, lengthsAt, standingAt, countsAt, digestPlace, matchesAt, wentOn, cleared, mapped, areaPut, piecePut, lengthsWith}
 use Rattle.client.proofs.ClientFormLaws.{sizes}
-use Rattle.client.proofs.ClientRecordLaws.{drop-past, many-part, Shown, shown, written-parts, area-length, idle-work, turned-written}
-use Rattle.client.proofs.GateLaws.{some-value}
+use Rattle.client.proofs.ClientRecordLaws.{Shown, written-parts, area-length, idle-work, turned-written}
+use Rattle.client.proofs.GateLaws.{work-within, Opened, found, found-reads, found-shows}
 use Rattle.client.proofs.JoinWithLaws.{refused-kept}
 use Rattle.client.proofs.MatchLaws.{rank-below, digest-found}
-use Rattle.client.proofs.PickLaws.{pointer-length}
-use Rattle.records.proofs.PlaceLaws.{read-number, read-version}
-use Rattle.records.proofs.SpliceLaws.{paste-all, splice-parts}
-use Rattle.parties.proofs.UpdateEndLaws.{many-set}
+use Rattle.records.proofs.PlaceLaws.{number-there, version-there}
+use Rattle.records.proofs.SpliceLaws.{paste-all, splice-parts, drop-past, paste-past, many-part, many-put}
+use Rattle.client.proofs.StepLaws.{fetchesOf, fetching-step}
 
 -- ---- bytes at places
 
-pub number-there : (t : List ℕ) (at v : ℕ) (u : List ℕ) → at + 2 ≤ length t → v < 256 ^ 2 → drop at t ≡ writeNumber 2 v ++ u → numberAt t at ≡ v
-number-there t at v u h k e =
-    ap (λ (r : Read ℕ). r .value) (some-eq (sym (read-number t at h) ∙ ap (readNumber 2) e ∙ format-number 2 .back v k u))
-
-version-there : (t : List ℕ) (at : ℕ) (v : Version) (u : List ℕ) → at + 5 ≤ length t → (v .sequence .0 < 256 ^ 4) × (v .client < 256 ^ 1)
-    → drop at t ≡ writeVersion v ++ u → versionAt t at ≡ v
-version-there t at v u h k e =
-    ap (λ (r : Read Version). r .value) (some-eq (sym (read-version t at h) ∙ ap readVersion e ∙ format-version .back v k u))
-
--- a write past a first part
-paste-past : (p t : List ℕ) (n j at : ℕ) (w : List ℕ) (k : ℕ) → length p ≡ n → at ≡ n + j → paste (p ++ t) at w k ≡ p ++ paste t j w k
-paste-past p t n j at w k e f =
-    let g : at ≡ length p + j = omega arith in
-    let m : length p + j + k ≡ length p + (j + k) = omega arith in
-    rw g
-    ((λ i. (take-append-add p t j i ++ take k w) ++ (ap (λ (x : ℕ). drop x (p ++ t)) m ∙ drop-append-add p t (j + k)) i)
-    ∙ ap (λ (l : List ℕ). l ++ drop (j + k) t) (append-assoc p (take j t) (take k w))
-    ∙ append-assoc p (take j t ++ take k w) (drop (j + k) t))
-
--- one of many values of one length, written over
-many-put : {A : Type 0} (w : A → List ℕ) (g : A → Type 0) (k : ℕ) → ((a : A) → g a → length (w a) ≡ k) → (l : List A) → Each g l
+-- one of many values of one length, behind a first part, written over
+put-behind : {A : Type 0} (w : A → List ℕ) (g : A → Type 0) (k : ℕ) → ((a : A) → g a → length (w a) ≡ k) → (l : List A) → Each g l
     → (j : ℕ) → j < length l → (a : A) → g a → (p z : List ℕ) (n at : ℕ) → length p ≡ n → at ≡ n + j * k
     → paste (p ++ (writeMany w l ++ z)) at (w a) k ≡ p ++ (writeMany w (set l j a) ++ z)
-many-put w g k h l e j b a ga p z n at d f =
-    paste-past p (writeMany w l ++ z) n (j * k) at (w a) k d f
-    ∙ ap (λ (x : List ℕ). p ++ x)
-    (ap (λ (x : List ℕ). (take (j * k) (writeMany w l ++ z) ++ x) ++ drop (j * k + k) (writeMany w l ++ z)) (take-all k (w a) (omega (arith, h a ga)))
-    ∙ sym (many-set w g k h z a l j a e b))
+put-behind w g k h l e j b a ga p z n at d f =
+    paste-past p (writeMany w l ++ z) (w a) n (j * k) k at d f
+    ∙ ap (λ (x : List ℕ). p ++ x) (many-put w g k h l e j b a z (w a) (take-all k (w a) (omega (arith, h a ga))))
 
 map-set : (ps : List (List ℕ)) (j : ℕ) (x : List ℕ) → lengths (set ps j x) ≡ set (lengths ps) j (length x)
 map-set [] j x = refl
@@ -87,8 +64,7 @@ map-set (p ∷ ps) zero x = refl
 map-set (p ∷ ps) (suc j) x = ap (λ (l : List ℕ). length p ∷ l) (map-set ps j x)
 
 units : (l : List ℕ) → Each (λ x. Unit {0}) l
-units [] = tt
-units (x ∷ l) = (tt, units l)
+units = each-all (λ x. Unit {0}) (λ x. tt)
 
 -- two numbers behind two parts
 maps-put : (r a b d z b' d' : List ℕ) (at : ℕ) → length r + length a ≡ at → length b ≡ 2 → length d ≡ 2 → length b' ≡ 2 → length d' ≡ 2
@@ -106,38 +82,21 @@ maps-put r a b d z b' d' at e lb ld lb' ld' =
 -- ---- the work of a reading
 
 module _ (s : Measures) (h : passes s ≡ true) (q : Pointer) (n m : ℕ) (ps : List (List ℕ)) (g : GoodPhase s (Work.fetching q n m ps)) (rest : List ℕ) where
-  -- a pointer other than none has t + k digests
-  named-many : count (q .named .nodes) ≡ s .t + s .k
-  unfolding properPointer
-  named-many = go (isNone q) (g .1) (g .0 .1)
-    where
-      go : (b : Bool) → b ≡ false
-          → (b || (leb 1 (q .version .sequence .0) && (ltb (q .version .client) (s .m)
-          && (eqb (count (q .named .nodes)) (s .t + s .k) && ltb (q .named .nodes) (2 ^ s .n))))) ≡ true
-          → count (q .named .nodes) ≡ s .t + s .k
-      go b e f =
-          let a : (leb 1 (q .version .sequence .0) && (ltb (q .version .client) (s .m)
-          && (eqb (count (q .named .nodes)) (s .t + s .k) && ltb (q .named .nodes) (2 ^ s .n)))) ≡ true = rw e at f in
-          let x = and-true (leb 1 (q .version .sequence .0)) _ a in
-          let y = and-true (ltb (q .version .client) (s .m)) _ (x .1) in
-          let z = and-true (eqb (count (q .named .nodes)) (s .t + s .k)) _ (y .1) in
-          eqb-true (count (q .named .nodes)) (s .t + s .k) (z .0)
+  pointer-long : length (writePointer q) ≡ pointerSize s
+  pointer-long = some-length s q (g .0) (g .1)
 
-  pub pointer-long : length (writePointer q) ≡ pointerSize s
-  pointer-long = pointer-length s q (g .0) ∙ ap (λ (k : ℕ). 7 + 32 * k) named-many
-
-  pub lengths-long : length (writeMany (writeNumber 2) (lengths ps)) ≡ 2 * s .n
+  lengths-long : length (writeMany (writeNumber 2) (lengths ps)) ≡ 2 * s .n
   lengths-long =
       length-same (writeNumber 2) (λ l. Unit {0}) 2 (λ l u. length-number 2 l) (lengths ps) (units (lengths ps))
       ∙ omega (arith, length-map ps length, g .6)
 
-  pub areas-long : length (areas s ps) ≡ s .n * s .f
+  areas-long : length (areas s ps) ≡ s .n * s .f
   areas-long = length-areas s ps (g .5) ∙ ap (λ (k : ℕ). k * s .f) (g .6)
 
-  abbrev pub tail : List ℕ
+  abbrev tail : List ℕ
   tail = replicate (workSize s - (pointerSize s + 4 + 2 * s .n + s .n * s .f)) 0 ++ rest
 
-  pub fetching-parts : writeArea (workSize s) (writeWork s) (Work.fetching q n m ps) ++ rest
+  fetching-parts : writeArea (workSize s) (writeWork s) (Work.fetching q n m ps) ++ rest
       ≡ writePointer q ++ (writeNumber 2 n ++ (writeNumber 2 m ++ (writeMany (writeNumber 2) (lengths ps) ++ (areas s ps ++ tail))))
   unfolding writeArea writeWork writeFetches writePieces
   fetching-parts =
@@ -167,17 +126,6 @@ module _ (s : Measures) (h : passes s ≡ true) (q : Pointer) (n m : ℕ) (ps : 
       (append-assoc b (d ++ (l ++ w)) tail
       ∙ ap (λ (x : List ℕ). b ++ x)
       (append-assoc d (l ++ w) tail ∙ ap (λ (x : List ℕ). d ++ x) (append-assoc l w tail)))
-
-fetching-step : (q : Work) → stepOf q ≡ 7
-    → q ≡ Work.fetching (fetchesOf q .pointer) (fetchesOf q .counted) (fetchesOf q .matching) (fetchesOf q .pieces)
-fetching-step Work.idle e = absurd (omega arith)
-fetching-step (Work.scanning bytes) e = absurd (omega arith)
-fetching-step (Work.storing v a ds) e = absurd (omega arith)
-fetching-step (Work.updating x) e = absurd (omega arith)
-fetching-step (Work.freezing x) e = absurd (omega arith)
-fetching-step Work.raising e = absurd (omega arith)
-fetching-step Work.picking e = absurd (omega arith)
-fetching-step (Work.fetching p n m ps) e = refl
 
 other-step : (s : Measures) (i : ℕ) (c : Client) (room out : List ℕ) (v : Version) (y : Option (List ℕ)) (q : Work) → (stepOf q ≡ 7 → ⊥)
     → repliedAt s i c room out v y q ≡ stays waits
@@ -218,7 +166,7 @@ module _ (s : Measures) (h : passes s ≡ true) (p : Phase) (area : List ℕ) (c
       ∙ ap (λ (w : Work). kept ++ (writeArea (workSize s) (writeWork s) w ++ rest)) e
       ∙ ap (λ (l : List ℕ). kept ++ l) (fetching-parts s h q n m ps good rest)
 
-  pub long-area : lengthsAt s + 2 * s .n + s .n * s .f ≤ length area
+  long-area : lengthsAt s + 2 * s .n + s .n * s .f ≤ length area
   long-area = omega (arith, area-length s h p area c rest x, sizes s h .pieces)
 
   -- behind the pointer
@@ -228,7 +176,7 @@ module _ (s : Measures) (h : passes s ≡ true) (p : Phase) (area : List ℕ) (c
       ∙ drop-past kept (ptr ++ (writeNumber 2 n ++ (writeNumber 2 m ++ (lens ++ (areas s ps ++ spare))))) (workAt s) (pointerSize s) (mapsAt s) kept-long refl
       ∙ drop-at ptr (writeNumber 2 n ++ (writeNumber 2 m ++ (lens ++ (areas s ps ++ spare)))) (pointerSize s) (pointer-long s h q n m ps good rest)
 
-  pub standing-is : standingAt area (workAt s) (mapsAt s)
+  standing-is : standingAt area (workAt s) (mapsAt s)
       ≡ record { version = q .version; named = q .named .nodes; counted = n; matching = m }
   unfolding writePointer writeNamed
   standing-is =
@@ -239,18 +187,15 @@ module _ (s : Measures) (h : passes s ≡ true) (p : Phase) (area : List ℕ) (c
       let onward : drop (workAt s) area ≡ a ++ (b ++ (d ++ r)) =
       ap (drop (workAt s)) area-parts ∙ drop-at kept (ptr ++ r) (workAt s) kept-long ∙ append-assoc a (b ++ d) r ∙ ap (λ (l : List ℕ). a ++ l) (append-assoc b d r)
       in
-      let f = version-there area (workAt s) (q .version) (b ++ (d ++ r)) (omega (arith, long-area)) (good .0 .0 .0) onward in
-      let k = number-there area (workAt s + 5) (q .named .nodes) (d ++ r) (omega (arith, long-area)) (good .0 .0 .1 .0)
-      (sym (drop-drop 5 (workAt s) area) ∙ ap (drop 5) onward ∙ drop-at a (b ++ (d ++ r)) 5 (length-version (q .version)))
+      let f = version-there area (workAt s) (q .version) (b ++ (d ++ r)) (good .0 .0 .0) onward .1 in
+      let k = number-there area (workAt s + 5) (q .named .nodes) (d ++ r) (good .0 .0 .1 .0)
+      (sym (drop-drop 5 (workAt s) area) ∙ ap (drop 5) onward ∙ drop-at a (b ++ (d ++ r)) 5 (length-version (q .version))) .1
       in
-      let t = number-there area (mapsAt s) n (writeNumber 2 m ++ (lens ++ (areas s ps ++ spare))) (omega (arith, long-area)) (good .2) maps-onward in
-      let u = number-there area (mapsAt s + 2) m (lens ++ (areas s ps ++ spare)) (omega (arith, long-area)) (map-small m (good .3))
-      (sym (drop-drop 2 (mapsAt s) area) ∙ ap (drop 2) maps-onward ∙ drop-at (writeNumber 2 n) (writeNumber 2 m ++ (lens ++ (areas s ps ++ spare))) 2 (length-number 2 n))
+      let t = number-there area (mapsAt s) n (writeNumber 2 m ++ (lens ++ (areas s ps ++ spare))) (good .2) maps-onward .1 in
+      let u = number-there area (mapsAt s + 2) m (lens ++ (areas s ps ++ spare)) (map-fits s (passed s h) m (good .3))
+      (sym (drop-drop 2 (mapsAt s) area) ∙ ap (drop 2) maps-onward ∙ drop-at (writeNumber 2 n) (writeNumber 2 m ++ (lens ++ (areas s ps ++ spare))) 2 (length-number 2 n)) .1
       in
       λ i. record { version = f i; named = k i; counted = t i; matching = u i }
-    where
-      map-small : (a : ℕ) → a < 2 ^ s .n → a < 256 ^ 2
-      map-small a l = map-fits s (passed s h) a l
 
   -- a named node's digest
   module _ (i : ℕ) (lo : 1 ≤ i) (up : i ≤ s .n) (there : stands (q .named .nodes) i ≡ true) where
@@ -261,10 +206,10 @@ module _ (s : Measures) (h : passes s ≡ true) (p : Phase) (area : List ℕ) (c
     rank-few =
         omega (arith, rank-below (q .named .nodes) i lo (omega (arith, sizes s h .nodes)) there, good .0 .0 .1 .1 .1)
 
-    pub digest-fits : place + 32 ≤ length area
-    digest-fits = omega (arith, rank-few, good .0 .0 .1 .1 .1, named-many s h q n m ps good rest, long-area)
+    digest-fits : place + 32 ≤ length area
+    digest-fits = omega (arith, rank-few, good .0 .0 .1 .1 .1, some-count s q (good .0) (good .1), long-area)
 
-    pub digest-there : take 32 (drop place area) ≡ digestOf q i
+    digest-there : take 32 (drop place area) ≡ digestOf q i
     unfolding writePointer writeNamed
     digest-there =
         let j = length (nodesOf (q .named .nodes) (i - 1)) in
@@ -285,7 +230,7 @@ module _ (s : Measures) (h : passes s ≡ true) (p : Phase) (area : List ℕ) (c
         ∙ many-part (λ d. d) GoodDigest 32 (λ d g. g .1) [] (q .named .digests) (good .0 .0 .1 .1 .0) j rank-few r
         ∙ sym (digest-found (q .named .nodes) i lo (omega (arith, sizes s h .nodes)) there (q .named .digests) (good .0 .0 .1 .1 .1))
 
-    pub matches-there : (y : List ℕ) → matchesAt (s .f) (q .version) i y area place ≡ matches s q i y
+    matches-there : (y : List ℕ) → matchesAt (s .f) (q .version) i y area place ≡ matches s q i y
     unfolding matchesAt matches
     matches-there y =
         ap (λ (l : List ℕ). leb 1 (length y) && (leb (length y) (s .f) && sameBytes (pieceDigest (writeVersion (q .version)) i y) l)) digest-there
@@ -327,17 +272,17 @@ module _ (s : Measures) (h : passes s ≡ true) (p : Phase) (area : List ℕ) (c
     abbrev more : List (List ℕ)
     more = set ps (i - 1) y
 
-    pub more-short : Each (ShortPiece s) more
+    more-short : Each (ShortPiece s) more
     more-short = each-set (ShortPiece s) ps (i - 1) y (b, short) (good .5)
 
-    pub more-many : length more ≡ s .n
+    more-many : length more ≡ s .n
     more-many = length-set ps (i - 1) y ∙ good .6
 
     -- its area alone
     area-written : (l : List ℕ) → length l ≡ 2 * s .n → areaPut (lengthsAt s) (s .n) (s .f) i y (front ++ (l ++ (areas s ps ++ spare))) ≡ front ++ (l ++ (areas s more ++ spare))
     area-written l k =
         ap (λ (t : List ℕ). areaPut (lengthsAt s) (s .n) (s .f) i y t) (sym (append-assoc front l (areas s ps ++ spare)))
-        ∙ many-put (writeArea (s .f) (λ p. p)) (ShortPiece s) (s .f) (λ p g. length-area (s .f) (λ p. p) p (g .1)) ps (good .5) (i - 1) (omega (arith, good .6)) y (b, short)
+        ∙ put-behind (writeArea (s .f) (λ p. p)) (ShortPiece s) (s .f) (λ p g. length-area (s .f) (λ p. p) p (g .1)) ps (good .5) (i - 1) (omega (arith, good .6)) y (b, short)
         (front ++ l) spare (lengthsAt s + 2 * s .n) (lengthsAt s + 2 * s .n + (i - 1) * s .f) (length-append front l ∙ omega (arith, front-long)) refl
         ∙ append-assoc front l (areas s more ++ spare)
 
@@ -354,14 +299,14 @@ module _ (s : Measures) (h : passes s ≡ true) (p : Phase) (area : List ℕ) (c
         ap (λ (t : List ℕ). areaPut (lengthsAt s) (s .n) (s .f) i y (paste t (lengthsAt s + 2 * (i - 1)) (writeNumber 2 (length y)) 2))
         (area-parts ∙ front-joined (lens ++ (areas s ps ++ spare)))
         ∙ ap (λ (t : List ℕ). areaPut (lengthsAt s) (s .n) (s .f) i y t)
-        (many-put (writeNumber 2) (λ l. Unit {0}) 2 (λ l u. length-number 2 l) (lengths ps) (units (lengths ps)) (i - 1) (omega (arith, length-map ps length, good .6))
+        (put-behind (writeNumber 2) (λ l. Unit {0}) 2 (λ l u. length-number 2 l) (lengths ps) (units (lengths ps)) (i - 1) (omega (arith, length-map ps length, good .6))
         (length y) tt front (areas s ps ++ spare) (lengthsAt s) (lengthsAt s + 2 * (i - 1)) front-long (omega arith))
         ∙ area-written l2 k
         ∙ ap (λ (l : List ℕ). front ++ (writeMany (writeNumber 2) l ++ (areas s more ++ spare))) (sym (map-set ps (i - 1) y))
         ∙ sym (front-joined (writeMany (writeNumber 2) (lengths more) ++ (areas s more ++ spare)))
 
     -- the record with it
-    pub piece-shown : Shown s p (piecePut (lengthsAt s) (s .n) (s .f) i y area) (withPhase (Work.fetching q n m more) c) rest
+    piece-shown : Shown s p (piecePut (lengthsAt s) (s .n) (s .f) i y area) (withPhase (Work.fetching q n m more) c) rest
     piece-shown =
         let gm : GoodPhase s (Work.fetching q n m more) = (good .0, good .1, good .2, good .3, good .4, more-short, more-many) in
         record {
@@ -380,7 +325,7 @@ module _ (s : Measures) (h : passes s ≡ true) (p : Phase) (area : List ℕ) (c
         }
 
     -- what is joined
-    pub areas-there : take (s .n * s .f) (drop (lengthsAt s + 2 * s .n) (areaPut (lengthsAt s) (s .n) (s .f) i y area)) ≡ areas s more
+    areas-there : take (s .n * s .f) (drop (lengthsAt s + 2 * s .n) (areaPut (lengthsAt s) (s .n) (s .f) i y area)) ≡ areas s more
     areas-there =
         let l = lengths-long s h q n m ps good rest in
         ap (λ (t : List ℕ). take (s .n * s .f) (drop (lengthsAt s + 2 * s .n) t))
@@ -389,7 +334,7 @@ module _ (s : Measures) (h : passes s ≡ true) (p : Phase) (area : List ℕ) (c
         ∙ ap (take (s .n * s .f)) (drop-at (front ++ lens) (areas s more ++ spare) (lengthsAt s + 2 * s .n) (length-append front lens ∙ omega (arith, front-long, l)))
         ∙ take-at (areas s more) spare (s .n * s .f) (length-areas s more more-short ∙ ap (λ (k : ℕ). k * s .f) more-many)
 
-    pub lengths-there : lengthsWith area (lengthsAt s) (s .n) i (length y) ≡ lengths more
+    lengths-there : lengthsWith area (lengthsAt s) (s .n) i (length y) ≡ lengths more
     lengths-there = ap (λ (l : List ℕ). set l (i - 1) (length y)) (tabulate-ext (s .n) _ (λ j. getD (lengths ps) j 0) one ∙ listed) ∙ sym (map-set ps (i - 1) y)
       where
         many : length (lengths ps) ≡ s .n
@@ -403,9 +348,9 @@ module _ (s : Measures) (h : passes s ≡ true) (p : Phase) (area : List ℕ) (c
             ap (drop (lengthsAt s + 2 * j)) (area-parts ∙ front-joined (lens ++ t)) ∙ drop-past front (lens ++ t) (lengthsAt s) (j * 2) (lengthsAt s + 2 * j) front-long k
             in
             let w = many-part (writeNumber 2) (λ l. Unit {0}) 2 (λ l u. length-number 2 l) 0 (lengths ps) (units (lengths ps)) j (omega (arith, many)) t in
-            number-there area (lengthsAt s + 2 * j) (getD (lengths ps) j 0) (drop 2 (drop (j * 2) (lens ++ t))) (omega (arith, long-area))
+            number-there area (lengthsAt s + 2 * j) (getD (lengths ps) j 0) (drop 2 (drop (j * 2) (lens ++ t)))
             (omega (arith, sizes s h .bytes, List·getD-map length ps j [], each-at (ShortPiece s) [] ps (good .5) j (omega (arith, good .6)) .1))
-            (d ∙ sym (take-append-drop 2 (drop (j * 2) (lens ++ t))) ∙ ap (λ (l : List ℕ). l ++ drop 2 (drop (j * 2) (lens ++ t))) w)
+            (d ∙ sym (take-append-drop 2 (drop (j * 2) (lens ++ t))) ∙ ap (λ (l : List ℕ). l ++ drop 2 (drop (j * 2) (lens ++ t))) w) .1
 
         listed : tabulate (s .n) (λ j. getD (lengths ps) j 0) ≡ lengths ps
         listed =
@@ -417,7 +362,7 @@ module _ (s : Measures) (h : passes s ≡ true) (p : Phase) (area : List ℕ) (c
   reading-kept : c .readingIndex ≡ p .reading
   reading-kept = sym (x .reading)
 
-  pub idle-end : writeClient s (withPhase Work.idle c) ++ rest ≡ recordOf (record { step = 0; reading = p .reading }) (cleared s area)
+  idle-end : writeClient s (withPhase Work.idle c) ++ rest ≡ recordOf (record { step = 0; reading = p .reading }) (cleared s area)
   unfolding cleared
   idle-end =
       turned-written s h p area c rest x Work.idle (c .readingIndex) tt
@@ -425,7 +370,7 @@ module _ (s : Measures) (h : passes s ≡ true) (p : Phase) (area : List ℕ) (c
 
   -- it goes on with other maps, or fails
   module _ (n' m' : ℕ) (fits : n' < 256 ^ 2) (bits : m' < 2 ^ s .n) (few : count m' < s .k) (room out : List ℕ) where
-    pub going : (client : List ℕ) → after s client room out rest (goOn c room out q n' m' ps)
+    going : (client : List ℕ) → after s client room out rest (goOn c room out q n' m' ps)
         ≡ record {
           answer = answered (wentOn p (allCounted q n') .answer);
           client = recordOf (wentOn p (allCounted q n') .phase) (cond (allCounted q n') (cleared s area) (mapped s n' m' area));
@@ -465,42 +410,42 @@ pub maps-done : (s : Measures) (t : List ℕ) (n m at size : ℕ) → at ≡ wor
 unfolding mapped
 maps-done s t n m at size a b = λ j. paste (paste t (a j + b j) (writeNumber 2 n) 2) (a j + b j + 2) (writeNumber 2 m) 2
 
--- ---- the events
+-- the join of the areas with a piece of node i among them
+abbrev joinAt : Measures → ℕ → ℕ → List ℕ → List ℕ → ℕ → List ℕ → JoinEnd
+joinAt s i matching y area at out =
+    join (s .n) (s .k) (s .f) matching (take (s .n * s .f) (drop (at + 2 * s .n) (areaPut at (s .n) (s .f) i y area))) (lengthsWith area at (s .n) i (length y)) out
 
-pub ends-four : (x y : ClientEnd) → x ≡ y → (y .answer ≡ x .answer) × (y .client ≡ x .client) × (y .room ≡ x .room) × (y .out ≡ x .out)
-ends-four x y e = (
-  ap (λ (z : ClientEnd). z .answer) (sym e),
-  ap (λ (z : ClientEnd). z .client) (sym e),
-  ap (λ (z : ClientEnd). z .room) (sym e),
-  ap (λ (z : ClientEnd). z .out) (sym e),
-)
+pub join-told : (s : Measures) (i : ℕ) (y area out : List ℕ) (at m n : ℕ) → at ≡ lengthsAt s → m ≡ n → (z : JoinEnd)
+    → z .outcome ≡ joinAt s i m y area at out .outcome → z .out ≡ joinAt s i m y area at out .out → z ≡ joinAt s i n y area (lengthsAt s) out
+join-told s i y area out at m n a e z f g = (λ j. record { outcome = f j; out = g j }) ∙ (λ j. joinAt s i (e j) y area (a j) out)
+
+-- ---- the events
 
 pub matches-short : (f : ℕ) (v : Version) (i : ℕ) (y t : List ℕ) (at : ℕ) → matchesAt f v i y t at ≡ true → length y ≤ f
 unfolding matchesAt
 matches-short f v i y t at e =
     leb-true (length y) f (and-true (leb (length y) f) _ (and-true (leb 1 (length y)) _ e .1) .0)
 
-module _ (s : Measures) (h : passes s ≡ true) (p : Phase) (hs : p .step < 256) (hr : p .reading .0 < 256 ^ 4) (area : List ℕ) (bytes : Bytes area)
-    (o : isSome (readClient s (recordOf p area)) ≡ true) where
+module _ (s : Measures) (p : Phase) (area : List ℕ) (opened : Opened s p area) where
   abbrev client : List ℕ
   client = recordOf p area
 
   abbrev read : Read Client
-  read = some-value (readClient s client) o .0
+  read = found s p area opened
+
+  h : passes s ≡ true
+  h = opened .measures
 
   shows : Shown s p area (read .value) (read .rest)
-  shows = shown s p area hs hr bytes read (some-value (readClient s client) o .1)
-
-  pub work-within : workAt s + workSize s ≤ length area
-  work-within = omega (arith, area-length s h p area (read .value) (read .rest) shows)
+  shows = found-shows s p area opened
 
   pub lengths-within : lengthsAt s + 2 * s .n + s .n * s .f ≤ length area
-  lengths-within = omega (arith, work-within, sizes s h .pieces)
+  lengths-within = omega (arith, work-within s p area opened, sizes s h .pieces)
 
   module _ (i : ℕ) (v : Version) (y : Option (List ℕ)) (room out : List ℕ) where
     replied : repliedEnd s i v y client room out ≡ after s client room out (read .rest) (repliedAt s i (read .value) room out v y (read .value .phase))
     replied =
-        ap (λ (x : Option (Read Client)). onClient s client room out x (λ c. repliedAt s i c room out v y (c .phase))) (some-value (readClient s client) o .1)
+        ap (λ (x : Option (Read Client)). onClient s client room out x (λ c. repliedAt s i c room out v y (c .phase))) (found-reads s p area opened)
 
     pub other-end : (p .step ≡ 7 → ⊥) → repliedEnd s i v y client room out ≡ unchanged waits client room out
     other-end d =
@@ -625,14 +570,15 @@ module _ (s : Measures) (h : passes s ≡ true) (p : Phase) (hs : p .step < 256)
             ends-at (piecePut (lengthsAt s) (s .n) (s .f) i y area) (some y) (withNode (st .counted) i) (withNode (st .matching) i)
             (λ room out.
             matched room out true (lt-ltb (count (withNode (held .matching) i)) (s .k) few)
-            ∙ going s h p (piecePut (lengthsAt s) (s .n) (s .f) i y area) (withPhase (Work.fetching (held .pointer) (held .counted) (held .matching) (set (held .pieces) (i - 1) y)) (read .value)) (read .rest)
+            ∙ going s h p (piecePut (lengthsAt s) (s .n) (s .f) i y area) (withPhase (Work.fetching (held .pointer) (held .counted) (held .matching) (set (held .pieces) (i - 1) y))
+            (read .value)) (read .rest)
             (piece-shown s h p area (read .value) (read .rest) shows (held .pointer) (held .counted) (held .matching) (held .pieces) phase-is i lo up y by short)
             (held .pointer) (held .counted) (held .matching) (set (held .pieces) (i - 1) y) refl
             (withNode (held .counted) i) (withNode (held .matching) i) counted-small
             (with-below (held .matching) i (s .n) lo up (phase-good .3)) few room out client)
 
         module _ (enough : s .k ≤ count (withNode (st .matching) i)) (room out : List ℕ) (z : JoinEnd)
-            (ze : z ≡ join (s .n) (s .k) (s .f) (withNode (st .matching) i) (take (s .n * s .f) (drop (lengthsAt s + 2 * s .n) (areaPut (lengthsAt s) (s .n) (s .f) i y area))) (lengthsWith area (lengthsAt s) (s .n) i (length y)) out) where
+            (ze : z ≡ joinAt s i (withNode (st .matching) i) y area (lengthsAt s) out) where
           abbrev all-pieces : List (List ℕ)
           all-pieces = set (held .pieces) (i - 1) y
 
@@ -700,9 +646,7 @@ module _ (s : Measures) (h : passes s ≡ true) (p : Phase) (hs : p .step < 256)
             → Ends z (piecePut (lengthsAt s) (s .n) (s .f) i y area) (some y) (withNode (z .counted) i) (withNode (z .matching) i)) same (more-st y by)
 
         abbrev Joined : Standing → List ℕ → List ℕ → JoinEnd → Type 0
-        Joined u y out z =
-            z ≡ join (s .n) (s .k) (s .f) (withNode (u .matching) i) (take (s .n * s .f) (drop (lengthsAt s + 2 * s .n) (areaPut (lengthsAt s) (s .n) (s .f) i y area)))
-            (lengthsWith area (lengthsAt s) (s .n) i (length y)) out
+        Joined u y out z = z ≡ joinAt s i (withNode (u .matching) i) y area (lengthsAt s) out
 
         pub page-end : (y : List ℕ) → Bytes y → countsAt x i v ≡ true → Matches x y ≡ true → s .k ≤ count (withNode (x .matching) i)
             → (room out : List ℕ) (z : JoinEnd) → Joined x y out z → (len : ℕ) → z .outcome ≡ Outcome.gives len

@@ -2,11 +2,11 @@
 use mathlib.Core.Path.{_≡_, refl, sym, ap, ap₂, subst, _∙_}
 use mathlib.Core.Bool.{Bool, true, false, cond}
 use mathlib.Core.List.{List, [], _∷_, _++_, append-assoc, append-nil}
-use Prim.Native.Nat.{ℕ, zero, suc, _+_, _-_, _*_, _<_, _≤_}
-use native.Mathlib.Nat.{suc-mul, mul-le-mul-right}
+use Prim.Native.Nat.{ℕ, suc, _+_, _-_, _*_, _<_, _≤_}
+use native.Mathlib.Nat.{mul-le-mul-right}
 use native.Mathlib.Omega.{arith}
 use lib.ListN.{length, getD, take, drop, set, replicate, length-append, length-set, length-replicate, take-append-drop}
-use lib.Seq.{paste, take-at, drop-at, take-append-add, drop-append-add, take-all, drop-cons, set-at, append-snoc, drop-length, length-take-le}
+use lib.Seq.{paste, take-at, drop-at, take-all, drop-cons, set-at, append-snoc, drop-length, length-take-le}
 use Rattle.coding.specs.Bytes.{tabulate}
 use Rattle.coding.proofs.BytesLaws.{length-tabulate}
 use Rattle.protocol.specs.declared.measures.Measures.{Measures}
@@ -21,28 +21,20 @@ use Rattle.protocol.specs.Directory.{Row, noRow, writeIndex}
 use Rattle.protocol.specs.Client.{Retained, writeRetained, workSize}
 use Rattle.protocol.proofs.MeasureLaws.{passed}
 use Rattle.protocol.proofs.FormatLaws.{Each, length-same}
-use Rattle.protocol.proofs.EachLaws.{each-set}
+use Rattle.protocol.proofs.EachLaws.{each-set, each-all}
 use Rattle.protocol.proofs.PointerLaws.{length-number, length-version}
 use Rattle.protocol.proofs.DirectoryLaws.{length-index}
 use Rattle.client.specs.Record.{workAt}
 use Rattle.client.specs.Freeze.{retainedAfter}
 use Rattle.client.specs.Retain.{freezePointer, reserveVersion, keepIndex, notice}
 use Rattle.records.proofs.SizeLaws.{pointer-bound, pointers-bound}
+use Rattle.records.proofs.SpliceLaws.{paste-past, many-put}
+use Rattle.client.proofs.ClientRecordLaws.{fields-are, areaOf}
 
 -- ---- values of one length, one of them written over
 
--- a paste past a first part
-pub paste-past : (p t b : List ℕ) (n j k at : ℕ) → length p ≡ n → at ≡ n + j → paste (p ++ t) at b k ≡ p ++ paste t j b k
-paste-past p t b n j k at e f =
-    let g : at ≡ length p + j = omega arith in
-    let h : at + k ≡ length p + (j + k) = omega arith in
-    ap₂ (λ (x y : ℕ). take x (p ++ t) ++ take k b ++ drop y (p ++ t)) g h
-    ∙ ap₂ (λ (x y : List ℕ). x ++ take k b ++ y) (take-append-add p t j) (drop-append-add p t (j + k))
-    ∙ ap (λ (x : List ℕ). x ++ drop (j + k) t) (append-assoc p (take j t) (take k b))
-    ∙ append-assoc p (take j t ++ take k b) (drop (j + k) t)
-
 -- a paste over a first part
-pub paste-over : (p t b a : List ℕ) (k : ℕ) → length p ≡ k → take k b ≡ a → paste (p ++ t) 0 b k ≡ a ++ t
+paste-over : (p t b a : List ℕ) (k : ℕ) → length p ≡ k → take k b ≡ a → paste (p ++ t) 0 b k ≡ a ++ t
 paste-over p t b a k e f =
     let z : 0 + k ≡ k = omega arith in
     ap₂ (λ (x y : List ℕ). x ++ y) f (ap (λ (n : ℕ). drop n (p ++ t)) z ∙ drop-at p t k e)
@@ -53,30 +45,18 @@ take-front v n z x r k e =
     ∙ take-at v (n ++ (z ++ (x ++ r))) k e
 
 module _ {A : Type 0} (w : A → List ℕ) (k : ℕ) where
-  abbrev pub Sized : List A → Type 0
+  abbrev Sized : List A → Type 0
   Sized l = Each (λ a. length (w a) ≡ k) l
 
-  pub length-sized : (l : List A) → Sized l → length (writeMany w l) ≡ length l * k
+  length-sized : (l : List A) → Sized l → length (writeMany w l) ≡ length l * k
   length-sized l e = length-same w (λ a. length (w a) ≡ k) k (λ a h. h) l e
 
-  pub many-put : (l : List A) → Sized l → (i : ℕ) → i < length l → (a : A) (t b : List ℕ) → take k b ≡ w a
+  put-sized : (l : List A) → Sized l → (i : ℕ) → i < length l → (a : A) (t b : List ℕ) → take k b ≡ w a
       → paste (writeMany w l ++ t) (i * k) b k ≡ writeMany w (set l i a) ++ t
-  unfolding writeMany
-  many-put [] e i h a t b f = absurd (omega arith)
-  many-put (x ∷ l) e zero h a t b f =
-      let z : 0 * k ≡ 0 = omega arith in
-      rw z
-      (ap (λ (u : List ℕ). paste u 0 b k) (append-assoc (w x) (writeMany w l) t)
-      ∙ paste-over (w x) (writeMany w l ++ t) b (w a) k (e .0) f ∙ sym (append-assoc (w a) (writeMany w l) t))
-  many-put (x ∷ l) e (suc i) h a t b f =
-      ap (λ (u : List ℕ). paste u (suc i * k) b k) (append-assoc (w x) (writeMany w l) t)
-      ∙ paste-past (w x) (writeMany w l ++ t) b k (i * k) k (suc i * k) (e .0) (omega (arith, suc-mul i k))
-      ∙ ap (λ (u : List ℕ). w x ++ u) (many-put l (e .1) i (omega arith) a t b f)
-      ∙ sym (append-assoc (w x) (writeMany w (set l i a)) t)
+  put-sized = many-put w (λ a. length (w a) ≡ k) k (λ a h. h)
 
-  pub sized-all : ((a : A) → length (w a) ≡ k) → (l : List A) → Sized l
-  sized-all h [] = tt
-  sized-all h (a ∷ l) = (h a, sized-all h l)
+  sized-all : ((a : A) → length (w a) ≡ k) → (l : List A) → Sized l
+  sized-all = each-all (λ a. length (w a) ≡ k)
 
 -- ---- what is retained, at the front of an area
 
@@ -100,24 +80,9 @@ abbrev withIndex : ℕ → ReadingIndex → Retained → Retained
 withIndex q i x = record { written = x .written; frozen = x .frozen; reserved = x .reserved; frozenIndices = set (x .frozenIndices) q i }
 
 module _ (s : Measures) where
-  abbrev areaOf : Pointer → List ℕ
-  areaOf = writeArea (pointerSize s) writePointer
-
-  fields-are : (x : Retained) (rest : List ℕ) → writeRetained s x ++ rest
-      ≡ writeMany areaOf (x .written ∷ x .frozen) ++ (writeMany writeVersion (x .reserved) ++ (writeMany writeIndex (x .frozenIndices) ++ rest))
-  unfolding writeRetained writeMany
-  fields-are x rest =
-      let a = areaOf (x .written) in
-      let b = writeMany areaOf (x .frozen) in
-      let v = writeMany writeVersion (x .reserved) in
-      let i = writeMany writeIndex (x .frozenIndices) in
-      append-assoc a (b ++ (v ++ i)) rest
-      ∙ ap (λ (l : List ℕ). a ++ l) (append-assoc b (v ++ i) rest ∙ ap (λ (l : List ℕ). b ++ l) (append-assoc v i rest))
-      ∙ sym (append-assoc a b (v ++ (i ++ rest)))
-
   module _ (area : List ℕ) (x : Retained) (rest : List ℕ) (g : Keeping s area x rest) where
     abbrev pointerBytes : List ℕ
-    pointerBytes = writeMany areaOf (x .written ∷ x .frozen)
+    pointerBytes = writeMany (areaOf s) (x .written ∷ x .frozen)
 
     abbrev versionBytes : List ℕ
     versionBytes = writeMany writeVersion (x .reserved)
@@ -128,7 +93,7 @@ module _ (s : Measures) where
     pointers-length : length pointerBytes ≡ (s .m + 1) * pointerSize s
     pointers-length =
         let e : suc (length (x .frozen)) ≡ s .m + 1 = omega (arith, g .frozen) in
-        length-sized areaOf (pointerSize s) (x .written ∷ x .frozen) (g .pointers) ∙ ap (λ (n : ℕ). n * pointerSize s) e
+        length-sized (areaOf s) (pointerSize s) (x .written ∷ x .frozen) (g .pointers) ∙ ap (λ (n : ℕ). n * pointerSize s) e
 
     versions-length : length versionBytes ≡ 5 * s .m
     versions-length = length-sized writeVersion 5 (x .reserved) (sized-all writeVersion 5 length-version (x .reserved)) ∙ omega (arith, g .reserved)
@@ -143,7 +108,7 @@ module _ (s : Measures) where
         omega (
           arith,
           length-append (writeRetained s x) z,
-          ap length (fields-are x z),
+          ap length (fields-are s x z),
           length-append pointerBytes (versionBytes ++ (indexBytes ++ z)),
           length-append versionBytes (indexBytes ++ z),
           length-append indexBytes z,
@@ -152,35 +117,35 @@ module _ (s : Measures) where
           indices-length,
         )
 
-    pub keeping-rest : drop (workAt s) area ≡ rest
+    keeping-rest : drop (workAt s) area ≡ rest
     keeping-rest = ap (drop (workAt s)) (g .parts) ∙ drop-at (writeRetained s x) rest (workAt s) kept-length
 
     pub keeping-length : length area ≡ workAt s + length rest
     keeping-length = omega (arith, ap length (g .parts), length-append (writeRetained s x) rest, kept-length)
 
     -- the written version stands at the front
-    pub keeping-version : take 5 area ≡ writeVersion (x .written .version)
+    keeping-version : take 5 area ≡ writeVersion (x .written .version)
     unfolding writeRetained writeArea writePointer
     keeping-version = ap (take 5) (g .parts) ∙ take-front (writeVersion (x .written .version)) _ _ _ _ 5 (length-version (x .written .version))
 
     module _ (q : ℕ) (h : q < s .m) (b : List ℕ) where
-      pub put-frozen : (p : Pointer) → length (areaOf p) ≡ pointerSize s → take (pointerSize s) b ≡ areaOf p
+      put-frozen : (p : Pointer) → length (areaOf s p) ≡ pointerSize s → take (pointerSize s) b ≡ areaOf s p
           → Keeping s (paste area ((q + 1) * pointerSize s) b (pointerSize s)) (withFrozen q p x) rest
       put-frozen p l e =
           let n : q + 1 ≡ suc q = omega arith in
           let k : suc q < suc (length (x .frozen)) = omega (arith, g .frozen) in
           record {
-            pointers = (g .pointers .0, each-set (λ a. length (areaOf a) ≡ pointerSize s) (x .frozen) q p l (g .pointers .1));
+            pointers = (g .pointers .0, each-set (λ a. length (areaOf s a) ≡ pointerSize s) (x .frozen) q p l (g .pointers .1));
             frozen = length-set (x .frozen) q p ∙ g .frozen;
             reserved = g .reserved;
             indices = g .indices;
             parts =
-                (λ j. paste ((g .parts ∙ fields-are x rest) j) (n j * pointerSize s) b (pointerSize s))
-                ∙ many-put areaOf (pointerSize s) (x .written ∷ x .frozen) (g .pointers) (suc q) k p (versionBytes ++ (indexBytes ++ rest)) b e
-                ∙ sym (fields-are (withFrozen q p x) rest);
+                (λ j. paste ((g .parts ∙ fields-are s x rest) j) (n j * pointerSize s) b (pointerSize s))
+                ∙ put-sized (areaOf s) (pointerSize s) (x .written ∷ x .frozen) (g .pointers) (suc q) k p (versionBytes ++ (indexBytes ++ rest)) b e
+                ∙ sym (fields-are s (withFrozen q p x) rest);
           }
 
-      pub put-reserved : (v : Version) → take 5 b ≡ writeVersion v
+      put-reserved : (v : Version) → take 5 b ≡ writeVersion v
           → Keeping s (paste area ((s .m + 1) * pointerSize s + 5 * q) b 5) (withReserved q v x) rest
       put-reserved v e =
           let at : ℕ = (s .m + 1) * pointerSize s + 5 * q in
@@ -191,14 +156,14 @@ module _ (s : Measures) where
             reserved = length-set (x .reserved) q v ∙ g .reserved;
             indices = g .indices;
             parts =
-                ap (λ (u : List ℕ). paste u at b 5) (g .parts ∙ fields-are x rest)
+                ap (λ (u : List ℕ). paste u at b 5) (g .parts ∙ fields-are s x rest)
                 ∙ paste-past pointerBytes (versionBytes ++ r) b ((s .m + 1) * pointerSize s) (q * 5) 5 at pointers-length (omega arith)
                 ∙ ap (λ (u : List ℕ). pointerBytes ++ u)
-                (many-put writeVersion 5 (x .reserved) (sized-all writeVersion 5 length-version (x .reserved)) q (omega (arith, g .reserved)) v r b e)
-                ∙ sym (fields-are (withReserved q v x) rest);
+                (put-sized writeVersion 5 (x .reserved) (sized-all writeVersion 5 length-version (x .reserved)) q (omega (arith, g .reserved)) v r b e)
+                ∙ sym (fields-are s (withReserved q v x) rest);
           }
 
-      pub put-index : (i : ReadingIndex) → take 4 b ≡ writeIndex i
+      put-index : (i : ReadingIndex) → take 4 b ≡ writeIndex i
           → Keeping s (paste area ((s .m + 1) * pointerSize s + 5 * s .m + 4 * q) b 4) (withIndex q i x) rest
       put-index i e =
           let at : ℕ = (s .m + 1) * pointerSize s + 5 * s .m + 4 * q in
@@ -209,16 +174,16 @@ module _ (s : Measures) where
             reserved = g .reserved;
             indices = length-set (x .frozenIndices) q i ∙ g .indices;
             parts =
-                ap (λ (u : List ℕ). paste u at b 4) (g .parts ∙ fields-are x rest)
+                ap (λ (u : List ℕ). paste u at b 4) (g .parts ∙ fields-are s x rest)
                 ∙ paste-past pointerBytes (versionBytes ++ r) b ((s .m + 1) * pointerSize s) (5 * s .m + 4 * q) 4 at pointers-length (omega arith)
                 ∙ ap (λ (u : List ℕ). pointerBytes ++ u)
                 (paste-past versionBytes r b (5 * s .m) (q * 4) 4 (5 * s .m + 4 * q) versions-length (omega arith)
                 ∙ ap (λ (u : List ℕ). versionBytes ++ u)
-                (many-put writeIndex 4 (x .frozenIndices) (sized-all writeIndex 4 length-index (x .frozenIndices)) q (omega (arith, g .indices)) i rest b e))
-                ∙ sym (fields-are (withIndex q i x) rest);
+                (put-sized writeIndex 4 (x .frozenIndices) (sized-all writeIndex 4 length-index (x .frozenIndices)) q (omega (arith, g .indices)) i rest b e))
+                ∙ sym (fields-are s (withIndex q i x) rest);
           }
 
-    pub put-written : (p : Pointer) (b : List ℕ) → length (areaOf p) ≡ pointerSize s → take (pointerSize s) b ≡ areaOf p
+    put-written : (p : Pointer) (b : List ℕ) → length (areaOf s p) ≡ pointerSize s → take (pointerSize s) b ≡ areaOf s p
         → Keeping s (paste area 0 b (pointerSize s)) (withWritten p x) rest
     put-written p b l e =
         let z : 0 ≡ 0 * pointerSize s = omega arith in
@@ -228,9 +193,9 @@ module _ (s : Measures) where
           reserved = g .reserved;
           indices = g .indices;
           parts =
-              (λ j. paste ((g .parts ∙ fields-are x rest) j) (z j) b (pointerSize s))
-              ∙ many-put areaOf (pointerSize s) (x .written ∷ x .frozen) (g .pointers) 0 (omega arith) p (versionBytes ++ (indexBytes ++ rest)) b e
-              ∙ sym (fields-are (withWritten p x) rest);
+              (λ j. paste ((g .parts ∙ fields-are s x rest) j) (z j) b (pointerSize s))
+              ∙ put-sized (areaOf s) (pointerSize s) (x .written ∷ x .frozen) (g .pointers) 0 (omega arith) p (versionBytes ++ (indexBytes ++ rest)) b e
+              ∙ sym (fields-are s (withWritten p x) rest);
         }
 
 -- ---- client by client
@@ -362,7 +327,8 @@ module _ (s : Measures) (map : ℕ) (x : Retained) (rows : List Row) (p : Pointe
   partly-ends area g enough u v e f =
       let y = retainedAfter s map x rows p in
       let gw = put-written s area (after (s .m)) rest g p (drop (workAt s) area) sized (ap (take (pointerSize s)) (keeping-rest s area (after (s .m)) rest g) ∙ there) in
-      let gu : Keeping s u y rest = subst (λ (a : List ℕ). Keeping s a y rest) (sym e) (subst (λ (z : Retained). Keeping s (paste area 0 (drop (workAt s) area) (pointerSize s)) z rest) partly-all gw) in
+      let gp = subst (λ (z : Retained). Keeping s (paste area 0 (drop (workAt s) area) (pointerSize s)) z rest) partly-all gw in
+      let gu : Keeping s u y rest = subst (λ (a : List ℕ). Keeping s a y rest) (sym e) gp in
       let z : List ℕ = replicate (workSize s) 0 in
       let k : workAt s ≡ workAt s + 0 = omega arith in
       let l : length (take (workSize s) rest) ≡ workSize s = length-take-le (workSize s) rest enough in
@@ -374,12 +340,6 @@ module _ (s : Measures) (map : ℕ) (x : Retained) (rows : List Row) (p : Pointe
       ∙ paste-over (take (workSize s) rest) (drop (workSize s) rest) z z (workSize s) l (take-all (workSize s) z (omega (arith, length-replicate {A = ℕ} (workSize s) 0))))
 
 -- ---- the writes, as the code makes them
-
-pub chosen-yes : {A : Type 0} (b : Bool) (x y : A) → b ≡ true → x ≡ cond b x y
-chosen-yes b x y e = ap (λ (c : Bool). cond c x y) (sym e)
-
-pub chosen-no : {A : Type 0} (b : Bool) (x y : A) → b ≡ false → y ≡ cond b x y
-chosen-no b x y e = ap (λ (c : Bool). cond c x y) (sym e)
 
 pub record Fits (s : Measures) (size q : ℕ) : Type 0 where
   pub within : (q + 1) * size ≤ (s .m + 1) * size

@@ -3,12 +3,11 @@ use mathlib.Core.Path.{_≡_, refl, sym, ap, _∙_}
 use mathlib.Core.Bool.{Bool, true, false, cond, _&&_}
 use mathlib.Core.List.{List, []}
 use mathlib.Core.Option.{Option, some, none}
-use Prim.Native.Nat.{ℕ, _+_, _-_, _*_, _^_, _<_, _≤_}
+use Prim.Native.Nat.{ℕ, _+_, _-_, _*_, _≤_}
 use native.Mathlib.Omega.{arith}
 use lib.Dec.{leb, ltb}
 use lib.ListN.{length, replicate}
 use lib.Seq.{paste}
-use Rattle.coding.specs.Bytes.{Bytes}
 use Rattle.protocol.specs.declared.measures.Measures.{Measures}
 use Rattle.protocol.specs.declared.version.Sequence.{Sequence}
 use Rattle.protocol.specs.declared.version.NextSequence.{NextSequence}
@@ -29,42 +28,13 @@ use Rattle.client.specs.Choose.{fetchEnd}
 use Rattle.client.specs.Freeze.{newPointer, freezeEnd}
 use Rattle.client.specs.Scan.{scannedEnd, spentEnd}
 use Rattle.records.proofs.FormLaws.{left-read, none-read}
-use Rattle.client.proofs.ClientRecordLaws.{idle-work, Shown, shown, turned-written, area-length}
-use Rattle.client.proofs.GateLaws.{some-value, long-record, through, Opened, found, found-reads}
+use Rattle.client.proofs.ClientRecordLaws.{idle-work, Shown, turned-written}
+use Rattle.client.proofs.GateLaws.{long-record, through, Opened, found, found-reads, found-shows}
+use Rattle.client.proofs.StepLaws.{scanning-step, freezing-step, picking-step}
 
 -- ---- what the rows do, by the step of the phase
 
 module _ (s : Measures) (own : ℕ) (c : Client) (room : List ℕ) (l : List Row) where
-  first : (q : Work) → stepOf q ≡ 1 → scannedAt s own c room l q ≡ draw s own c room (pageOf q) (nextSequence (highest l))
-  first Work.idle e = absurd (omega arith)
-  first (Work.scanning page) e = refl
-  first (Work.storing v a ds) e = absurd (omega arith)
-  first (Work.updating x) e = absurd (omega arith)
-  first (Work.freezing x) e = absurd (omega arith)
-  first Work.raising e = absurd (omega arith)
-  first Work.picking e = absurd (omega arith)
-  first (Work.fetching x n m ps) e = absurd (omega arith)
-
-  second : (q : Work) → stepOf q ≡ 4 → scannedAt s own c room l q ≡ freeze s own c room l (newPointer q)
-  second Work.idle e = absurd (omega arith)
-  second (Work.scanning page) e = absurd (omega arith)
-  second (Work.storing v a ds) e = absurd (omega arith)
-  second (Work.updating x) e = absurd (omega arith)
-  second (Work.freezing x) e = refl
-  second Work.raising e = absurd (omega arith)
-  second Work.picking e = absurd (omega arith)
-  second (Work.fetching x n m ps) e = absurd (omega arith)
-
-  picks : (q : Work) → stepOf q ≡ 6 → scannedAt s own c room l q ≡ fetch s c room (pick own (c .readingIndex) l)
-  picks Work.idle e = absurd (omega arith)
-  picks (Work.scanning page) e = absurd (omega arith)
-  picks (Work.storing v a ds) e = absurd (omega arith)
-  picks (Work.updating x) e = absurd (omega arith)
-  picks (Work.freezing x) e = absurd (omega arith)
-  picks Work.raising e = absurd (omega arith)
-  picks Work.picking e = refl
-  picks (Work.fetching x n m ps) e = absurd (omega arith)
-
   other : (q : Work) → (stepOf q ≡ 1 → ⊥) → (stepOf q ≡ 4 → ⊥) → (stepOf q ≡ 6 → ⊥) → scannedAt s own c room l q ≡ stays (refused 5)
   other Work.idle d e f = refl
   other (Work.scanning page) d e f = absurd (d refl)
@@ -75,64 +45,55 @@ module _ (s : Measures) (own : ℕ) (c : Client) (room : List ℕ) (l : List Row
   other Work.picking d e f = absurd (f refl)
   other (Work.fetching x n m ps) d e f = refl
 
--- two steps that agree on the client that is read
-same-step : (s : Measures) (client room : List ℕ) (f g : Client → Step) (o : Option (Read Client))
-    → ((r : Read Client) → o ≡ some r → f (r .value) ≡ g (r .value)) → onClient s client room [] o f ≡ onClient s client room [] o g
-same-step s client room f g none h = refl
-same-step s client room f g (some r) h = ap (after s client room [] (r .rest)) (h r refl)
-
-module _ (s : Measures) (p : Phase) (hs : p .step < 256) (hr : p .reading .0 < 256 ^ 4) (area : List ℕ) (b : Bytes area) where
+module _ (s : Measures) (p : Phase) (area : List ℕ) (opened : Opened s p area) where
   abbrev client : List ℕ
   client = recordOf p area
 
-  stands : (r : Read Client) → readClient s client ≡ some r → p .step ≡ stepOf (r .value .phase)
-  stands r e = shown s p area hs hr b r e .stands
+  abbrev read : Read Client
+  read = found s p area opened
 
-  module _ (o : isSome (readClient s client) ≡ true) where
-    abbrev read : Read Client
-    read = some-value (readClient s client) o .0
+  abbrev c : Client
+  c = read .value
 
-    reads : readClient s client ≡ some read
-    reads = some-value (readClient s client) o .1
+  shows : Shown s p area c (read .rest)
+  shows = found-shows s p area opened
 
-    shows : Shown s p area (read .value) (read .rest)
-    shows = shown s p area hs hr b read reads
-
-    pub page-within : passes s ≡ true → workAt s + workSize s ≤ length area
-    page-within h = omega (arith, area-length s h p area (read .value) (read .rest) shows)
-
-    -- the work is zeros
-    pub spent-leaves : passes s ≡ true → (at : ℕ) → at ≡ workAt s → (size : ℕ) → size ≡ workSize s
-        → (a : List ℕ) → a ≡ paste area at (replicate (at + size - at) 0) (at + size - at) → (room : List ℕ)
-        → spentEnd s client room
-        ≡ record { answer = spent; client = recordOf (record { step = 0; reading = p .reading }) a; room = room; out = [] }
-    spent-leaves h at ea size es a ew room =
-        let c = read .value in
-        let k : at + size - at ≡ workSize s = omega arith in
-        let w : paste area (workAt s) (replicate (workSize s) 0) (workSize s) ≡ a =
-        (λ i. paste area (sym ea i) (replicate (sym k i) 0) (sym k i)) ∙ sym ew
-        in
-        ap (λ (x : Option (Read Client)). onClient s client room [] x (λ c. does spent (withPhase Work.idle c) room [])) reads
-        ∙ (λ j. record {
-          answer = spent;
-          client =
-              (turned-written s h p area c (read .rest) shows Work.idle (c .readingIndex) tt
-              ∙ (λ i. recordOf (record { step = 0; reading = sym (shows .reading) i }) (paste area (workAt s) (idle-work s i) (workSize s)))
-              ∙ (λ i. recordOf (record { step = 0; reading = p .reading }) (w i))) j;
-          room = room;
-          out = [];
-        })
+  -- the work is zeros
+  pub spent-leaves : (at : ℕ) → at ≡ workAt s → (size : ℕ) → size ≡ workSize s
+      → (a : List ℕ) → a ≡ paste area at (replicate (at + size - at) 0) (at + size - at) → (room : List ℕ)
+      → spentEnd s client room
+      ≡ record { answer = spent; client = recordOf (record { step = 0; reading = p .reading }) a; room = room; out = [] }
+  spent-leaves at ea size es a ew room =
+      let k : at + size - at ≡ workSize s = omega arith in
+      let w : paste area (workAt s) (replicate (workSize s) 0) (workSize s) ≡ a =
+      (λ i. paste area (sym ea i) (replicate (sym k i) 0) (sym k i)) ∙ sym ew
+      in
+      ap (λ (x : Option (Read Client)). onClient s client room [] x (λ c. does spent (withPhase Work.idle c) room [])) (found-reads s p area opened)
+      ∙ (λ j. record {
+        answer = spent;
+        client =
+            (turned-written s (opened .measures) p area c (read .rest) shows Work.idle (c .readingIndex) tt
+            ∙ (λ i. recordOf (record { step = 0; reading = sym (shows .reading) i }) (paste area (workAt s) (idle-work s i) (workSize s)))
+            ∙ (λ i. recordOf (record { step = 0; reading = p .reading }) (w i))) j;
+        room = room;
+        out = [];
+      })
 
   module _ (own : ℕ) (rows room : List ℕ) where
     abbrev l : List Row
     l = rowsOf (readDirectory s rows)
 
+    through-rows : (f : Client → Step) → scannedAt s own c room l (c .phase) ≡ f c → scannedEnd s own client rows room ≡ onClient s client room [] (readClient s client) f
+    through-rows f e =
+        ap (λ (x : Option (Read Client)). onClient s client room [] x (λ c. scannedAt s own c room l (c .phase))) (found-reads s p area opened)
+        ∙ ap (after s client room [] (read .rest)) e
+        ∙ ap (λ (x : Option (Read Client)). onClient s client room [] x f) (sym (found-reads s p area opened))
+
     scanned-first : p .step ≡ 1 → (n : NextSequence) → nextSequence (highest l) ≡ n
         → scannedEnd s own client rows room ≡ onClient s client room [] (readClient s client) (λ c. draw s own c room (pageOf (c .phase)) n)
     scanned-first d n e =
-        same-step s client room (λ c. scannedAt s own c room l (c .phase)) (λ c. draw s own c room (pageOf (c .phase)) n) (readClient s client)
-        (λ r f. first s own (r .value) room l (r .value .phase) (sym (stands r f) ∙ d)
-        ∙ ap (draw s own (r .value) room (pageOf (r .value .phase))) e)
+        through-rows (λ c. draw s own c room (pageOf (c .phase)) n)
+        (ap (scannedAt s own c room l) (scanning-step (c .phase) (sym (shows .stands) ∙ d)) ∙ ap (draw s own c room (pageOf (c .phase))) e)
 
     pub scanned-draws : p .step ≡ 1 → (q : Sequence) → nextSequence (highest l) ≡ NextSequence.Drawn q
         → scannedEnd s own client rows room ≡ drawEnd s own q client room
@@ -143,22 +104,17 @@ module _ (s : Measures) (p : Phase) (hs : p .step < 256) (hr : p .reading .0 < 2
 
     pub scanned-freezes : p .step ≡ 4 → scannedEnd s own client rows room ≡ freezeEnd s own client rows room
     scanned-freezes d =
-        same-step s client room (λ c. scannedAt s own c room l (c .phase)) (λ c. freeze s own c room l (newPointer (c .phase))) (readClient s client)
-        (λ r f. second s own (r .value) room l (r .value .phase) (sym (stands r f) ∙ d))
+        through-rows (λ c. freeze s own c room l (newPointer (c .phase))) (ap (scannedAt s own c room l) (freezing-step (c .phase) (sym (shows .stands) ∙ d)))
 
     pub scanned-fetches : p .step ≡ 6 → scannedEnd s own client rows room ≡ fetchEnd s own client rows room
     scanned-fetches d =
-        same-step s client room (λ c. scannedAt s own c room l (c .phase)) (λ c. fetch s c room (pick own (c .readingIndex) l)) (readClient s client)
-        (λ r f. picks s own (r .value) room l (r .value .phase) (sym (stands r f) ∙ d))
+        through-rows (λ c. fetch s c room (pick own (c .readingIndex) l)) (ap (scannedAt s own c room l) (picking-step (c .phase) (sym (shows .stands) ∙ d)))
 
-    pub scanned-other : isSome (readClient s client) ≡ true → (p .step ≡ 1 → ⊥) → (p .step ≡ 4 → ⊥) → (p .step ≡ 6 → ⊥)
-        → scannedEnd s own client rows room ≡ unchanged (refused 5) client room []
-    scanned-other o d e f =
-        let c = read o in
-        ap (λ (x : Option (Read Client)). onClient s client room [] x (λ c. scannedAt s own c room l (c .phase))) (reads o)
-        ∙ ap (after s client room [] (c .rest))
-        (other s own (c .value) room l (c .value .phase)
-        (λ x. d (stands c (reads o) ∙ x)) (λ x. e (stands c (reads o) ∙ x)) (λ x. f (stands c (reads o) ∙ x)))
+    pub scanned-other : (p .step ≡ 1 → ⊥) → (p .step ≡ 4 → ⊥) → (p .step ≡ 6 → ⊥) → scannedEnd s own client rows room ≡ unchanged (refused 5) client room []
+    scanned-other d e f =
+        ap (λ (x : Option (Read Client)). onClient s client room [] x (λ c. scannedAt s own c room l (c .phase))) (found-reads s p area opened)
+        ∙ ap (after s client room [] (read .rest))
+        (other s own c room l (c .phase) (λ x. d (shows .stands ∙ x)) (λ x. e (shows .stands ∙ x)) (λ x. f (shows .stands ∙ x)))
 
 -- a sequence that is drawn is at least 1
 abbrev drawnOf : NextSequence → ℕ
@@ -171,12 +127,6 @@ drawn-one t q e = go (ltb (t .0) 4294967295) (ap drawnOf e)
     go : (b : Bool) → drawnOf (cond b (NextSequence.Drawn (record { 0 = t .0 + 1 })) NextSequence.Spent) ≡ q .0 → 1 ≤ q .0
     go true f = omega arith
     go false f = omega arith
-
--- what ends as another end
-pub same-end : (x y : ClientEnd) → x ≡ y → (a : ClientAnswer) (k r : List ℕ) → (a ≡ y .answer) × (k ≡ y .client) × (r ≡ y .room)
-    → (a ≡ x .answer) × (k ≡ x .client) × (r ≡ x .room)
-same-end x y e a k r t =
-    (t .0 ∙ ap (λ (z : ClientEnd). z .answer) (sym e), t .1 ∙ ap (λ (z : ClientEnd). z .client) (sym e), t .2 ∙ ap (λ (z : ClientEnd). z .room) (sym e))
 
 -- rows that are too short
 pub rows-short : (a b r : Bool) → b ≡ false → false ≡ (a && (b && r))
@@ -210,17 +160,17 @@ module _ (s : Measures) (own : ℕ) (p : Phase) (area rows room : List ℕ) wher
     unfolding scanAnswer
     scan-shut n g = ap (λ (b : Bool). guarded s b (ltb own (s .m)) (onClient s bytes room [] (readClient s bytes) does-it) refuses) all-long ∙ g
 
-    module _ (opened : Opened s own p area) (t : enough ≡ true) where
-      scan-through : scanAnswer s own bytes rows room ≡ after s bytes room [] (found s own p area opened .rest) (does-it (found s own p area opened .value))
+    module _ (opened : Opened s p area) (within : ltb own (s .m) ≡ true) (t : enough ≡ true) where
+      scan-through : scanAnswer s own bytes rows room ≡ after s bytes room [] (found s p area opened .rest) (does-it (found s p area opened .value))
       scan-through =
-          scan-shut (after s bytes room [] (found s own p area opened .rest) (does-it (found s own p area opened .value)))
-          (through s enough (ltb own (s .m)) bytes room [] does-it refuses (found s own p area opened) (opened .measures) t (opened .within) (found-reads s own p area opened))
+          scan-shut (after s bytes room [] (found s p area opened .rest) (does-it (found s p area opened .value)))
+          (through s enough (ltb own (s .m)) bytes room [] does-it refuses (found s p area opened) (opened .measures) t within (found-reads s p area opened))
 
       pub scan-broken : rest (readDirectory s rows) ≡ none → scanAnswer s own bytes rows room ≡ unchanged (refused 4) bytes room []
       scan-broken f =
           scan-through
-          ∙ ap (λ (x : Option (Read (List Row))). after s bytes room [] (found s own p area opened .rest)
-          (onRows x (λ l. scannedAt s own (found s own p area opened .value) room l (found s own p area opened .value .phase))))
+          ∙ ap (λ (x : Option (Read (List Row))). after s bytes room [] (found s p area opened .rest)
+          (onRows x (λ l. scannedAt s own (found s p area opened .value) room l (found s p area opened .value .phase))))
           (none-read (readDirectory s rows) f)
 
       -- the rows read
@@ -230,10 +180,10 @@ module _ (s : Measures) (own : ℕ) (p : Phase) (area rows room : List ℕ) wher
 
         pub scan-goes : scanAnswer s own bytes rows room ≡ scannedEnd s own bytes rows room
         scan-goes =
-            let c = found s own p area opened in
+            let c = found s p area opened in
             let d = left-read (readDirectory s rows) v f .1 in
             scan-through
             ∙ ap (λ (x : Option (Read (List Row))). after s bytes room [] (c .rest) (onRows x (λ l. scannedAt s own (c .value) room l (c .value .phase)))) d
             ∙ ap (λ (x : Option (Read (List Row))). after s bytes room [] (c .rest) (scannedAt s own (c .value) room (rowsOf x) (c .value .phase))) (sym d)
             ∙ ap (λ (x : Option (Read Client)). onClient s bytes room [] x (λ c. scannedAt s own c room (rowsOf (readDirectory s rows)) (c .phase)))
-            (sym (found-reads s own p area opened))
+            (sym (found-reads s p area opened))

@@ -15,7 +15,6 @@ use Rattle.protocol.specs.declared.version.NextIndex.{NextIndex}
 use Rattle.protocol.specs.Format.{Read, writeNumber, writeMany, writeArea}
 use Rattle.protocol.specs.Measures.{passes}
 use Rattle.protocol.specs.Version.{nextIndex}
-use Rattle.protocol.specs.Pointer.{Pointer}
 use Rattle.protocol.specs.Directory.{writeIndex, mapOf, writeContent, writeFields, writeRecord}
 use Rattle.protocol.specs.Reading.{readingFields}
 use Rattle.protocol.specs.Answer.{ClientAnswer, refused, scan, update}
@@ -26,51 +25,11 @@ use Rattle.protocol.proofs.PointerLaws.{length-number}
 use Rattle.protocol.proofs.ClientLaws.{GoodPhase}
 use Rattle.client.specs.declared.phase.Phase.{Phase}
 use Rattle.client.specs.Record.{recordOf, areaSize, workAt}
+use Rattle.client.specs.Freeze.{newPointer}
 use Rattle.client.proofs.ClientFormLaws.{sizes}
 use Rattle.client.proofs.ClientRecordLaws.{byte-written, idle-work, Shown, turned-written, turned-kept, work-onward, beyond, area-length}
 use Rattle.client.proofs.GateLaws.{long-record, through, Opened, found, found-reads, found-shows}
-
--- ---- phases by their step
-
-idle-step : (q : Work) → stepOf q ≡ 0 → q ≡ Work.idle
-idle-step Work.idle e = refl
-idle-step (Work.scanning page) e = absurd (omega arith)
-idle-step (Work.storing v a ds) e = absurd (omega arith)
-idle-step (Work.updating x) e = absurd (omega arith)
-idle-step (Work.freezing x) e = absurd (omega arith)
-idle-step Work.raising e = absurd (omega arith)
-idle-step Work.picking e = absurd (omega arith)
-idle-step (Work.fetching x c m ps) e = absurd (omega arith)
-
-busy-step : (q : Work) → (stepOf q ≡ 0 → ⊥) → isIdle q ≡ false
-busy-step Work.idle e = absurd (e refl)
-busy-step (Work.scanning page) e = refl
-busy-step (Work.storing v a ds) e = refl
-busy-step (Work.updating x) e = refl
-busy-step (Work.freezing x) e = refl
-busy-step Work.raising e = refl
-busy-step Work.picking e = refl
-busy-step (Work.fetching x c m ps) e = refl
-
-updating-step : (q : Work) → stepOf q ≡ 3 → (x : Pointer) × (q ≡ Work.updating x)
-updating-step Work.idle e = absurd (omega arith)
-updating-step (Work.scanning page) e = absurd (omega arith)
-updating-step (Work.storing v a ds) e = absurd (omega arith)
-updating-step (Work.updating x) e = (x, refl)
-updating-step (Work.freezing x) e = absurd (omega arith)
-updating-step Work.raising e = absurd (omega arith)
-updating-step Work.picking e = absurd (omega arith)
-updating-step (Work.fetching x c m ps) e = absurd (omega arith)
-
-raising-step : (q : Work) → stepOf q ≡ 5 → q ≡ Work.raising
-raising-step Work.idle e = absurd (omega arith)
-raising-step (Work.scanning page) e = absurd (omega arith)
-raising-step (Work.storing v a ds) e = absurd (omega arith)
-raising-step (Work.updating x) e = absurd (omega arith)
-raising-step (Work.freezing x) e = absurd (omega arith)
-raising-step Work.raising e = refl
-raising-step Work.picking e = absurd (omega arith)
-raising-step (Work.fetching x c m ps) e = absurd (omega arith)
+use Rattle.client.proofs.StepLaws.{idle-step, busy-step, updating-step, raising-step}
 
 other-step : (c : Client) (room : List ℕ) (q : Work) → (stepOf q ≡ 3 → ⊥) → (stepOf q ≡ 5 → ⊥) → acknowledgedAt c room q ≡ stays (refused 5)
 other-step c room Work.idle d e = refl
@@ -108,6 +67,18 @@ ends-two x y e = (ap (λ (z : ClientEnd). z .answer) (sym e), ap (λ (z : Client
 
 pub ends-three : (x y : ClientEnd) → x ≡ y → (y .answer ≡ x .answer) × (y .client ≡ x .client) × (y .room ≡ x .room)
 ends-three x y e = (ap (λ (z : ClientEnd). z .answer) (sym e), ap (λ (z : ClientEnd). z .client) (sym e), ap (λ (z : ClientEnd). z .room) (sym e))
+
+pub ends-four : (x y : ClientEnd) → x ≡ y → (y .answer ≡ x .answer) × (y .client ≡ x .client) × (y .room ≡ x .room) × (y .out ≡ x .out)
+ends-four x y e = let t = ends-three x y e in (t .0, t .1, t .2, ap (λ (z : ClientEnd). z .out) (sym e))
+
+-- of an end that is another
+pub same-end : (x y : ClientEnd) → x ≡ y → (a : ClientAnswer) (k r : List ℕ) → (a ≡ y .answer) × (k ≡ y .client) × (r ≡ y .room)
+    → (a ≡ x .answer) × (k ≡ x .client) × (r ≡ x .room)
+same-end x y e a k r t = let q = ends-three x y e in (t .0 ∙ q .0, t .1 ∙ q .1, t .2 ∙ q .2)
+
+pub ends-as : (x y : ClientEnd) → x ≡ y → {a : ClientAnswer} {c r o : List ℕ} → (a ≡ y .answer) × (c ≡ y .client) × (r ≡ y .room) × (o ≡ y .out)
+    → (a ≡ x .answer) × (c ≡ x .client) × (r ≡ x .room) × (o ≡ x .out)
+ends-as x y e p = let q = ends-four x y e in (p .0 ∙ q .0, p .1 ∙ q .1, p .2 ∙ q .2, p .3 ∙ q .3)
 
 -- refused by the measures, or by a shut gate
 module _ (s : Measures) (own : ℕ) (p : Phase) (area : List ℕ) where
@@ -157,15 +128,15 @@ module _ (s : Measures) (own : ℕ) (p : Phase) (area : List ℕ) where
           ap (λ (b : Bool). guarded s b (ltb own (s .m)) (onClient s bytes room [] (readClient s bytes) (λ c. acknowledgedAt c room (c .phase))) refuses)
           (both-long ∙ sym e) ∙ g
 
-module _ (s : Measures) (own : ℕ) (p : Phase) (area : List ℕ) (opened : Opened s own p area) where
+module _ (s : Measures) (own : ℕ) (p : Phase) (area : List ℕ) (opened : Opened s p area) (within : ltb own (s .m) ≡ true) where
   abbrev client : List ℕ
   client = recordOf p area
 
   abbrev read : Read Client
-  read = found s own p area opened
+  read = found s p area opened
 
   shows : Shown s p area (read .value) (read .rest)
-  shows = found-shows s own p area opened
+  shows = found-shows s p area opened
 
   -- with a room
   module _ (room : List ℕ) (enough : (leb (clientSize s) (length client) && leb (roomSize s) (length room)) ≡ true) where
@@ -176,7 +147,7 @@ module _ (s : Measures) (own : ℕ) (p : Phase) (area : List ℕ) (opened : Open
     unfolding startReading
     reading-through =
         through s (leb (clientSize s) (length client) && leb (roomSize s) (length room)) (ltb own (s .m)) client room [] (λ c. beginReading c room)
-        (λ a. unchanged a client room []) read (opened .measures) enough (opened .within) (found-reads s own p area opened)
+        (λ a. unchanged a client room []) read (opened .measures) enough within (found-reads s p area opened)
 
     pub reading-busy : (p .step ≡ 0 → ⊥) → startReading s own client room ≡ unchanged (refused 5) client room []
     unfolding beginReading
@@ -220,7 +191,7 @@ module _ (s : Measures) (own : ℕ) (p : Phase) (area : List ℕ) (opened : Open
     unfolding updateAnswer
     update-through =
         through s (leb (clientSize s) (length client) && leb (roomSize s) (length room)) (ltb own (s .m)) client room [] (λ c. acknowledgedAt c room (c .phase))
-        (λ a. unchanged a client room []) read (opened .measures) enough (opened .within) (found-reads s own p area opened)
+        (λ a. unchanged a client room []) read (opened .measures) enough within (found-reads s p area opened)
 
     pub update-other : (p .step ≡ 3 → ⊥) → (p .step ≡ 5 → ⊥) → updateAnswer s own client room ≡ unchanged (refused 5) client room []
     update-other d e =
@@ -233,11 +204,11 @@ module _ (s : Measures) (own : ℕ) (p : Phase) (area : List ℕ) (opened : Open
     update-freezing d =
         let c = read .value in
         let x = updating-step (c .phase) (sym (shows .stands) ∙ d) in
-        let w : writeWork s (Work.freezing (x .0)) ≡ writeWork s (c .phase) = ap (writeWork s) (sym (x .1)) in
-        update-through ∙ ap (λ (q : Work). went (acknowledgedAt c room q)) (x .1)
+        let w : writeWork s (Work.freezing (newPointer (c .phase))) ≡ writeWork s (c .phase) = ap (writeWork s) (sym x) in
+        update-through ∙ ap (λ (q : Work). went (acknowledgedAt c room q)) x
         ∙ (λ j. record {
           answer = scan;
-          client = turned-kept s (opened .measures) p area c (read .rest) shows (Work.freezing (x .0)) (c .readingIndex) w j;
+          client = turned-kept s (opened .measures) p area c (read .rest) shows (Work.freezing (newPointer (c .phase))) (c .readingIndex) w j;
           room = room;
           out = [];
         })
@@ -268,7 +239,8 @@ module _ (s : Measures) (own : ℕ) (p : Phase) (area : List ℕ) (opened : Open
     deposit-through : startDeposit s own client page ≡ goes (beginDeposit s (read .value) page)
     unfolding startDeposit
     deposit-through =
-        through s (leb (clientSize s) (length client)) (ltb own (s .m)) client [] [] (λ c. beginDeposit s c page) (λ a. unchanged a client [] []) read (opened .measures) enough (opened .within) (found-reads s own p area opened)
+        through s (leb (clientSize s) (length client)) (ltb own (s .m)) client [] [] (λ c. beginDeposit s c page) (λ a. unchanged a client [] []) read (opened .measures) enough within
+        (found-reads s p area opened)
 
     abbrev tried : Bool → Bool → ClientEnd
     tried x y = goes (cond x (cond y (does scan (withPhase (Work.scanning page) (read .value)) [] []) (stays (refused 6))) (stays (refused 5)))

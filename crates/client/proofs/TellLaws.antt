@@ -10,19 +10,13 @@ use borrow.Author.Tests.{eq-eqb, ne-eqb}
 use lib.Dec.{eqb}
 use lib.ListN.{length, getD, drop, length-drop}
 use lib.Seq.{drop-cons, drop-length}
+use Rattle.coding.proofs.Cases.{chosen-yes, chosen-no}
 use Rattle.protocol.specs.declared.measures.Measures.{Measures}
 use Rattle.protocol.specs.declared.version.Version.{Version}
 use Rattle.protocol.specs.Format.{Read, chain, endWith}
 use Rattle.protocol.specs.Message.{readProper, readAnswer, answer, ToClient, readToClient}
 use Rattle.records.specs.Places.{versionAt, properAt, versionAlone}
 use Rattle.parties.proofs.ToNodeLaws.{tag-is, tag-not, eqb-same, proper-read, proper-short, alone}
-
--- what an option tells of a test
-none-of : {A : Type 0} (t : Bool) (a : Option A) → t ≡ false → none ≡ cond t a none
-none-of t a e = sym (ap (λ (x : Bool). cond x a none) e)
-
-some-of : {A : Type 0} (t : Bool) (a : Option A) → t ≡ true → a ≡ cond t a none
-some-of t a e = sym (ap (λ (x : Bool). cond x a none) e)
 
 module _ (s : Measures) where
   -- tag 4
@@ -34,11 +28,11 @@ module _ (s : Measures) where
 
   module _ (b : List ℕ) (h : 1 ≤ length b) (e : getD b 0 0 ≡ 4) where
     pub stored-broken : versionAlone s b ≡ false → none ≡ readToClient s b
-    stored-broken q = none-of (versionAlone s b) _ q ∙ sym (stored-told b h e)
+    stored-broken q = chosen-no (versionAlone s b) _ none q ∙ sym (stored-told b h e)
 
     pub stored-sound : versionAlone s b ≡ true → (v : Version) → v ≡ versionAt b 1 → some (ToClient.stored v) ≡ readToClient s b
     stored-sound q v w =
-        ap (λ (x : Version). some (ToClient.stored x)) w ∙ some-of (versionAlone s b) (some (ToClient.stored (versionAt b 1))) q ∙ sym (stored-told b h e)
+        ap (λ (x : Version). some (ToClient.stored x)) w ∙ chosen-yes (versionAlone s b) (some (ToClient.stored (versionAt b 1))) none q ∙ sym (stored-told b h e)
 
   -- tag 5
 
@@ -51,10 +45,10 @@ module _ (s : Measures) where
 
   module _ (b : List ℕ) (h : 1 ≤ length b) (e : getD b 0 0 ≡ 5) where
     pub freed-broken : (length b ≡ 1 → ⊥) → none ≡ readToClient s b
-    freed-broken q = none-of (eqb (length b) 1) _ (ne-eqb (length b) 1 q) ∙ sym (freed-told b h e)
+    freed-broken q = chosen-no (eqb (length b) 1) _ none (ne-eqb (length b) 1 q) ∙ sym (freed-told b h e)
 
     pub freed-sound : length b ≡ 1 → some ToClient.freed ≡ readToClient s b
-    freed-sound q = some-of (eqb (length b) 1) (some ToClient.freed) (eq-eqb (length b) 1 q) ∙ sym (freed-told b h e)
+    freed-sound q = chosen-yes (eqb (length b) 1) (some ToClient.freed) none (eq-eqb (length b) 1 q) ∙ sym (freed-told b h e)
 
   -- tag 6
 

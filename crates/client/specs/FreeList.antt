@@ -1,16 +1,14 @@
 -- A deposit's free list as the code builds it: versions ascending behind a tag byte at the front of a room.
 use mathlib.Core.Path.{_≡_}
-use mathlib.Core.Bool.{Bool, true, false, cond}
+use mathlib.Core.Bool.{Bool, true, false}
 use mathlib.Core.List.{List}
 use Prim.Native.Nat.{ℕ, _+_, _≤_}
-use lib.ListN.{length, getD}
+use lib.ListN.{length}
 use Rattle.protocol.specs.declared.measures.Measures.{Measures}
 use Rattle.protocol.specs.declared.version.Version.{Version}
 use Rattle.protocol.specs.Format.{writeMany}
 use Rattle.protocol.specs.Measures.{passes}
-use Rattle.protocol.specs.Version.{none}
-use Rattle.protocol.specs.Nodes.{stands}
-use Rattle.protocol.specs.Pointer.{nonePointer, writeVersion}
+use Rattle.protocol.specs.Pointer.{writeVersion}
 use Rattle.protocol.specs.Message.{ToNode, writeToNode}
 use Rattle.protocol.specs.Client.{Retained, readRetained}
 use Rattle.protocol.specs.ClientEvents.{lay}
@@ -22,13 +20,6 @@ use Rattle.client.specs.Freeze.{keptVersions, replacedBy}
 -- the area holds what a client retains
 abbrev pub Holds : Measures → List ℕ → Type 0
 Holds s area = (passes s ≡ true) × (isSome (readRetained s area) ≡ true) × (workAt s ≤ length area)
-
--- what is frozen and reserved for client q with the new version v
-abbrev pub frozenNow : ℕ → Retained → Version → ℕ → Version
-frozenNow map x v q = cond (stands map (q + 1)) v (getD (x .frozen) q nonePointer .version)
-
-abbrev pub reservedNow : ℕ → Retained → ℕ → Version
-reservedNow map x q = cond (stands map (q + 1)) (x .written .version) (getD (x .reserved) q none)
 
 -- n versions behind the tag
 abbrev pub listIn : ℕ → List ℕ → List Version

@@ -7,7 +7,6 @@ use lib.ListN.{getD}
 use Rattle.coding.specs.Bytes.{tabulate}
 use Rattle.protocol.specs.declared.measures.Measures.{Measures}
 use Rattle.protocol.specs.declared.version.Version.{Version}
-use Rattle.protocol.specs.declared.version.ReadingIndex.{ReadingIndex}
 use Rattle.protocol.specs.Version.{none}
 use Rattle.protocol.specs.Nodes.{stands}
 use Rattle.protocol.specs.Pointer.{Pointer, nonePointer}
@@ -21,21 +20,26 @@ use Rattle.client.specs.Draw.{rowsOf}
 abbrev pub Notices : Measures → ℕ → Retained → List Row → ℕ → Type 0
 Notices s own x rows map = (q : ℕ) → q < s .m → stands map (q + 1) ≡ noticed own (clientOf 0 (record { 0 = 0 }) x Work.idle) rows q
 
+-- what is frozen and reserved for client q after it, where v is the new version
+abbrev pub frozenNow : ℕ → Retained → Version → ℕ → Version
+frozenNow map x v q = cond (stands map (q + 1)) v (getD (x .frozen) q nonePointer .version)
+
+abbrev pub reservedNow : ℕ → Retained → ℕ → Version
+reservedNow map x q = cond (stands map (q + 1)) (x .written .version) (getD (x .reserved) q none)
+
 -- what is retained after it: with the new pointer, and the indices that the rows show
 unfoldable pub retainedAfter : Measures → ℕ → Retained → List Row → Pointer → Retained
 retainedAfter s map x rows p =
     record {
       written = p;
       frozen = tabulate (s .m) (λ q. cond (stands map (q + 1)) p (getD (x .frozen) q nonePointer));
-      reserved = tabulate (s .m) (λ q. cond (stands map (q + 1)) (x .written .version) (getD (x .reserved) q none));
+      reserved = tabulate (s .m) (reservedNow map x);
       frozenIndices = tabulate (s .m) (λ q. cond (stands map (q + 1)) (getD rows q noRow .readingIndex) (getD (x .frozenIndices) q (record { 0 = 0 })));
     }
 
--- the versions that are still frozen or reserved, where v is the new one
+-- the versions that are still frozen or reserved
 unfoldable pub keptVersions : Measures → ℕ → Retained → Version → List Version
-keptVersions s map x v =
-    tabulate (s .m) (λ q. cond (stands map (q + 1)) v (getD (x .frozen) q nonePointer .version))
-    ++ tabulate (s .m) (λ q. cond (stands map (q + 1)) (x .written .version) (getD (x .reserved) q none))
+keptVersions s map x v = tabulate (s .m) (frozenNow map x v) ++ tabulate (s .m) (reservedNow map x)
 
 -- the previous version, and the old frozen and reserved versions of the first n clients that are noticed
 unfoldable pub replacedBy : ℕ → Retained → ℕ → List Version

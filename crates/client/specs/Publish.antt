@@ -1,5 +1,5 @@
 -- Acknowledgements of a version's stores, and the pointer that is published.
-use mathlib.Core.List.{List, _++_}
+use mathlib.Core.List.{List}
 use Prim.Native.Nat.{ℕ, _+_, _*_}
 use lib.ListN.{take, drop}
 use Rattle.coding.specs.Bytes.{tabulate}

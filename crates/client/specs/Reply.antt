@@ -1,6 +1,6 @@
 -- Replies to a reading.
 use mathlib.Core.Bool.{Bool, cond, not, _&&_}
-use mathlib.Core.List.{List, []}
+use mathlib.Core.List.{List}
 use mathlib.Core.Option.{Option}
 use Prim.Native.Nat.{ℕ, _+_, _-_, _*_}
 use lib.Dec.{leb}
@@ -14,8 +14,8 @@ use Rattle.protocol.specs.declared.version.Version.{Version}
 use Rattle.protocol.specs.Format.{writeNumber, writeArea}
 use Rattle.protocol.specs.Measures.{pointerSize}
 use Rattle.protocol.specs.Nodes.{stands}
-use Rattle.protocol.specs.Pointer.{nonePointer, writeVersion}
-use Rattle.protocol.specs.Client.{Phase as Work, Fetches, readClient, workSize}
+use Rattle.protocol.specs.Pointer.{writeVersion}
+use Rattle.protocol.specs.Client.{readClient, workSize}
 use Rattle.protocol.specs.Reading.{sameVersion, sameBytes}
 use Rattle.protocol.specs.ClientEvents.{ClientEnd, onClient, repliedAt}
 use Rattle.client.specs.declared.answer.ClientAnswer.{ClientAnswer}
@@ -30,17 +30,6 @@ abbrev pub repliedEnd : Measures → ℕ → Version → Option (List ℕ) → L
 repliedEnd s i v x client room out = onClient s client room out (readClient s client) (λ c. repliedAt s i c room out v x (c .phase))
 
 -- ---- what the code reads of a reading's work
-
--- what a reading keeps
-abbrev pub fetchesOf : Work → Fetches
-fetchesOf Work.idle = record { pointer = nonePointer; counted = 0; matching = 0; pieces = [] }
-fetchesOf (Work.scanning bytes) = record { pointer = nonePointer; counted = 0; matching = 0; pieces = [] }
-fetchesOf (Work.storing v a ds) = record { pointer = nonePointer; counted = 0; matching = 0; pieces = [] }
-fetchesOf (Work.updating p) = record { pointer = nonePointer; counted = 0; matching = 0; pieces = [] }
-fetchesOf (Work.freezing p) = record { pointer = nonePointer; counted = 0; matching = 0; pieces = [] }
-fetchesOf Work.raising = record { pointer = nonePointer; counted = 0; matching = 0; pieces = [] }
-fetchesOf Work.picking = record { pointer = nonePointer; counted = 0; matching = 0; pieces = [] }
-fetchesOf (Work.fetching p n m ps) = record { pointer = p; counted = n; matching = m; pieces = ps }
 
 -- where the maps of counted and of matching nodes stand, after the pointer; then the lengths, and the areas
 abbrev pub mapsAt : Measures → ℕ

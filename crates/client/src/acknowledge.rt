@@ -12,6 +12,7 @@ use records::bytes::u16_at;
 use records::nodes::count;
 use records::nodes::stands;
 use records::nodes::with_node;
+use records::version::same_version;
 use records::version::version_at;
 ghost use mathlib.Core.Path.{_≡_};
 ghost use mathlib.Core.Bool.{true, not, _&&_};
@@ -34,10 +35,7 @@ fn adds(i: usize, v: Version, area: &[u8], at: usize) -> bool
     ensures { λ r. ⌜ r ≡ (sameVersion v (versionAt (now (area .entry)) at) && not (standing (numberAt (now (area .entry)) (at + 5)) i)) ⌝ }
 {
     let w = version_at(area, at);
-    if v.below(w) {
-        return false;
-    }
-    if w.below(v) {
+    if !same_version(v, w) {
         return false;
     }
     !stands(u16_at(area, at + 5), i)

@@ -6,6 +6,7 @@ use protocol::version::Sequence;
 use protocol::version::Version;
 use records::bytes::move_up;
 use records::nodes::stands;
+use records::version::same_version;
 use records::version::version_at;
 ghost use mathlib.Core.Path.{_≡_};
 ghost use mathlib.Core.Bool.{true, not, _&&_, _||_};
@@ -23,8 +24,8 @@ ghost use Rattle.protocol.specs.ClientEvents.{roomSize, lay};
 ghost use Rattle.client.specs.Record.{workAt, isSome};
 ghost use Rattle.records.specs.Places.{versionAt, rank, splice};
 ghost use Rattle.client.specs.Found.{retainedIn};
-ghost use Rattle.client.specs.Freeze.{keptVersions, freedBy};
-ghost use Rattle.client.specs.FreeList.{Holds, frozenNow, reservedNow, Added, Adds, Listing, Frees, freedUpTo};
+ghost use Rattle.client.specs.Freeze.{keptVersions, freedBy, frozenNow, reservedNow};
+ghost use Rattle.client.specs.FreeList.{Holds, Added, Adds, Listing, Frees, freedUpTo};
 
 // What the area retains.
 fn written_version(s: Measures, area: &[u8]) -> Version
@@ -48,15 +49,6 @@ fn reserved_for(s: Measures, area: &[u8], q: usize) -> Version
 {
     let size = pointer_size(s);
     version_at(area, (s.m + 1) * size + 5 * q)
-}
-
-fn same(a: Version, b: Version) -> bool
-    ensures { λ r. ⌜ r ≡ listed a (b ∷ []) ⌝ }
-{
-    if a.below(b) {
-        return false;
-    }
-    !b.below(a)
 }
 
 // What is frozen and reserved for client q after the scan.
@@ -86,11 +78,11 @@ fn kept_for(s: Measures, map: u16, new: Version, area: &[u8], q: usize, v: Versi
         || listed v (reservedNow map (retainedIn s (now (area .entry))) q ∷ [])) ⌝ }
 {
     let frozen = frozen_now(s, map, new, area, q);
-    if same(v, frozen) {
+    if same_version(v, frozen) {
         return true;
     }
     let reserved = reserved_now(s, map, area, q);
-    same(v, reserved)
+    same_version(v, reserved)
 }
 
 // Whether v is none, or still frozen or reserved for any client.
@@ -102,7 +94,7 @@ fn stays(s: Measures, map: u16, new: Version, area: &[u8], v: Version) -> bool
         sequence: Sequence(0),
         client: 255,
     };
-    if same(v, nothing) {
+    if same_version(v, nothing) {
         return true;
     }
     let m = s.m;

@@ -19,6 +19,7 @@ use records::nodes::count;
 use records::nodes::rank;
 use records::nodes::stands;
 use records::nodes::with_node;
+use records::version::same_version;
 use records::version::version_at;
 ghost use mathlib.Core.Path.{_≡_};
 ghost use mathlib.Core.Bool.{true, not, cond, _&&_};
@@ -33,7 +34,7 @@ ghost use Rattle.coding.specs.Nodes.{all};
 ghost use Rattle.protocol.specs.Format.{writeArea};
 ghost use Rattle.protocol.specs.Measures.{passes};
 ghost use Rattle.protocol.specs.Nodes.{nodesIn, count as counting, stands as standing, withNode};
-ghost use Rattle.protocol.specs.Reading.{sameVersion, sameBytes};
+ghost use Rattle.protocol.specs.Reading.{sameBytes};
 ghost use Rattle.protocol.specs.Client.{workSize, readClient};
 ghost use Rattle.client.specs.Answer.{answered};
 ghost use Rattle.client.specs.Record.{recordOf, workAt, isSome};
@@ -61,15 +62,6 @@ fn standing_at(area: &[u8], at: usize, maps: usize) -> Standing
         counted,
         matching,
     }
-}
-
-fn same_version(a: Version, b: Version) -> bool
-    ensures { λ r. ⌜ r ≡ sameVersion a b ⌝ }
-{
-    if a.below(b) {
-        return false;
-    }
-    !b.below(a)
 }
 
 // A named node whose reply is not counted yet.

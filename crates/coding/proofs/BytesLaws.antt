@@ -1,6 +1,6 @@
 -- Laws of lists of bytes: what is tabulated, filled from the front, spliced.
 use mathlib.Core.Path.{_≡_, refl, sym, ap, _∙_}
-use mathlib.Core.List.{List, [], _∷_, _++_}
+use mathlib.Core.List.{List, [], _∷_, _++_, map, map-append}
 use Prim.Native.Nat.{ℕ, zero, suc, _+_, _-_, _*_, _<_, _≤_}
 use native.Mathlib.Nat.{add-mul, one-mul, not-suc-le-zero, mul-le-mul-right}
 use native.Mathlib.Numerals.{add-one}
@@ -58,6 +58,11 @@ module _ {ℓ} {A : Type ℓ} where
 
   pub filled-all : (v : List A) (n : ℕ) (f : ℕ → A) → length v ≡ n → take n v ≡ tabulate n f → v ≡ tabulate n f
   filled-all v n f h e = sym (take-all n v (omega arith)) ∙ e
+
+pub map-tabulate : {A B : Type 0} (g : A → B) (n : ℕ) (f : ℕ → A) → map g (tabulate n f) ≡ tabulate n (λ i. g (f i))
+unfolding tabulate
+map-tabulate g zero f = refl
+map-tabulate {B = B} g (suc n) f = map-append g (tabulate n f) (f n ∷ []) ∙ ap (λ (t : List B). t ++ (g (f n) ∷ [])) (map-tabulate g n f)
 
 -- what is pasted counts as far as it is shown
 pub paste-ext : (d : List ℕ) (at : ℕ) (s t : List ℕ) (n : ℕ) → n ≤ length s → n ≤ length t → ((i : ℕ) → i < n → getD s i 0 ≡ getD t i 0)

@@ -1,6 +1,6 @@
--- Tests: one that antt computes at each number below n, and what it tells; both halves of a conjunction.
-use mathlib.Core.Path.{_≡_, refl, subst, sym}
-use mathlib.Core.Bool.{Bool, true, false, _&&_, false≢true}
+-- Tests: one that antt computes at each number below n, and what it tells; both halves of a conjunction; what a test chooses.
+use mathlib.Core.Path.{_≡_, refl, subst, sym, ap}
+use mathlib.Core.Bool.{Bool, true, false, cond, _&&_, false≢true}
 use Prim.Native.Nat.{ℕ, zero, suc, _<_}
 use native.Mathlib.Decide.{ℕ-discrete}
 use native.Mathlib.Omega.{arith}
@@ -33,3 +33,14 @@ each-below (suc n) f t i h = go (each-below n f (both-right (f n) (allBelow n f)
 pub and-true : (a b : Bool) → (a && b) ≡ true → (a ≡ true) × (b ≡ true)
 and-true true b h = (refl, h)
 and-true false b h = absurd (false≢true h)
+
+pub chosen-yes : {A : Type 0} (b : Bool) (x y : A) → b ≡ true → x ≡ cond b x y
+chosen-yes b x y e = ap (λ (c : Bool). cond c x y) (sym e)
+
+pub chosen-no : {A : Type 0} (b : Bool) (x y : A) → b ≡ false → y ≡ cond b x y
+chosen-no b x y e = ap (λ (c : Bool). cond c x y) (sym e)
+
+-- a function of the one chosen
+pub chosen-of : {A B : Type 0} (f : A → B) (b : Bool) (x y : A) → cond b (f x) (f y) ≡ f (cond b x y)
+chosen-of f true x y = refl
+chosen-of f false x y = refl

@@ -2,7 +2,7 @@
 use mathlib.Core.Path.{_≡_, refl, sym, ap, ap₂, _∙_}
 use mathlib.Core.Bool.{true, false}
 use mathlib.Core.List.{List, [], _∷_, _++_, append-assoc, append-nil}
-use Prim.Native.Nat.{ℕ, zero, suc, _+_, _*_, _<_, _≤_}
+use Prim.Native.Nat.{ℕ, _+_, _*_, _<_, _≤_}
 use native.Mathlib.Numerals.{add-one}
 use native.Mathlib.Omega.{arith}
 use borrow.Author.Tests.{le-leb, lt-leb}
@@ -18,6 +18,7 @@ use Rattle.protocol.proofs.MeasureLaws.{passed}
 use Rattle.protocol.proofs.RowLaws.{fresh-good, row-fits}
 use Rattle.parties.specs.Room.{Built}
 use Rattle.records.proofs.SizeLaws.{row-bound}
+use Rattle.records.proofs.SpliceLaws.{many-same, many-zeros}
 use Rattle.parties.proofs.RoomLaws.{built-map, built-zeros, built-byte, built-area, many-replicated, many-last}
 
 none-bytes : writePointer nonePointer ≡ 0 ∷ 0 ∷ 0 ∷ 0 ∷ 255 ∷ 0 ∷ 0 ∷ []
@@ -52,16 +53,9 @@ fresh-turn i room h b =
     let m : length (p ++ (255 ∷ [])) ≡ 7 * i + 6 = omega (arith, length-append p (255 ∷ [])) in
     let y = built-zeros (p ++ (255 ∷ [])) (set room (length p) 255) x 2 (omega arith) in rw (← n) (rw (← started-more i) y)
 
-index-bytes : writeIndex (record { 0 = 0 }) ≡ replicate 4 0
+pub index-bytes : writeIndex (record { 0 = 0 }) ≡ replicate 4 0
 unfolding writeIndex writeNumber
 index-bytes = refl
-
-indices-bytes : (n : ℕ) → writeMany writeIndex (replicate n (record { 0 = 0 })) ≡ replicate (n * 4) 0
-unfolding writeMany
-indices-bytes zero = refl
-indices-bytes (suc n) =
-    let e : 4 + n * 4 ≡ suc n * 4 = omega arith in
-    ap₂ (λ (x y : List ℕ). x ++ y) index-bytes (indices-bytes n) ∙ replicate-append-replicate 4 (n * 4) 0 ∙ ap (λ (x : ℕ). replicate {A = ℕ} x 0) e
 
 fresh-bytes : (s : Measures) → started (s .m + 1) ++ replicate (s .m * 4 + 4) 0 ≡ writeRow (freshRow s)
 unfolding writeRecord writeFields writeContent writeNumber writeMany mapOf
@@ -70,7 +64,7 @@ fresh-bytes s =
     let i = writeMany writeIndex (replicate (s .m) (record { 0 = 0 })) in
     let e : started (s .m + 1) ≡ 15 ∷ (writePointer nonePointer ++ p) = ap started (add-one (s .m)) in
     let z : replicate {A = ℕ} (s .m * 4 + 4) 0 ≡ i ++ replicate 4 0 =
-    sym (replicate-append-replicate (s .m * 4) 4 0) ∙ ap (λ (x : List ℕ). x ++ replicate 4 0) (sym (indices-bytes (s .m)))
+    sym (replicate-append-replicate (s .m * 4) 4 0) ∙ ap (λ (x : List ℕ). x ++ replicate 4 0) (sym (many-zeros writeIndex (record { 0 = 0 }) 4 index-bytes (s .m)))
     in
     ap₂ (λ (x y : List ℕ). x ++ y) e z
     ∙ ap (λ (x : List ℕ). 15 ∷ x)
@@ -89,17 +83,12 @@ module _ (s : Measures) (h : passes s ≡ true) where
   unfolding writeArea
   fresh-area room b = built-area (writeRow (freshRow s)) room b (rowSize s) (row-fits s (freshRow s) (fresh-good s)) (row-bound s h)
 
-  fresh-same : (i : ℕ) (x : List ℕ) → x ≡ writeArea (rowSize s) writeRow (freshRow s)
-      → writeMany (λ d. d) (replicate i x) ≡ writeMany (writeArea (rowSize s) writeRow) (replicate i (freshRow s))
-  unfolding writeMany
-  fresh-same zero x e = refl
-  fresh-same (suc i) x e = ap₂ (λ (y z : List ℕ). y ++ z) e (fresh-same i x e)
-
   -- a fresh row for each client
   pub fresh-rows : (room : List ℕ) (size : ℕ) → Built (writeRow (freshRow s)) room → size ≡ rowSize s
       → writeMany (λ d. d) (replicate (s .m) (take size room)) ≡ writeDirectory s (freshDirectory s)
   unfolding writeDirectory
-  fresh-rows room size b e = fresh-same (s .m) (take size room) (ap (λ (k : ℕ). take k room) e ∙ fresh-area room b)
+  fresh-rows room size b e =
+      sym (many-same (writeArea (rowSize s) writeRow) (freshRow s) (take size room) (sym (ap (λ (k : ℕ). take k room) e ∙ fresh-area room b)) (s .m))
 
 -- ---- how the event ends
 

@@ -3,22 +3,21 @@ use mathlib.Core.Path.{_≡_, refl, sym, ap, ap₂, subst, _∙_}
 use mathlib.Core.Bool.{true, false}
 use mathlib.Core.List.{List, [], _∷_, _++_, append-assoc}
 use mathlib.Core.Option.{Option, some, none}
-use Prim.Native.Nat.{ℕ, zero, suc, _+_, _-_, _*_, _<_, _≤_}
-use native.Mathlib.Nat.{suc-mul}
+use Prim.Native.Nat.{ℕ, _+_, _-_, _*_, _<_, _≤_}
 use native.Mathlib.Omega.{arith}
 use borrow.Author.Tests.{eq-eqb, leb-true, le-leb, lt-leb, lt-ltb, le-ltb}
 use lib.ListN.{length, take, drop, getD, set, replicate, length-drop}
-use lib.Seq.{take-all, drop-at, drop-append-add, take-append-add, drop-drop, paste}
+use lib.Seq.{take-all, drop-drop, paste}
 use Rattle.coding.specs.Bytes.{Bytes}
 use Rattle.coding.proofs.PageLaws.{none≢some, some-eq}
 use Rattle.protocol.specs.declared.measures.Measures.{Measures}
-use Rattle.protocol.specs.Format.{Read, whole, writeMany, writeArea}
+use Rattle.protocol.specs.Format.{Read, whole, writeArea}
 use Rattle.protocol.specs.Measures.{passes, rowSize}
 use Rattle.protocol.specs.Answer.{refuses, serves}
 use Rattle.protocol.specs.Directory.{Content, fields, readFields, writeFields, mapOf, readRecord}
 use Rattle.protocol.specs.Directory.{Row, noRow, rowFields, writeRow, readRow, readDirectory, writeDirectory, updateRow}
 use Rattle.protocol.specs.DirectoryEvents.{directorySize, onTable, directoryUpdate}
-use Rattle.protocol.proofs.FormatLaws.{Each, length-area}
+use Rattle.protocol.proofs.FormatLaws.{length-area}
 use Rattle.protocol.proofs.EachLaws.{each-at}
 use Rattle.protocol.proofs.DirectoryLaws.{GoodRecord, format-fields, format-record}
 use Rattle.protocol.proofs.RowLaws.{GoodRow, FitsRow, format-row, format-directory, update-good, row-fits}
@@ -29,6 +28,7 @@ use Rattle.parties.specs.Room.{Built, renewed, Renewed}
 use Rattle.records.proofs.FormLaws.{left-read, none-read}
 use Rattle.records.proofs.RecordLaws.{bytes-drop, number-one, ended-left}
 use Rattle.records.proofs.SizeLaws.{row-bound}
+use Rattle.records.proofs.SpliceLaws.{many-at, many-set}
 use Rattle.parties.proofs.RoomLaws.{built-area}
 use Rattle.parties.proofs.UpdateLaws.{Shown, shown, renewed-row, row-bytes}
 
@@ -134,54 +134,6 @@ module _ (s : Measures) (p : passes s ≡ true) (record-bytes table : List ℕ) 
       ∙ ap (λ (k : List (Option Content)). paste table at (writeArea (rowSize s) writeRow (updateRow k r)) (rowSize s)) same
 
 -- ---- the table
-
-module _ {A : Type 0} (w : A → List ℕ) (g : A → Type 0) (k : ℕ) (same : (a : A) → g a → length (w a) ≡ k) (z : List ℕ) (o : A) where
-  -- the value at a place, and what follows
-  many-at : (l : List A) (i : ℕ) → Each g l → i < length l
-      → drop (i * k) (writeMany w l ++ z) ≡ w (getD l i o) ++ drop (i * k + k) (writeMany w l ++ z)
-  unfolding writeMany
-  many-at [] i h b = absurd (omega arith)
-  many-at (a ∷ l) zero h b =
-      let e : 0 * k ≡ 0 = omega arith in
-      let m : 0 * k + k ≡ k = omega arith in
-      rw (m, e)
-      (append-assoc (w a) (writeMany w l) z
-      ∙ ap (λ (x : List ℕ). w a ++ x) (sym (ap (drop k) (append-assoc (w a) (writeMany w l) z) ∙ drop-at (w a) (writeMany w l ++ z) k (same a (h .0)))))
-  many-at (a ∷ l) (suc i) h b =
-      let n : length (w a) ≡ k = same a (h .0) in
-      let e : suc i * k ≡ length (w a) + i * k = omega (arith, suc-mul i k) in
-      let m : suc i * k + k ≡ length (w a) + (i * k + k) = omega (arith, suc-mul i k) in
-      rw (m, e)
-      (ap (drop (length (w a) + i * k)) (append-assoc (w a) (writeMany w l) z)
-      ∙ drop-append-add (w a) (writeMany w l ++ z) (i * k)
-      ∙ many-at l i (h .1) (omega arith)
-      ∙ ap (λ (x : List ℕ). w (getD l i o) ++ x)
-      (sym (ap (drop (length (w a) + (i * k + k))) (append-assoc (w a) (writeMany w l) z) ∙ drop-append-add (w a) (writeMany w l ++ z) (i * k + k))))
-
-  -- another value at a place
-  pub many-set : (l : List A) (i : ℕ) (a : A) → Each g l → i < length l
-      → writeMany w (set l i a) ++ z ≡ (take (i * k) (writeMany w l ++ z) ++ w a) ++ drop (i * k + k) (writeMany w l ++ z)
-  unfolding writeMany
-  many-set [] i a h b = absurd (omega arith)
-  many-set (x ∷ l) zero a h b =
-      let e : 0 * k ≡ 0 = omega arith in
-      let m : 0 * k + k ≡ k = omega arith in
-      rw (m, e)
-      (append-assoc (w a) (writeMany w l) z
-      ∙ ap (λ (y : List ℕ). w a ++ y) (sym (ap (drop k) (append-assoc (w x) (writeMany w l) z) ∙ drop-at (w x) (writeMany w l ++ z) k (same x (h .0)))))
-  many-set (x ∷ l) (suc i) a h b =
-      let n : length (w x) ≡ k = same x (h .0) in
-      let e : suc i * k ≡ length (w x) + i * k = omega (arith, suc-mul i k) in
-      let m : suc i * k + k ≡ length (w x) + (i * k + k) = omega (arith, suc-mul i k) in
-      let t = writeMany w l ++ z in
-      rw (m, e)
-      (append-assoc (w x) (writeMany w (set l i a)) z
-      ∙ ap (λ (y : List ℕ). w x ++ y) (many-set l i a (h .1) (omega arith))
-      ∙ sym (append-assoc (w x) (take (i * k) t ++ w a) (drop (i * k + k) t))
-      ∙ ap (λ (y : List ℕ). y ++ drop (i * k + k) t) (sym (append-assoc (w x) (take (i * k) t) (w a)))
-      ∙ ap₂ (λ (y v : List ℕ). (y ++ w a) ++ v)
-      (sym (ap (take (length (w x) + i * k)) (append-assoc (w x) (writeMany w l) z) ∙ take-append-add (w x) t (i * k)))
-      (sym (ap (drop (length (w x) + (i * k + k))) (append-assoc (w x) (writeMany w l) z) ∙ drop-append-add (w x) t (i * k + k))))
 
 module _ (s : Measures) (table : List ℕ) (b : Bytes table) (own : ℕ) (o : own < s .m) (r : Read (List Row)) (q : readDirectory s table ≡ some r) where
   size-row : (v : Row) → FitsRow s v → length (writeArea (rowSize s) writeRow v) ≡ rowSize s

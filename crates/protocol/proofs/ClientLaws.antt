@@ -31,7 +31,7 @@ use Rattle.protocol.specs.Client.{areas, Fetches, readFetches, writeFetc
 use Rattle.protocol.specs.Client.{pointerArea, readRetained, writeRetained, retained, clientOf, readClient, writeClient, clientSize, freshClient}
 use Rattle.protocol.proofs.FormatLaws.{Format, format-then, format-check, format-nothing, format-number, format-many, format-each}
 use Rattle.protocol.proofs.FormatLaws.{format-bytes, format-area, as-back, as-only, Each, EachOf, length-area, length-same}
-use Rattle.protocol.proofs.EachLaws.{each-replicate}
+use Rattle.protocol.proofs.EachLaws.{each-all, each-replicate}
 pub use Rattle.protocol.proofs.EachLaws.{each-as}
 use Rattle.protocol.proofs.MeasureLaws.{Passed, passed}
 use Rattle.protocol.proofs.PointerLaws.{GoodVersion, format-version, GoodPointer, format-pointer, length-number, length-version}
@@ -81,10 +81,10 @@ format-page s =
     (format-then (readNumber 4) (writeNumber 4) (λ n. n < 256 ^ 4) (λ n. readBytes n) (λ n p. p) (λ n p. Bytes p × (length p ≡ n))
     (λ n p. p) length (λ p. p) (λ p. refl) (λ n p g h. h .1) (λ n p. refl) (format-number 4) (λ n. format-bytes n))
 
-abbrev ReadsSome : Measures → Pointer → Type 0
+abbrev pub ReadsSome : Measures → Pointer → Type 0
 ReadsSome s p = GoodPointer s p × (not (isNone p) ≡ true)
 
-format-some : (s : Measures) → Format Pointer (readSome s) writePointer (ReadsSome s)
+pub format-some : (s : Measures) → Format Pointer (readSome s) writePointer (ReadsSome s)
 unfolding readSome
 format-some s = format-check (readPointer s) writePointer (GoodPointer s) (λ p. not (isNone p)) (format-pointer s)
 
@@ -406,15 +406,11 @@ length-pieces s ps g e =
     length-append (writeMany (writeNumber 2) (lengths ps)) (areas s ps)
     ∙ omega (
       arith,
-      length-same (writeNumber 2) (λ l. Unit {0}) 2 (λ l u. length-number 2 l) (lengths ps) (units (lengths ps)),
+      length-same (writeNumber 2) (λ l. Unit {0}) 2 (λ l u. length-number 2 l) (lengths ps) (each-all (λ l. Unit {0}) (λ l. tt) (lengths ps)),
       length-areas s ps g,
       ap (λ (x : ℕ). x * 2) (length-map ps length ∙ e),
       ap (λ (x : ℕ). x * s .f) e,
     )
-  where
-    units : (l : List ℕ) → Each (λ x. Unit {0}) l
-    units [] = tt
-    units (x ∷ l) = (tt, units l)
 
 -- each phase's work has room
 pub work-fits : (s : Measures) → Passed s → (p : Phase) → GoodPhase s p → length (writeWork s p) ≤ workSize s

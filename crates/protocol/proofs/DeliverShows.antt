@@ -47,7 +47,7 @@ use Rattle.protocol.proofs.Invariant.{Invariant}
 use Rattle.protocol.proofs.View.{Shows, Follows, ToClientShows, GoodTurn, phaseOf, clientAt, callsOf, returnsOf}
 use Rattle.protocol.proofs.ViewLaws.{sane-number, sane-quiet, quiet-heard, stays-follows, goes-shows, unsent, others-turned}
 use Rattle.protocol.proofs.ViewLaws.{silent-follows, quiet-mark, record-reads, own-turned, rows-turned}
-use Rattle.protocol.proofs.GoodLaws.{pointed-good, some-pointer, piece-short}
+use Rattle.protocol.proofs.GoodLaws.{pointed-good, ver-some, piece-short}
 use Rattle.protocol.proofs.ReplyLaws.{own-matches, matches-digest, enough-match, all-counted, joined-reading, Picked, known-picked}
 
 -- ---- the history after a message
@@ -272,8 +272,8 @@ module _ (z : Measures) (honest : ℕ → Bool) (st : State) (s : Model) (o : Sh
           let r = lay b room in
           rw (le-ltb (count (withNode a i)) (z .t + z .k) (omega arith))
           (turns-follows t (update (length b)) r out (pointedBy (s .p) (num v) x) refl (λ j. refl) (sane-quiet ev (byClient (update (length b))) refl) (
-            pointed-good z p v bytes (withNode a i) (u .sequence .0) (u .sequence .1) (rw (u .client) l) (with-below a i (z .n) lo up (g .2)) enough,
-            some-pointer x (omega (arith, u .sequence)),
+            pointed-good z p v (withNode a i) (u .sequence .0) (u .sequence .1) (rw (u .client) l) (with-below a i (z .n) lo up (g .2)) enough bytes,
+            ver-some x (omega (arith, u .sequence)),
           ) tt
           (ap (λ (k : List Call). k ++ (updateCall (take (length b) r) ∷ [])) (w .calls ∙ ap (callsOf mine) e)
           ∙ ap (λ (k : List ℕ). updateCall k ∷ []) (take-append-seam b (drop (length b) room)))

@@ -12,6 +12,11 @@ use Rattle.protocol.proofs.FormatLaws.{Each}
 
 -- ---- by the entries
 
+-- what holds of all
+pub each-all : {A : Type 0} (g : A → Type 0) → ((a : A) → g a) → (l : List A) → Each g l
+each-all g h [] = tt
+each-all g h (a ∷ l) = (h a, each-all g h l)
+
 pub each-as : {A : Type 0} (g h : A → Type 0) → ((a : A) → g a → h a) → (l : List A) → Each g l → Each h l
 each-as g h f [] e = tt
 each-as g h f (a ∷ l) e = (f a (e .0), each-as g h f l (e .1))

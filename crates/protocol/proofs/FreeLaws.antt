@@ -2,7 +2,7 @@
 use mathlib.Core.Path.{_≡_, refl, sym, ap, _∙_}
 use mathlib.Core.Bool.{Bool, true, false, cond, not, _&&_, _||_, true≢false, and-false, or-true}
 use mathlib.Core.Logic.{_⊎_, inl, inr}
-use mathlib.Core.List.{List, [], _∷_, _++_, map, map-append}
+use mathlib.Core.List.{List, [], _∷_, _++_, map}
 use Prim.Native.Nat.{ℕ, zero, suc, _+_, _*_, _<_, _≤_}
 use native.Mathlib.Decide.{ℕ-discrete}
 use native.Mathlib.Nat.{le-refl, mul-le-mul}
@@ -11,8 +11,8 @@ use borrow.Author.Tests.{eq-eqb, not-true}
 use lib.Dec.{eqb, ltb}
 use lib.ListN.{length, getD}
 use Rattle.coding.specs.Bytes.{tabulate}
-use Rattle.coding.proofs.Cases.{and-true}
-use Rattle.coding.proofs.BytesLaws.{getD-tabulate, tabulate-ext}
+use Rattle.coding.proofs.Cases.{and-true, chosen-of}
+use Rattle.coding.proofs.BytesLaws.{getD-tabulate, tabulate-ext, map-tabulate}
 use Rattle.protocol.specs.declared.measures.Measures.{Measures}
 use Rattle.protocol.specs.declared.version.ReadingIndex.{ReadingIndex}
 use Rattle.protocol.specs.declared.version.Version.{Version}
@@ -217,7 +217,7 @@ listed-tabulate u (suc n) f e = go (listed u (tabulate n f)) refl (sym (listed-a
         last (inl x) = (n, omega arith, x)
         last (inr x) = absurd (true≢false (sym x))
 
-tabulate-listed : (u : Version) (n : ℕ) (f : ℕ → Version) (q : ℕ) → q < n → f q ≡ u → listed u (tabulate n f) ≡ true
+pub tabulate-listed : (u : Version) (n : ℕ) (f : ℕ → Version) (q : ℕ) → q < n → f q ≡ u → listed u (tabulate n f) ≡ true
 unfolding tabulate listed
 tabulate-listed u zero f q l e = absurd (omega arith)
 tabulate-listed u (suc n) f q l e = go (ℕ-discrete q n) (tabulate-listed u n f q)
@@ -225,11 +225,6 @@ tabulate-listed u (suc n) f q l e = go (ℕ-discrete q n) (tabulate-listed u n f
     go : Dec (q ≡ n) → (q < n → f q ≡ u → listed u (tabulate n f) ≡ true) → listed u (tabulate n f ++ (f n ∷ [])) ≡ true
     go (yes p) ih = listed-append u (tabulate n f) (f n ∷ []) ∙ rw (listed-here u (f n) [] (ap f (sym p) ∙ e)) (or-true (listed u (tabulate n f)))
     go (no p) ih = listed-append u (tabulate n f) (f n ∷ []) ∙ rw (ih (omega arith) e)
-
-map-tabulate : {A B : Type 0} (g : A → B) (n : ℕ) (f : ℕ → A) → map g (tabulate n f) ≡ tabulate n (λ i. g (f i))
-unfolding tabulate
-map-tabulate g zero f = refl
-map-tabulate g (suc n) f = map-append g (tabulate n f) (f n ∷ []) ∙ ap (λ t. t ++ (g (f n) ∷ [])) (map-tabulate g n f)
 
 module _ (z : Measures) (k : Clients) (a : Rows) (c : ℕ) (x : Pointer) where
   -- what the lists of a record and of rows show for client q
@@ -249,11 +244,6 @@ module _ (z : Measures) (k : Clients) (a : Rows) (c : ℕ) (x : Pointer) where
   unfolding noticed
   noticed-at q l = λ i. not (eqb q c) && ltb (index-at q l i .0) (reading-at q l i .0)
 
-  -- a choice of indices is the index of a choice
-  index-cond : (b : Bool) (i j : ℕ) → cond {A = ReadingIndex} b (record { 0 = i }) (record { 0 = j }) ≡ record { 0 = cond b i j }
-  index-cond true i j = refl
-  index-cond false i j = refl
-
   -- the record of a deposit's end
   pub frozen-after : frozenAfter z c (clientAt z k c) (rowsAt z a) x ≡ clientAt z (frozenBy k c x a) c
   unfolding frozenAfter
@@ -268,7 +258,7 @@ module _ (z : Measures) (k : Clients) (a : Rows) (c : ℕ) (x : Pointer) where
         frozenIndices =
             tabulate-ext (z .m) _ _
             (λ q l.
-            (λ j. cond (noticed-at q l j) (reading-at q l j) (index-at q l j)) ∙ index-cond (notices k a c q) (a .reading q) (k .indices c q)) i;
+            (λ j. cond (noticed-at q l j) (reading-at q l j) (index-at q l j)) ∙ chosen-of {B = ReadingIndex} (λ n. record { 0 = n }) (notices k a c q) (a .reading q) (k .indices c q)) i;
       })
 
   -- the versions replaced, of the first n clients

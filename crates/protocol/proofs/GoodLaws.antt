@@ -2,18 +2,19 @@
 use mathlib.Core.Path.{_≡_, sym, subst, _∙_}
 use mathlib.Core.Bool.{true, false}
 use mathlib.Core.Logic.{_⊎_, inl, inr}
-use mathlib.Core.List.{List, [], map}
+use mathlib.Core.List.{List, []}
 use Prim.Native.Nat.{ℕ, _+_, _-_, _*_, _^_, _<_, _≤_}
 use native.Mathlib.Nat.{le-refl}
 use native.Mathlib.Decide.{ℕ-discrete}
 use native.Mathlib.Omega.{arith}
 use borrow.Author.Tests.{le-leb, lt-ltb, eq-eqb, ne-eqb}
 use lib.ListN.{length, getD, replicate, length-replicate, length-map}
+use lib.Pow.{pow-pos}
 use Rattle.coding.specs.Pieces.{proper, piece}
 use Rattle.coding.specs.Digest.{pieceDigest}
 use Rattle.coding.specs.Nodes.{nodesOf}
 use Rattle.coding.proofs.BytesLaws.{length-tabulate}
-use Rattle.coding.proofs.NodesLaws.{nodes-within}
+use Rattle.coding.proofs.NodesLaws.{nodes-none, nodes-within}
 use Rattle.coding.proofs.DigestLaws.{length-digest, bytes-digest}
 use Rattle.coding.proofs.RoundTripLaws.{length-piece}
 use Rattle.coding.proofs.RoundTrip.{piece-bytes, within, some-columns}
@@ -21,15 +22,17 @@ use Rattle.protocol.specs.declared.measures.Measures.{Measures}
 use Rattle.protocol.specs.declared.version.Version.{Version}
 use Rattle.protocol.specs.Nodes.{nodesIn, count}
 use Rattle.protocol.specs.Pointer.{Pointer, nonePointer, isNone, properPointer, writeVersion}
+use Rattle.protocol.specs.Client.{Phase}
 use Rattle.protocol.specs.Deposit.{digestsOf, pointerOf}
 use Rattle.protocol.proofs.FormatLaws.{Each}
-use Rattle.protocol.proofs.EachLaws.{each-at, each-map, each-tabulate}
+use Rattle.protocol.proofs.EachLaws.{each-at, each-map, each-replicate, each-tabulate}
 use Rattle.protocol.proofs.MeasureLaws.{Passed}
-use Rattle.protocol.proofs.PointerLaws.{GoodPointer}
+use Rattle.protocol.proofs.PointerLaws.{GoodPointer, some-pointer}
 use Rattle.protocol.proofs.RowLaws.{none-good}
 use Rattle.protocol.proofs.NodeMapLaws.{nodes-all}
 use Rattle.protocol.proofs.MessageLaws.{GoodStored}
-use Rattle.protocol.proofs.ClientLaws.{GoodDigest, map-fits}
+use Rattle.protocol.proofs.ClientLaws.{GoodDigest, ShortPiece, GoodPhase, map-fits}
+use Rattle.protocol.proofs.BytesWritten.{bytes-nil}
 use Rattle.protocol.proofs.Model.{ver, Model, pointed}
 use Rattle.protocol.proofs.Invariants.{Known, Drawing, Pointed, unnum}
 use Rattle.protocol.proofs.PastLaws.{some-formed}
@@ -82,42 +85,42 @@ digests-good z v page =
 
 -- ---- pointers
 
--- only none has no sequence
-pub some-pointer : (x : Pointer) → 256 ≤ ver x → isNone x ≡ false
-some-pointer x h = go (ℕ-discrete (x .version .sequence .0) 0)
+pub ver-some : (x : Pointer) → 256 ≤ ver x → isNone x ≡ false
+ver-some x h = go (ℕ-discrete (x .version .sequence .0) 0)
   where
     go : Dec (x .version .sequence .0 ≡ 0) → isNone x ≡ false
     go (yes e) = simp (eq-eqb (x .version .sequence .0) 0 e, ne-eqb (x .version .client) 255 (λ q. omega arith))
-    go (no e) = simp (ne-eqb (x .version .sequence .0) 0 e)
+    go (no e) = some-pointer x e
 
 -- the pointer of a version that t + k nodes acknowledged
-pub pointed-good : (z : Measures) → Passed z → (v : Version) (page : List ℕ) (a : ℕ) → 1 ≤ v .sequence .0 → v .sequence .0 < 2 ^ 32 → v .client < z .m
-    → a < 2 ^ z .n → count a ≡ z .t + z .k → GoodPointer z (pointed z v page a)
-unfolding pointerOf properPointer
-pointed-good z p v page a one fits writer bits enough =
-    let c : v .client < 256 = omega (arith, p .clients .1) in (
-      ((fits, c), (map-fits z p a bits, (named, length-map (nodesIn a) _))),
-      simp (
-        ne-eqb (v .sequence .0) 0 (λ q. omega arith),
-        le-leb 1 (v .sequence .0) one,
-        lt-ltb (v .client) (z .m) writer,
-        eq-eqb (length (nodesIn a)) (z .t + z .k) enough,
-        lt-ltb a (2 ^ z .n) bits,
-      ),
-    )
-  where
-    -- a node that acknowledged is one of the n
-    among : (i : ℕ) → i < length (nodesIn a) → getD (nodesIn a) i 0 - 1 < z .n
-    among i l =
-        let e : nodesIn a ≡ nodesOf a (z .n) = nodes-all a (z .n) bits (p .nodes .1) in
-        let q = nodes-within a (z .n) i (rw e at l) in
-        rw e (omega (arith, q .0, q .1))
+module _ (z : Measures) (p : Passed z) (v : Version) (a : ℕ) (one : 1 ≤ v .sequence .0) (fits : v .sequence .0 < 2 ^ 32) (writer : v .client < z .m)
+    (bits : a < 2 ^ z .n) (enough : count a ≡ z .t + z .k) where
+  -- a node that acknowledged is one of the n
+  among : (i : ℕ) → i < length (nodesIn a) → getD (nodesIn a) i 0 - 1 < z .n
+  among i l =
+      let e : nodesIn a ≡ nodesOf a (z .n) = nodes-all a (z .n) bits (p .nodes .1) in
+      let q = nodes-within a (z .n) i (rw e at l) in
+      rw e (omega (arith, q .0, q .1))
 
-    named : Each GoodDigest (map (λ i. getD (digestsOf z v page) (i - 1) []) (nodesIn a))
-    named =
-        each-map GoodDigest (λ i. getD (digestsOf z v page) (i - 1) []) 0 (nodesIn a)
-        (λ i l.
-        each-at GoodDigest [] (digestsOf z v page) (digests-good z v page) (getD (nodesIn a) i 0 - 1) (omega (arith, among i l, length-digests z v page)))
+  pub formed-good : (ds : List (List ℕ)) → Each GoodDigest ds → length ds ≡ z .n → GoodPointer z (pointerOf v a ds)
+  unfolding pointerOf properPointer
+  formed-good ds each many =
+      let c : v .client < 256 = omega (arith, p .clients .1) in
+      let named =
+      each-map GoodDigest (λ i. getD ds (i - 1) []) 0 (nodesIn a) (λ i l. each-at GoodDigest [] ds each (getD (nodesIn a) i 0 - 1) (omega (arith, among i l, many)))
+      in (
+        ((fits, c), (map-fits z p a bits, (named, length-map (nodesIn a) _))),
+        simp (
+          ne-eqb (v .sequence .0) 0 (λ q. omega arith),
+          le-leb 1 (v .sequence .0) one,
+          lt-ltb (v .client) (z .m) writer,
+          eq-eqb (length (nodesIn a)) (z .t + z .k) enough,
+          lt-ltb a (2 ^ z .n) bits,
+        ),
+      )
+
+  pub pointed-good : (page : List ℕ) → GoodPointer z (pointed z v page a)
+  pointed-good page = formed-good (digestsOf z v page) (digests-good z v page) (length-digests z v page)
 
 pub known-good : (z : Measures) → Passed z → (s : Model) → Drawing z s → (w : ℕ) → w < z .m → (x : Pointer) → Known (s .p) w x → GoodPointer z x
 known-good z p s o w l x (Known.absent e) = subst (GoodPointer z) (sym e) (none-good z)
@@ -128,4 +131,16 @@ known-good z p s o w l x (Known.formed d e c h) = go (o (ver x) d .pointer)
     go (inr q) =
         let y = o (ver x) d in
         subst (GoodPointer z) (sym (q .pointer) ∙ e)
-        (pointed-good z p (unnum (ver x)) (s .p .pages (ver x)) (q .nodes) (omega (arith, y .proper)) (y .sequence) (y .writer) (q .within) (q .enough))
+        (pointed-good z p (unnum (ver x)) (q .nodes) (omega (arith, y .proper)) (y .sequence) (y .writer) (q .within) (q .enough) (s .p .pages (ver x)))
+
+-- a reading whose nodes are asked
+pub asking-good : (z : Measures) → Passed z → (x : Pointer) → GoodPointer z x → isNone x ≡ false → GoodPhase z (Phase.fetching x 0 0 (replicate (z .n) []))
+asking-good z p x g n = (
+  g,
+  n,
+  omega arith,
+  pow-pos (z .n),
+  rw (nodes-none 16) (omega (arith, p .parts)),
+  each-replicate (ShortPiece z) (z .n) [] (bytes-nil, omega arith),
+  length-replicate (z .n) [],
+)

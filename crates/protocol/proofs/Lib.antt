@@ -45,6 +45,7 @@ pub mod GoodLaws
 pub mod DepositLaws
 pub mod FreeLaws
 pub mod FreeListLaws
+pub mod RefusalLaws
 pub mod PickLaws
 pub mod ReplyLaws
 pub mod HandLaws

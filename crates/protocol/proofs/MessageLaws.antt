@@ -129,7 +129,7 @@ message-answer = record { back = back; only = λ s a b e. only s a b e }
             in other x p a (eqb x 0 && eqb (length p) 0) refl z
 
 -- a version has 5 bytes, so that a list of them tells how many they are
-length-versions : (l : List Version) → length (writeMany writeVersion l) ≡ length l * 5
+pub length-versions : (l : List Version) → length (writeMany writeVersion l) ≡ length l * 5
 unfolding writeMany
 length-versions [] = omega arith
 length-versions (v ∷ l) = length-append (writeVersion v) (writeMany writeVersion l) ∙ omega (arith, length-version v, length-versions l, suc-mul (length l) 5)

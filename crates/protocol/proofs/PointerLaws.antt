@@ -1,16 +1,21 @@
--- Versions and pointers as bytes: written and read back.
-use mathlib.Core.Path.{_≡_, refl, _∙_}
-use mathlib.Core.Bool.{true}
-use Prim.Native.Nat.{ℕ, zero, suc, _/_, _^_, _<_}
+-- Versions and pointers as bytes: written and read back, and their lengths.
+use mathlib.Core.Path.{_≡_, refl, sym, ap, _∙_}
+use mathlib.Core.Bool.{Bool, true, false, _&&_, _||_, true≢false}
+use mathlib.Core.List.{_++_}
+use Prim.Native.Nat.{ℕ, zero, suc, _+_, _*_, _/_, _^_, _<_}
 use native.Mathlib.Omega.{arith}
+use borrow.Author.Tests.{lt-leb, ne-eqb, eqb-true}
+use lib.Dec.{leb, ltb, eqb}
 use lib.ListN.{length, length-append}
 use Rattle.coding.specs.Bytes.{Bytes}
+use Rattle.coding.proofs.Cases.{and-true}
 use Rattle.protocol.specs.declared.measures.Measures.{Measures}
 use Rattle.protocol.specs.declared.version.Version.{Version}
 use Rattle.protocol.specs.Format.{readNumber, writeNumber, readMany, writeMany, readBytes}
-use Rattle.protocol.specs.Nodes.{nodesIn}
-use Rattle.protocol.specs.Pointer.{readVersion, writeVersion, Named, Pointer, properPointer, readNamed, writeNamed, readPointer, writePointer}
-use Rattle.protocol.proofs.FormatLaws.{Format, format-then, format-check, format-number, format-many, format-bytes, Each}
+use Rattle.protocol.specs.Measures.{pointerSize}
+use Rattle.protocol.specs.Nodes.{nodesIn, count}
+use Rattle.protocol.specs.Pointer.{readVersion, writeVersion, Named, Pointer, isNone, properPointer, readNamed, writeNamed, readPointer, writePointer}
+use Rattle.protocol.proofs.FormatLaws.{Format, format-then, format-check, format-number, format-many, format-bytes, Each, length-same}
 
 -- a sequence fits 4 bytes, a client 1
 abbrev pub GoodVersion : Version → Type 0
@@ -58,3 +63,46 @@ pub length-version : (v : Version) → length (writeVersion v) ≡ 5
 unfolding writeVersion
 length-version v =
     length-append (writeNumber 4 (v .sequence .0)) (writeNumber 1 (v .client)) ∙ omega (arith, length-number 4 (v .sequence .0), length-number 1 (v .client))
+
+pub length-pointer : (p : Pointer) → length (writePointer p) ≡ 7 + length (writeMany (λ d. d) (p .named .digests))
+unfolding writePointer writeNamed
+length-pointer p =
+    let x = writeVersion (p .version) in
+    let y = writeNumber 2 (p .named .nodes) in
+    let z = writeMany (λ d. d) (p .named .digests) in
+    length-append x (y ++ z) ∙ omega (arith, length-append y z, length-version (p .version), length-number 2 (p .named .nodes))
+
+-- ---- only none has sequence 0
+
+pub some-pointer : (p : Pointer) → (p .version .sequence .0 ≡ 0 → ⊥) → isNone p ≡ false
+some-pointer p n =
+    ap (λ (b : Bool). b && (eqb (p .version .client) 255 && eqb (p .named .nodes) 0)) (ne-eqb (p .version .sequence .0) 0 n)
+
+module _ (s : Measures) (p : Pointer) (g : GoodPointer s p) where
+  pub pointer-length : length (writePointer p) ≡ 7 + 32 * count (p .named .nodes)
+  pointer-length =
+      length-pointer p
+      ∙ omega (arith, length-same (λ d. d) (λ d. Bytes d × (length d ≡ 32)) 32 (λ d h. h .1) (p .named .digests) (g .0 .1 .1 .0), g .0 .1 .1 .1)
+
+  abbrev others : Bool
+  others = ltb (p .version .client) (s .m) && (eqb (count (p .named .nodes)) (s .t + s .k) && ltb (p .named .nodes) (2 ^ s .n))
+
+  pub none-pointer : p .version .sequence .0 ≡ 0 → isNone p ≡ true
+  unfolding properPointer
+  none-pointer e = go (isNone p) (leb 1 (p .version .sequence .0)) others (lt-leb 1 (p .version .sequence .0) (omega arith)) (g .1)
+    where
+      go : (a b r : Bool) → b ≡ false → (a || (b && r)) ≡ true → a ≡ true
+      go true b r f h = refl
+      go false true r f h = absurd (true≢false f)
+      go false false r f h = h
+
+  -- t + k nodes stored what any other pointer names
+  pub some-count : isNone p ≡ false → count (p .named .nodes) ≡ s .t + s .k
+  unfolding properPointer
+  some-count n =
+      let a = and-true (leb 1 (p .version .sequence .0)) others (ap (λ (b : Bool). b || (leb 1 (p .version .sequence .0) && others)) (sym n) ∙ g .1) in
+      let c = and-true (ltb (p .version .client) (s .m)) _ (a .1) in
+      eqb-true (count (p .named .nodes)) (s .t + s .k) (and-true (eqb (count (p .named .nodes)) (s .t + s .k)) _ (c .1) .0)
+
+  pub some-length : isNone p ≡ false → length (writePointer p) ≡ pointerSize s
+  some-length n = pointer-length ∙ ap (λ (k : ℕ). 7 + 32 * k) (some-count n)

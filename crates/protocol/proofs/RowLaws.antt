@@ -1,15 +1,14 @@
 -- Directory rows and the directory table as bytes: written and read back.
 use mathlib.Core.Path.{_≡_, refl, ap, subst⁻¹, _∙_, sym}
-use mathlib.Core.Bool.{Bool, true, false, _&&_, _||_}
+use mathlib.Core.Bool.{Bool, true, false}
 use mathlib.Core.List.{List, [], _∷_, _++_}
 use mathlib.Core.Option.{Option, some, none}
 use Prim.Native.Nat.{ℕ, _+_, _*_, _^_, _≤_, _/_}
 use native.Mathlib.Nat.{suc-mul, pow-suc}
 use native.Mathlib.Omega.{arith}
 use borrow.Author.Tests.{eqb-true, lt-ltb, eq-eqb, le-leb, leb-true}
-use lib.Dec.{leb, ltb, eqb}
+use lib.Dec.{leb, eqb}
 use lib.ListN.{length, getD, length-append, length-replicate}
-use Rattle.coding.specs.Bytes.{Bytes}
 use Rattle.coding.proofs.BytesLaws.{stride}
 use Rattle.coding.proofs.Cases.{and-true}
 use Rattle.coding.proofs.NodesLaws.{nodes-none}
@@ -17,14 +16,14 @@ use Rattle.protocol.specs.declared.version.ReadingIndex.{ReadingIndex}
 use Rattle.protocol.specs.declared.measures.Measures.{Measures}
 use Rattle.protocol.specs.Format.{given, mapped, writeNumber, writeArea, writeMany}
 use Rattle.protocol.specs.Measures.{pointerSize, rowSize}
-use Rattle.protocol.specs.Nodes.{nodesIn}
-use Rattle.protocol.specs.Pointer.{nonePointer, Pointer, isNone, properPointer, writeVersion, writeNamed, writePointer}
+use Rattle.protocol.specs.Nodes.{count}
+use Rattle.protocol.specs.Pointer.{nonePointer, Pointer, isNone, properPointer, writePointer}
 use Rattle.protocol.specs.Directory.{pointers, indices, Content, pointersOf, indicesOf, fields, mapOf, readRecord, writeRecord, Row}
 use Rattle.protocol.specs.Directory.{rowFields, Field, writeIndex, writeFields, writeContent, merge, updateRow, freshRow, freshDirectory}
 use Rattle.protocol.specs.Directory.{pointersIn, indicesIn, asRow, writeRow, readRow, readDirectory, writeDirectory}
 use Rattle.protocol.proofs.FormatLaws.{Format, format-check, format-as, format-many, format-area, Each, length-area, length-same}
 pub use Rattle.protocol.proofs.EachLaws.{each-replicate}
-use Rattle.protocol.proofs.PointerLaws.{GoodPointer, length-number, length-version}
+use Rattle.protocol.proofs.PointerLaws.{GoodPointer, length-number, pointer-length, some-count}
 use Rattle.protocol.proofs.DirectoryLaws.{GoodContent, GoodFields, GoodRecord, format-record, GoodIndex, length-index}
 
 -- a field of one pointer or index has one
@@ -102,38 +101,17 @@ length-many w g k h [] e = omega arith
 length-many w g k h (a ∷ l) e =
     omega (arith, length-append (w a) (writeMany w l), h a (e .0), length-many w g k h l (e .1), suc-mul (length l) k)
 
-length-digests : (l : List (List ℕ)) → Each (λ d. Bytes d × (length d ≡ 32)) l → length (writeMany (λ d. d) l) ≤ length l * 32
-length-digests l e = length-many (λ d. d) (λ d. Bytes d × (length d ≡ 32)) 32 (λ d h. omega (arith, h .1)) l e
-
 -- a pointer has at most its size
 pub pointer-fits : (s : Measures) (p : Pointer) → GoodPointer s p → length (writePointer p) ≤ pointerSize s
-unfolding writePointer writeVersion writeNamed properPointer
-pointer-fits s p g =
-    let d : length (p .named .digests) ≤ s .t + s .k = omega (arith, g .0 .1 .1 .1, few (isNone p) refl (g .1)) in
-    omega (
-      arith,
-      length-append (writeVersion (p .version)) (writeNamed (p .named)),
-      length-version (p .version),
-      length-append (writeNumber 2 (p .named .nodes)) (writeMany (λ d. d) (p .named .digests)),
-      length-number 2 (p .named .nodes),
-      length-digests (p .named .digests) (g .0 .1 .1 .0),
-    )
+pointer-fits s p g = omega (arith, pointer-length s p g, few (isNone p) refl)
   where
-    few : (b : Bool) → isNone p ≡ b
-        → (b || (leb 1 (p .version .sequence .0) && (ltb (p .version .client) (s .m)
-        && (eqb (length (nodesIn (p .named .nodes))) (s .t + s .k) && ltb (p .named .nodes) (2 ^ s .n))))) ≡ true
-        → length (nodesIn (p .named .nodes)) ≤ s .t + s .k
-    few true e h =
+    few : (b : Bool) → isNone p ≡ b → count (p .named .nodes) ≤ s .t + s .k
+    few true e =
         let a = and-true (eqb (p .version .sequence .0) 0) _ e in
         let c = and-true (eqb (p .version .client) 255) _ (a .1) in
-        let z : length (nodesIn (p .named .nodes)) ≡ 0 =
-        ap (λ (x : ℕ). length (nodesIn x)) (eqb-true (p .named .nodes) 0 (c .1)) ∙ ap length (nodes-none 16)
-        in omega arith
-    few false e h =
-        let a = and-true (leb 1 (p .version .sequence .0)) _ h in
-        let c = and-true (ltb (p .version .client) (s .m)) _ (a .1) in
-        let d = and-true (eqb (length (nodesIn (p .named .nodes))) (s .t + s .k)) _ (c .1) in
-        omega (arith, eqb-true (length (nodesIn (p .named .nodes))) (s .t + s .k) (d .0))
+        let z : count (p .named .nodes) ≡ 0 = ap count (eqb-true (p .named .nodes) 0 (c .1)) ∙ ap length (nodes-none 16) in
+        omega arith
+    few false e = omega (arith, some-count s p g e)
 
 index-fits : (i : ReadingIndex) → GoodIndex i → length (writeIndex i) ≤ 4
 index-fits i h = omega (arith, length-index i)

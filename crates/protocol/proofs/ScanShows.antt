@@ -8,12 +8,10 @@ use native.Mathlib.Omega.{arith}
 use native.Mathlib.Decide.{decLe}
 use borrow.Author.Tests.{eq-eqb, ne-eqb, le-leb, lt-ltb}
 use lib.Dec.{leb, ltb, eqb}
-use lib.Pow.{pow-pos}
 use lib.Seq.{take-append-seam, take-at}
-use lib.ListN.{length, drop, replicate, length-replicate}
+use lib.ListN.{length, drop, replicate}
 use Rattle.coding.proofs.BytesLaws.{length-tabulate}
 use Rattle.coding.proofs.Cases.{and-true}
-use Rattle.coding.proofs.NodesLaws.{nodes-none}
 use Rattle.protocol.specs.declared.measures.Measures.{Measures}
 use Rattle.protocol.specs.declared.version.ReadingIndex.{ReadingIndex}
 use Rattle.protocol.specs.declared.version.Version.{Version}
@@ -30,13 +28,12 @@ use Rattle.protocol.specs.Answer.{deposited, empty, requests}
 use Rattle.protocol.specs.ClientEvents.{ClientEnd, scannedAt, fetch, after, lay, roomSize, scanAnswer, withPhase}
 use Rattle.protocol.specs.Run.{History, State, hand, byClient, pointerIn, mark, returned, sends, sentTo, upd}
 use Rattle.protocol.proofs.Cells.{by-eq, chosen}
-use Rattle.protocol.proofs.EachLaws.{each-replicate, each-chosen, each-tabulate, tabulate-each}
+use Rattle.protocol.proofs.EachLaws.{each-chosen, each-tabulate, tabulate-each}
 use Rattle.protocol.proofs.MeasureLaws.{Passed, passed as measures}
 use Rattle.protocol.proofs.PointerLaws.{GoodPointer, length-version}
 use Rattle.protocol.proofs.DirectoryLaws.{GoodIndex}
 use Rattle.protocol.proofs.MessageLaws.{GoodNamedVersion, GoodToNode}
-use Rattle.protocol.proofs.ClientLaws.{ShortPiece, GoodPhase, GoodReserved, GoodClient, client-back}
-use Rattle.protocol.proofs.BytesWritten.{bytes-nil}
+use Rattle.protocol.proofs.ClientLaws.{GoodPhase, GoodReserved, GoodClient, client-back}
 use Rattle.protocol.proofs.Model.{num, ver, Rows, Turn, Clients, Nodes, Past, Model, Next, Marked, Replaced, Frees, Picks, rowsOf}
 use Rattle.protocol.proofs.Model.{shownWritten, shownReading, offer, notices, turned, frozenBy, sent, choosing}
 use Rattle.protocol.proofs.Invariants.{Known, KnownVersion, Own, Drawing}
@@ -44,7 +41,7 @@ use Rattle.protocol.proofs.PastLaws.{pointer-version}
 use Rattle.protocol.proofs.Invariant.{Invariant}
 use Rattle.protocol.proofs.View.{Shows, Follows, ClientShows, ToNodeShows, GoodTurn, GoodRows, phaseOf, clientAt, rowsAt, callsOf}
 use Rattle.protocol.proofs.ViewLaws.{sane-quiet, own-turned, others-frozen, rows-turned, goes-shows, unsent}
-use Rattle.protocol.proofs.GoodLaws.{some-pointer, known-good}
+use Rattle.protocol.proofs.GoodLaws.{ver-some, known-good, asking-good}
 use Rattle.protocol.proofs.FreeLaws.{each-listed, free-ascending, frozen-after, frees}
 use Rattle.protocol.proofs.PickLaws.{Told, picks}
 use Rattle.protocol.proofs.HandLaws.{sent-shows, others-answered, scan-opened, scan-refused}
@@ -223,7 +220,7 @@ known-told z ok p w l x (Known.formed d e q h) = (omega (arith, ok .clients .1),
 -- one that is none is the none pointer, another is a deposit's
 known-none : (p : Past) (w : ℕ) (x : Pointer) → Known p w x → isNone x ≡ true → x ≡ nonePointer
 known-none p w x (Known.absent e) n = e
-known-none p w x (Known.formed d e q h) n = absurd (true≢false (sym n ∙ some-pointer x h))
+known-none p w x (Known.formed d e q h) n = absurd (true≢false (sym n ∙ ver-some x h))
 
 known-some : (p : Past) (w : ℕ) (x : Pointer) → Known p w x → isNone x ≡ false → 256 ≤ ver x
 known-some p w x (Known.absent e) n = absurd (true≢false (sym (ap isNone e) ∙ n))
@@ -294,17 +291,10 @@ module _ (z : Measures) (honest : ℕ → Bool) (passed : passes z ≡ true) (st
     abbrev asked : Turn
     asked = Turn.fetching chosenPointer 0 0 (replicate (z .n) [])
 
-    asking-good : GoodPhase z asking
-    asking-good =
-        let ok = measures z passed in (
-          known-good z ok s (inv .drawing) (picks-it .row) (picks-it .within) chosenPointer known-it,
-          some-pointer chosenPointer some-it,
-          omega arith,
-          pow-pos (z .n),
-          rw (nodes-none 16) (omega (arith, ok .parts)),
-          each-replicate (ShortPiece z) (z .n) [] (bytes-nil, omega arith),
-          length-replicate (z .n) [],
-        )
+    asked-good : GoodPhase z asking
+    asked-good =
+        let ok = measures z passed in
+        asking-good z ok chosenPointer (known-good z ok s (inv .drawing) (picks-it .row) (picks-it .within) chosenPointer known-it) (ver-some chosenPointer some-it)
 
     request : ToNode
     request = ToNode.request (chosenPointer .version)
@@ -335,7 +325,7 @@ module _ (z : Measures) (honest : ℕ → Bool) (passed : passes z ≡ true) (st
         let g = o .client c l .good in
         ap pointerIn
         (client-back z passed (withPhase asking reader)
-        (record { phase = asking-good; index = g .index; written = g .written; frozen = g .frozen; reserved = g .reserved; indices = g .indices }) [])
+        (record { phase = asked-good; index = g .index; written = g .written; frozen = g .frozen; reserved = g .reserved; indices = g .indices }) [])
 
     marks : Marked (st .history) (mark z c askEnd (st .history)) c (choosing chosenPointer)
     unfolding askEnd
@@ -385,7 +375,7 @@ module _ (z : Measures) (honest : ℕ → Bool) (passed : passes z ≡ true) (st
               (λ q. omega arith);
           shows =
               goes-shows z honest st s o c l askEnd (upd (st .returns) c []) (st .toClient) h (turned (s .c) c asked) n (s .p)
-              (own-turned z (s .c) c (w .good) asked _ _ asking-good tt (w .calls ∙ ap (callsOf reader) e) (rw (eq-eqb c c refl) refl))
+              (own-turned z (s .c) c (w .good) asked _ _ asked-good tt (w .calls ∙ ap (callsOf reader) e) (rw (eq-eqb c c refl) refl))
               (λ j ne lj. others-answered z honest passed st s o c j asked [] ne lj)
               (rows-turned s c asked n (s .p) h (rw e refl) (rw e refl))
               refl

@@ -12,7 +12,7 @@ use borrow.Author.Tests.{eq-eqb, ne-eqb}
 use lib.Bits.{bitOr, or-add-and, and-le-l, and-le-r}
 use lib.Dec.{eqb}
 use lib.ListN.{length, getD, take, drop, set, replicate, length-drop, length-set, length-replicate}
-use lib.Seq.{drop-cons, take-suc, take-suc-set, take-add, take-all, take-take, take-append-le, drop-drop, drop-at, getD-drop, length-take-le, sets-eq, paste, paste-zero, paste-suc, length-paste, take-paste, drop-paste}
+use lib.Seq.{drop-cons, take-suc, take-suc-set, take-add, take-take, take-append-le, drop-drop, drop-at, getD-drop, length-take-le, sets-eq, paste, paste-zero, paste-suc, length-paste, take-paste, drop-paste}
 use Rattle.coding.specs.Nodes.{all}
 use Rattle.coding.proofs.BytesLaws.{zeros-at, paste-ext, paste-before, paste-after, Pasted, pasted-none, pasted-more, pasted-length, pasted-all}
 use Rattle.coding.proofs.PageLaws.{some-eq}
@@ -77,7 +77,7 @@ and-assoc : (a b c : Bool) → ((a && b) && c) ≡ (a && (b && c))
 and-assoc true b c = refl
 and-assoc false b c = refl
 
-all-append : (f : ℕ → Bool) (xs ys : List ℕ) → all f (xs ++ ys) ≡ (all f xs && all f ys)
+pub all-append : (f : ℕ → Bool) (xs ys : List ℕ) → all f (xs ++ ys) ≡ (all f xs && all f ys)
 unfolding all
 all-append f [] ys = refl
 all-append f (x ∷ xs) ys = ap (λ (b : Bool). f x && b) (all-append f xs ys) ∙ sym (and-assoc (f x) (all f xs) (all f ys))
@@ -302,19 +302,19 @@ module _ (t : List ℕ) (from to : ℕ) (ht : to ≤ length t) (h : from ≤ to)
 
 -- ---- moves
 
--- 512 lanes, of which the first l are bytes at a place
-pub record Loaded (t : List ℕ) (at : ℕ) (v : List ℕ) (l : ℕ) : Type 0 where
-  pub within : l ≤ 512
-  pub whole : length v ≡ 512
+-- lanes, of which the first l are bytes at a place; n are to be
+pub record Loaded (t : List ℕ) (at n size : ℕ) (v : List ℕ) (l : ℕ) : Type 0 where
+  pub within : l ≤ n
+  pub whole : length v ≡ size
   pub done : take l v ≡ take l (drop at t)
 
-pub loaded-none : (t : List ℕ) (at : ℕ) (v : List ℕ) → length v ≡ 512 → Loaded t at v 0
-loaded-none t at v h = record { within = omega arith; whole = h; done = refl }
+pub loaded-none : (t : List ℕ) (at n size : ℕ) (v : List ℕ) → length v ≡ size → Loaded t at n size v 0
+loaded-none t at n size v h = record { within = omega arith; whole = h; done = refl }
 
-module _ (t : List ℕ) (at : ℕ) (h : at + 512 ≤ length t) (v : List ℕ) (l : ℕ) (s : Loaded t at v l) where
-  pub loaded-more : l < 512 → Loaded t at (set v l (getD t (at + l) 0)) (l + 1)
+module _ (t : List ℕ) (at n size : ℕ) (small : n ≤ size) (h : at + n ≤ length t) (v : List ℕ) (l : ℕ) (s : Loaded t at n size v l) where
+  pub loaded-more : l < n → Loaded t at n size (set v l (getD t (at + l) 0)) (l + 1)
   loaded-more b =
-      let a : l < length v = rw (s .whole) b in
+      let a : l < length v = rw (s .whole) (omega arith) in
       record {
         within = omega arith;
         whole = length-set v l (getD t (at + l) 0) ∙ s .whole;
@@ -325,10 +325,8 @@ module _ (t : List ℕ) (at : ℕ) (h : at + 512 ≤ length t) (v : List ℕ) (l
             ∙ sym (take-suc (drop at t) l 0 (omega (arith, length-drop at t))));
       }
 
-  pub loaded-all : 512 ≤ l → v ≡ take 512 (drop at t)
-  loaded-all b =
-      let e : l ≡ 512 = omega (arith, s .within) in
-      sym (take-all 512 v (omega (arith, s .whole))) ∙ (rw e at (s .done))
+  pub loaded-all : n ≤ l → take n v ≡ take n (drop at t)
+  loaded-all b = let e : l ≡ n = omega (arith, s .within) in rw e at (s .done)
 
 -- what is taken twice is taken once
 pub block-moved : (t s : List ℕ) (from at : ℕ) (v : List ℕ) → v ≡ take 512 (drop from s) → paste t at v 512 ≡ paste t at (drop from s) 512

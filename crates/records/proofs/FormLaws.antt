@@ -43,6 +43,15 @@ pub none-read : {A : Type 0} (o : Option (Read A)) → rest o ≡ none → o ≡
 none-read none e = refl
 none-read (some r) e = absurd (none≢some (sym e))
 
+-- a value that is tested
+pub rest-check : {A : Type 0} (b : Bool) (a : A) (t : List ℕ) → rest (check b a t) ≡ cond b (some t) none
+rest-check true a t = refl
+rest-check false a t = refl
+
+pub none-either : (b : Bool) → _≡_ {A = Option (List ℕ)} none (cond b none none)
+none-either true = refl
+none-either false = refl
+
 -- a value made of another leaves the same
 pub rest-make : {A B : Type 0} (f : A → B) (o : Option (Read A)) → rest (bind o (λ a t. some (record { value = f a; rest = t }))) ≡ rest o
 rest-make f none = refl

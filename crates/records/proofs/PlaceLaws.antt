@@ -1,10 +1,9 @@
 -- One place of a node table: what its reader tells, as a test on its bytes.
 use mathlib.Core.Path.{_≡_, refl, sym, ap, _∙_}
-use mathlib.Core.Bool.{Bool, true, false, cond, _&&_}
-use mathlib.Core.List.{List, _∷_, _++_}
+use mathlib.Core.Bool.{Bool, true, false, cond, _&&_, and-false}
+use mathlib.Core.List.{List, _++_}
 use mathlib.Core.Option.{Option, some, none}
-use Prim.Native.Nat.{ℕ, suc, _+_, _-_, _*_, _<_, _≤_}
-use native.Mathlib.Nat.{zero-add}
+use Prim.Native.Nat.{ℕ, suc, _+_, _-_, _*_, _^_, _<_, _≤_}
 use native.Mathlib.Decide.{decLe}
 use native.Mathlib.Omega.{arith}
 use borrow.Author.Tests.{le-leb, lt-leb, le-ltb, lt-ltb, eq-eqb, ne-eqb, eqb-true}
@@ -12,21 +11,20 @@ use lib.Dec.{leb, ltb, eqb}
 use lib.ListN.{length, getD, take, drop, length-append, length-drop}
 use lib.Seq.{drop-cons, drop-drop, length-take-le}
 use Rattle.coding.proofs.Cases.{and-true}
+use Rattle.coding.proofs.PageLaws.{some-eq}
 use Rattle.protocol.specs.declared.measures.Measures.{Measures}
 use Rattle.protocol.specs.declared.version.Version.{Version}
 use Rattle.protocol.specs.Format.{Read, bind, check, readNumber, writeNumber, readBytes, readZeros, readArea}
 use Rattle.protocol.specs.Measures.{placeSize}
 use Rattle.protocol.specs.Pointer.{readVersion, writeVersion}
 use Rattle.protocol.specs.NodeTable.{Held, properHeld, readPiece, writePiece, readHeld, writeHeld}
-use Rattle.protocol.proofs.PointerLaws.{length-number, length-version}
+use Rattle.protocol.proofs.FormatLaws.{format-number}
+use Rattle.protocol.proofs.PointerLaws.{GoodVersion, format-version, length-number, length-version}
 use Rattle.records.proofs.BytesLaws.{number-two, number-four, two-read, four-read}
+use Rattle.records.proofs.RecordLaws.{number-one}
 use Rattle.records.specs.Places.{numberAt, versionAt, properAt, versionAlone, lengthAt, pieceAt, heldAt, zeroRun, soundAt}
 
 -- ---- numbers and versions
-
-one-byte : (x : ℕ) (u : List ℕ) → readNumber 1 (x ∷ u) ≡ some (record { value = x; rest = u })
-unfolding readNumber
-one-byte x u = λ i. some (record { value = zero-add x i; rest = u })
 
 module _ (t : List ℕ) (at : ℕ) where
   pub read-number : at + 2 ≤ length t → readNumber 2 (drop at t) ≡ some (record { value = numberAt t at; rest = drop (at + 2) t })
@@ -44,8 +42,23 @@ module _ (t : List ℕ) (at : ℕ) where
       byte : at + 4 < length t → readNumber 1 (drop (at + 4) t) ≡ some (record { value = getD t (at + 4) 0; rest = drop (at + 5) t })
       byte k =
           let e : suc (at + 4) ≡ at + 5 = omega arith in
-          ap (readNumber 1) (drop-cons t (at + 4) 0 k) ∙ one-byte (getD t (at + 4) 0) (drop (suc (at + 4)) t)
+          ap (readNumber 1) (drop-cons t (at + 4) 0 k) ∙ number-one (getD t (at + 4) 0) (drop (suc (at + 4)) t)
           ∙ ap (λ (n : ℕ). some (record { value = getD t (at + 4) 0; rest = drop n t })) e
+
+-- the number whose bytes stand at a place is read there
+pub number-read : (w : ℕ) (t : List ℕ) (at n : ℕ) (y : List ℕ) → n < 256 ^ w → drop at t ≡ writeNumber w n ++ y
+    → (i : ℕ) (u : List ℕ) → readNumber w (drop at t) ≡ some (record { value = i; rest = u }) → i ≡ n
+number-read w t at n y g e i u h = ap (λ (r : Read ℕ). r .value) (some-eq (sym h ∙ ap (readNumber w) e ∙ format-number w .back n g y))
+
+pub number-there : (t : List ℕ) (at n : ℕ) (y : List ℕ) → n < 256 ^ 2 → drop at t ≡ writeNumber 2 n ++ y → (at + 2 ≤ length t) × (numberAt t at ≡ n)
+number-there t at n y g e =
+    let l : at + 2 ≤ length t = omega (arith, ap length e, length-drop at t, length-append (writeNumber 2 n) y, length-number 2 n) in
+    (l, number-read 2 t at n y g e (numberAt t at) (drop (at + 2) t) (read-number t at l))
+
+pub version-there : (t : List ℕ) (at : ℕ) (v : Version) (y : List ℕ) → GoodVersion v → drop at t ≡ writeVersion v ++ y → (at + 5 ≤ length t) × (versionAt t at ≡ v)
+version-there t at v y g e =
+    let l : at + 5 ≤ length t = omega (arith, ap length e, length-drop at t, length-append (writeVersion v) y, length-version v) in
+    (l, ap (λ (r : Read Version). r .value) (some-eq (sym (read-version t at l) ∙ ap readVersion e ∙ format-version .back v g y)))
 
 -- ---- a place
 
@@ -59,10 +72,6 @@ length-held h =
 -- the test of a place's numbers
 abbrev proper : Measures → List ℕ → ℕ → Bool
 proper s t at = leb 1 (versionAt t at .sequence .0) && (ltb (versionAt t at .client) (s .m) && (leb 1 (lengthAt t at) && leb (lengthAt t at) (s .f)))
-
-and-false : (b : Bool) → (b && false) ≡ false
-and-false true = refl
-and-false false = refl
 
 -- zeros are read as nothing
 zeros-of : (b : Bool) (p u : List ℕ) → bind (check b p u) (λ a v. some (record { value = tt {0}; rest = v })) ≡ cond b (some (record { value = tt {0}; rest = u })) none

@@ -25,7 +25,7 @@ use Rattle.protocol.proofs.RowLaws.{GoodRow, format-row-fields, row-fits}
 use Rattle.records.specs.declared.form.Ends.{Ends}
 use Rattle.records.specs.declared.form.Parts.{Parts}
 use Rattle.records.specs.Form.{rest, properNumbers, after, Ended, Parted}
-use Rattle.records.proofs.FormLaws.{left-read, none-read, rest-make, rest-mapped, rest-both, rest-zeros, rest-area, none-area, Fixed, fixed-fits, fixed-short, fixed-bytes, fixed-number, fixed-mapped, fixed-many}
+use Rattle.records.proofs.FormLaws.{left-read, none-read, rest-check, none-either, rest-make, rest-mapped, rest-both, rest-zeros, rest-area, none-area, Fixed, fixed-fits, fixed-short, fixed-bytes, fixed-number, fixed-mapped, fixed-many}
 
 pub bytes-drop : (at : ℕ) (t : List ℕ) → Bytes t → Bytes (drop at t)
 bytes-drop at t b i = rw (getD-drop at t i 0) (b (at + i))
@@ -65,20 +65,12 @@ module _ (s : Measures) (u v w x : List ℕ) (q c map : ℕ)
   unfolding readPointer readVersion readNamed properPointer
   rest-pointer = rw sequence (rw client (rw nodes (go (readMany (readBytes 32) (count map) x))))
     where
-      test : (b : Bool) (p : Pointer) (t : List ℕ) → rest (check b p t) ≡ cond b (some t) none
-      test true p t = refl
-      test false p t = refl
-
-      no : (b : Bool) → _≡_ {A = Option (List ℕ)} none (cond b none none)
-      no true = refl
-      no false = refl
-
       go : (o : Option (Read (List (List ℕ))))
           → rest (bind (bind (bind o (λ l u. some (record { value = record { nodes = map; digests = l }; rest = u })))
           (λ n u. some (record { value = record { version = record { sequence = record { 0 = q }; client = c }; named = n }; rest = u })))
           (λ p t. check (properPointer s p) p t)) ≡ cond (properNumbers s q c map) (rest o) none
-      go none = no (properNumbers s q c map)
-      go (some r) = test (properNumbers s q c map) _ (r .rest)
+      go none = none-either (properNumbers s q c map)
+      go (some r) = rest-check (properNumbers s q c map) _ (r .rest)
 
 -- one byte
 pub number-one : (b : ℕ) (u : List ℕ) → readNumber 1 (b ∷ u) ≡ some (record { value = b; rest = u })
@@ -120,11 +112,13 @@ pub rest-pointers : (s : Measures) (n : ℕ) (u : List ℕ) → rest (readConten
 unfolding readContent
 rest-pointers s n u = rest-mapped Content.pointersOf (readMany (readPointer s) n) u
 
+pub indices-fixed : (n : ℕ) → Fixed (n * 4) (readMany readIndex n)
+unfolding readIndex
+indices-fixed n = fixed-many 4 readIndex (fixed-mapped 4 (λ n. record { 0 = n }) (readNumber 4) (fixed-number 4)) n
+
 pub fixed-indices : (s : Measures) (n : ℕ) → Fixed (n * 4) (readContent s (indices n))
-unfolding readContent readIndex
-fixed-indices s n =
-    fixed-mapped (n * 4) Content.indicesOf (readMany readIndex n)
-    (fixed-many 4 readIndex (fixed-mapped 4 (λ n. record { 0 = n }) (readNumber 4) (fixed-number 4)) n)
+unfolding readContent
+fixed-indices s n = fixed-mapped (n * 4) Content.indicesOf (readMany readIndex n) (indices-fixed n)
 
 pub rest-fields : (s : Measures) (f : Field) (fs : List Field) (map : ℕ) (u : List ℕ)
     → rest (readFields s (f ∷ fs) map u) ≡ chain (after s f (map % 2) u) (λ v. rest (readFields s fs (map / 2) v))

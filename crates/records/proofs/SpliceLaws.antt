@@ -1,16 +1,37 @@
--- Bytes written over bytes, and a node table taken apart at a place.
+-- Bytes written over bytes, values of one length behind each other, and a node table taken apart at a place.
 use mathlib.Core.Path.{_≡_, refl, sym, ap, ap₂, _∙_}
 use mathlib.Core.List.{List, [], _∷_, _++_, append-assoc}
-use Prim.Native.Nat.{ℕ, suc, _+_, _-_, _*_, _<_, _≤_}
-use native.Mathlib.Nat.{zero-add}
+use Prim.Native.Nat.{ℕ, zero, suc, _+_, _-_, _*_, _<_, _≤_}
+use native.Mathlib.Nat.{zero-add, suc-mul}
 use native.Mathlib.Omega.{arith}
-use lib.ListN.{length, set, take, drop, replicate, length-append, length-drop, take-append-drop}
-use lib.Seq.{paste, set-split, take-at, drop-at, take-all, drop-drop, length-take-le}
+use lib.ListN.{length, getD, set, take, drop, replicate, length-append, length-drop, length-replicate, replicate-append-replicate, take-append-drop}
+use lib.Seq.{paste, set-split, take-at, drop-at, take-append-add, drop-append-add, take-all, drop-drop, length-take-le}
 use Rattle.protocol.specs.declared.measures.Measures.{Measures}
-use Rattle.protocol.specs.Format.{writeNumber, writeMany}
+use Rattle.protocol.specs.Format.{writeNumber, writeMany, writeArea}
 use Rattle.protocol.specs.Measures.{places, placeSize}
 use Rattle.protocol.specs.NodeTable.{Held, writePlaces, writeTable}
+use Rattle.protocol.proofs.FormatLaws.{Each}
+use Rattle.protocol.proofs.EachLaws.{each-at}
 use Rattle.records.specs.Places.{splice, placeOf}
+
+-- a part to the end
+pub to-end : (t : List ℕ) (at : ℕ) → take (length t - at) (drop at t) ≡ drop at t
+to-end t at = take-all (length t - at) (drop at t) (omega (arith, length-drop at t))
+
+-- past a first part
+pub drop-past : (p q : List ℕ) (n j k : ℕ) → length p ≡ n → k ≡ n + j → drop k (p ++ q) ≡ drop j q
+drop-past p q n j k e f = let g : k ≡ length p + j = omega arith in rw g (drop-append-add p q j)
+
+pub paste-past : (p t b : List ℕ) (n j k at : ℕ) → length p ≡ n → at ≡ n + j → paste (p ++ t) at b k ≡ p ++ paste t j b k
+paste-past p t b n j k at e f =
+    let g : at ≡ length p + j = omega arith in
+    let h : at + k ≡ length p + (j + k) = omega arith in
+    ap₂ (λ (x y : ℕ). take x (p ++ t) ++ take k b ++ drop y (p ++ t)) g h
+    ∙ ap₂ (λ (x y : List ℕ). x ++ take k b ++ y) (take-append-add p t j) (drop-append-add p t (j + k))
+    ∙ ap (λ (x : List ℕ). x ++ drop (j + k) t) (append-assoc p (take j t) (take k b))
+    ∙ append-assoc p (take j t ++ take k b) (drop (j + k) t)
+
+-- ---- bytes over bytes
 
 pub splice-parts : (p q r x : List ℕ) (at : ℕ) → length p ≡ at → length q ≡ length x → splice (p ++ (q ++ r)) at x ≡ p ++ (x ++ r)
 unfolding splice
@@ -56,6 +77,24 @@ splice-next t at x y k e h =
     ∙ append-assoc (take at t) x (y ++ drop (at + length (x ++ y)) t)
     ∙ ap (λ (u : List ℕ). take at t ++ u) (sym (append-assoc x y (drop (at + length (x ++ y)) t)))
 
+pub paste-join : (t : List ℕ) (at : ℕ) (a b : List ℕ) (m n : ℕ) → length a ≡ m → length b ≡ n → at + m + n ≤ length t
+    → paste (paste t at a m) (at + m) b n ≡ paste t at (a ++ b) (m + n)
+paste-join t at a b m n e f h =
+    paste-all (paste t at a m) (at + m) b n (sym f) ∙ ap (λ (u : List ℕ). splice u (at + m) b) (paste-all t at a m (sym e))
+    ∙ splice-next t at a b (at + m) (omega arith) (omega arith) ∙ sym (paste-all t at (a ++ b) (m + n) (omega (arith, length-append a b)))
+
+-- bytes, and zeros after them
+pub area-put : (t : List ℕ) (at f : ℕ) (p : List ℕ) → at + f ≤ length t → length p ≤ f
+    → paste (paste t at p (length p)) (at + length p) (replicate (at + f - (at + length p)) 0) (at + f - (at + length p)) ≡ paste t at (writeArea f (λ p. p) p) f
+unfolding writeArea
+area-put t at f p h l =
+    let n = length p in
+    let e : at + f - (at + n) ≡ f - n = omega arith in
+    let g : n + (f - n) ≡ f = omega arith in
+    (λ i. paste (paste t at p n) (at + n) (replicate (e i) 0) (e i))
+    ∙ paste-join t at p (replicate (f - n) 0) n (f - n) refl (length-replicate {A = ℕ} (f - n) 0) (omega arith)
+    ∙ ap (paste t at (p ++ replicate (f - n) 0)) g
+
 -- bytes at the front
 pub splice-front : (t x : List ℕ) → splice t 0 x ≡ x ++ drop (length x) t
 unfolding splice
@@ -90,12 +129,86 @@ tagged t tag b from n h k =
     first : (t : List ℕ) → 1 ≤ length t → set t 0 tag ≡ splice t 0 (tag ∷ [])
     first t q = splice-one t 0 tag q
 
--- ---- a table's bytes
+-- ---- values behind each other
 
 pub many-append : {A : Type 0} (w : A → List ℕ) (a b : List A) → writeMany w (a ++ b) ≡ writeMany w a ++ writeMany w b
 unfolding writeMany
 many-append w [] b = refl
 many-append w (x ∷ a) b = ap (λ (u : List ℕ). w x ++ u) (many-append w a b) ∙ sym (append-assoc (w x) (writeMany w a) (writeMany w b))
+
+pub many-same : {A : Type 0} (w : A → List ℕ) (a : A) (x : List ℕ) → w a ≡ x → (n : ℕ) → writeMany w (replicate n a) ≡ writeMany (λ d. d) (replicate n x)
+unfolding writeMany
+many-same w a x e zero = refl
+many-same w a x e (suc n) = λ i. e i ++ many-same w a x e n i
+
+pub many-zeros : {A : Type 0} (w : A → List ℕ) (a : A) (k : ℕ) → w a ≡ replicate k 0 → (n : ℕ) → writeMany w (replicate n a) ≡ replicate (n * k) 0
+unfolding writeMany
+many-zeros w a k e zero = let z : 0 ≡ 0 * k = omega arith in ap (λ (m : ℕ). replicate m 0) z
+many-zeros w a k e (suc n) =
+    let z : k + n * k ≡ suc n * k = omega (arith, suc-mul n k) in
+    (λ i. e i ++ many-zeros w a k e n i) ∙ replicate-append-replicate k (n * k) 0 ∙ ap (λ (m : ℕ). replicate m 0) z
+
+module _ {A : Type 0} (w : A → List ℕ) (g : A → Type 0) (k : ℕ) (same : (a : A) → g a → length (w a) ≡ k) (z : List ℕ) (o : A) where
+  -- the value at a place, and what follows
+  pub many-at : (l : List A) (i : ℕ) → Each g l → i < length l
+      → drop (i * k) (writeMany w l ++ z) ≡ w (getD l i o) ++ drop (i * k + k) (writeMany w l ++ z)
+  unfolding writeMany
+  many-at [] i h b = absurd (omega arith)
+  many-at (a ∷ l) zero h b =
+      let e : 0 * k ≡ 0 = omega arith in
+      let m : 0 * k + k ≡ k = omega arith in
+      rw (m, e)
+      (append-assoc (w a) (writeMany w l) z
+      ∙ ap (λ (x : List ℕ). w a ++ x) (sym (ap (drop k) (append-assoc (w a) (writeMany w l) z) ∙ drop-at (w a) (writeMany w l ++ z) k (same a (h .0)))))
+  many-at (a ∷ l) (suc i) h b =
+      let n : length (w a) ≡ k = same a (h .0) in
+      let e : suc i * k ≡ length (w a) + i * k = omega (arith, suc-mul i k) in
+      let m : suc i * k + k ≡ length (w a) + (i * k + k) = omega (arith, suc-mul i k) in
+      rw (m, e)
+      (ap (drop (length (w a) + i * k)) (append-assoc (w a) (writeMany w l) z)
+      ∙ drop-append-add (w a) (writeMany w l ++ z) (i * k)
+      ∙ many-at l i (h .1) (omega arith)
+      ∙ ap (λ (x : List ℕ). w (getD l i o) ++ x)
+      (sym (ap (drop (length (w a) + (i * k + k))) (append-assoc (w a) (writeMany w l) z) ∙ drop-append-add (w a) (writeMany w l ++ z) (i * k + k))))
+
+  -- another value at a place
+  pub many-set : (l : List A) (i : ℕ) (a : A) → Each g l → i < length l
+      → writeMany w (set l i a) ++ z ≡ (take (i * k) (writeMany w l ++ z) ++ w a) ++ drop (i * k + k) (writeMany w l ++ z)
+  unfolding writeMany
+  many-set [] i a h b = absurd (omega arith)
+  many-set (x ∷ l) zero a h b =
+      let e : 0 * k ≡ 0 = omega arith in
+      let m : 0 * k + k ≡ k = omega arith in
+      rw (m, e)
+      (append-assoc (w a) (writeMany w l) z
+      ∙ ap (λ (y : List ℕ). w a ++ y) (sym (ap (drop k) (append-assoc (w x) (writeMany w l) z) ∙ drop-at (w x) (writeMany w l ++ z) k (same x (h .0)))))
+  many-set (x ∷ l) (suc i) a h b =
+      let n : length (w x) ≡ k = same x (h .0) in
+      let e : suc i * k ≡ length (w x) + i * k = omega (arith, suc-mul i k) in
+      let m : suc i * k + k ≡ length (w x) + (i * k + k) = omega (arith, suc-mul i k) in
+      let t = writeMany w l ++ z in
+      rw (m, e)
+      (append-assoc (w x) (writeMany w (set l i a)) z
+      ∙ ap (λ (y : List ℕ). w x ++ y) (many-set l i a (h .1) (omega arith))
+      ∙ sym (append-assoc (w x) (take (i * k) t ++ w a) (drop (i * k + k) t))
+      ∙ ap (λ (y : List ℕ). y ++ drop (i * k + k) t) (sym (append-assoc (w x) (take (i * k) t) (w a)))
+      ∙ ap₂ (λ (y v : List ℕ). (y ++ w a) ++ v)
+      (sym (ap (take (length (w x) + i * k)) (append-assoc (w x) (writeMany w l) z) ∙ take-append-add (w x) t (i * k)))
+      (sym (ap (drop (length (w x) + (i * k + k))) (append-assoc (w x) (writeMany w l) z) ∙ drop-append-add (w x) t (i * k + k))))
+
+-- one of them
+pub many-part : {A : Type 0} (w : A → List ℕ) (g : A → Type 0) (k : ℕ) → ((a : A) → g a → length (w a) ≡ k) → (d : A) (l : List A) → Each g l
+    → (i : ℕ) → i < length l → (t : List ℕ) → take k (drop (i * k) (writeMany w l ++ t)) ≡ w (getD l i d)
+many-part w g k h d l e i b t =
+    ap (take k) (many-at w g k h t d l i e b) ∙ take-at (w (getD l i d)) (drop (i * k + k) (writeMany w l ++ t)) k (h (getD l i d) (each-at g d l e i b))
+
+-- one of them written over
+pub many-put : {A : Type 0} (w : A → List ℕ) (g : A → Type 0) (k : ℕ) → ((a : A) → g a → length (w a) ≡ k) → (l : List A) → Each g l
+    → (i : ℕ) → i < length l → (a : A) (t b : List ℕ) → take k b ≡ w a → paste (writeMany w l ++ t) (i * k) b k ≡ writeMany w (set l i a) ++ t
+many-put w g k h l e i n a t b f =
+    ap (λ (x : List ℕ). (take (i * k) (writeMany w l ++ t) ++ x) ++ drop (i * k + k) (writeMany w l ++ t)) f ∙ sym (many-set w g k h t a l i a e n)
+
+-- ---- a table's bytes
 
 -- count, the places before, those after, the free ones
 pub table-parts : (s : Measures) (a b : List Held) (n : ℕ) (rest : List ℕ) → length (a ++ b) ≡ n

@@ -6,7 +6,18 @@ use protocol::version::Version;
 ghost use mathlib.Core.Path.{_≡_};
 ghost use Prim.Native.Nat.{_+_, _≤_};
 ghost use lib.ListN.{length};
+ghost use Rattle.protocol.specs.Reading.{sameVersion};
 ghost use Rattle.records.specs.Places.{versionAt, properAt, versionAlone};
+
+// Neither is below the other.
+pub fn same_version(a: Version, b: Version) -> bool
+    ensures { λ r. ⌜ r ≡ sameVersion a b ⌝ }
+{
+    if a.below(b) {
+        return false;
+    }
+    !b.below(a)
+}
 
 // The version in the five bytes at a place.
 pub fn version_at(t: &[u8], at: usize) -> Version

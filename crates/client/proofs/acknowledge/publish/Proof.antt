@@ -1,11 +1,13 @@
 use borrow.Author.Needs.{needs}
 use native.Mathlib.Omega.{arith}
-use Rattle.client.proofs.AcknowledgeLaws.{ends-four, Asked, work-there, published-bits, published-enough, published-retained, published-pointer, published-long, stored-published}
+use Rattle.client.proofs.AcknowledgeLaws.{published-bits, published-enough, published-retained, published-pointer, published-long, stored-published}
+use Rattle.client.proofs.StartLaws.{ends-four}
+use Rattle.client.proofs.GateLaws.{work-within, Opened}
 use Rattle.client.proofs.acknowledge.publish.Statement.{statement}
 use Rattle.client.proofs.acknowledge.publish.Tie as tie
 
-asked : (c : tie.After-work-at) → let a = c .before .before .before .args in Asked (a .s) (a .p) (a .area .now)
-asked c =
+opened : (c : tie.After-work-at) → let a = c .before .before .before .args in Opened (a .s) (a .p) (a .area .now)
+opened c =
     let q = c .before .before .before .pre in
     record {
       measures = q .0;
@@ -24,9 +26,9 @@ form-pointer-requires c κs =
     let q = c .before .before .before .before .pre in
     let d = c .before in (
       q .0,
-      published-bits (a .s) (a .p) (a .area .now) (asked d) (a .i) (a .v) (q .5) (q .6) (a .map) (q .7) (q .1) (q .2) (q .8),
-      published-enough (a .s) (a .p) (a .area .now) (asked d) (a .i) (a .v) (q .5) (q .6) (a .map) (q .7) (q .1) (q .2) (q .8),
-      omega (arith, work-there (a .s) (a .p) (a .area .now) (asked d) (a .i) (a .v), d .work-at .ensures),
+      published-bits (a .s) (a .p) (a .area .now) (opened d) (a .i) (a .v) (q .5) (q .6) (a .map) (q .7) (q .1) (q .2) (q .8),
+      published-enough (a .s) (a .p) (a .area .now) (opened d) (a .i) (a .v) (q .5) (q .6) (a .map) (q .7) (q .1) (q .2) (q .8),
+      omega (arith, work-within (a .s) (a .p) (a .area .now) (opened d), d .work-at .ensures),
     )
 
 put-update-requires : tie.Need-put-update-requires
@@ -36,9 +38,9 @@ put-update-requires c κs =
     let d = c .before .before .before .before .before .before in
     let form-pointer = c .before .before .before .before .form-pointer in (
       q .0,
-      published-retained (a .s) (a .p) (a .area .now) (asked d) (a .i) (a .v) (q .5) (q .6) (a .map) (q .7) (q .1) (q .2) (q .8) (d .work-at .result) (d .work-at .ensures) _ (form-pointer .ensures),
-      published-pointer (a .s) (a .p) (a .area .now) (asked d) (a .i) (a .v) (q .5) (q .6) (a .map) (q .7) (q .1) (q .2) (q .8) (d .work-at .result) (d .work-at .ensures) _ (form-pointer .ensures),
-      published-long (a .s) (a .p) (a .area .now) (asked d) (a .i) (a .v) (q .5) (q .6) (a .map) (q .7) (q .1) (q .2) (q .8) (d .work-at .result) (d .work-at .ensures) _ (form-pointer .ensures),
+      published-retained (a .s) (a .p) (a .area .now) (opened d) (a .i) (a .v) (q .5) (q .6) (a .map) (q .7) (q .1) (q .2) (q .8) (d .work-at .result) (d .work-at .ensures) _ (form-pointer .ensures),
+      published-pointer (a .s) (a .p) (a .area .now) (opened d) (a .i) (a .v) (q .5) (q .6) (a .map) (q .7) (q .1) (q .2) (q .8) (d .work-at .result) (d .work-at .ensures) _ (form-pointer .ensures),
+      published-long (a .s) (a .p) (a .area .now) (opened d) (a .i) (a .v) (q .5) (q .6) (a .map) (q .7) (q .1) (q .2) (q .8) (d .work-at .result) (d .work-at .ensures) _ (form-pointer .ensures),
       q .4,
     )
 
@@ -50,12 +52,15 @@ same-length-2 c = search needs
 
 returns : tie.Need-returns
 returns c =
+    let x = c .before .before .before .before .before .before in
+    let y = x .before .before .before .before .before .before in
     λ out.
-    let a = c .before .before .before .before .before .before .before .before .before .before .before .before .before .args in
-    let q = c .before .before .before .before .before .before .before .before .before .before .before .before .before .pre in
-    let d = c .before .before .before .before .before .before .before .before .before .before in
+    let a = y .before .args in
+    let q = y .before .pre in
+    let d = x .before .before .before .before in
     let put-update = c .before .before .before .put-update in
-    ends-four _ _ (stored-published (a .s) (a .p) (a .area .now) (asked d) (a .i) (a .v) (q .5) (q .6) (a .map) (q .7) (q .1) (q .2) (q .8) (d .work-at .result) (d .work-at .ensures) _ (c .before .before .before .before .before .before .before .before .form-pointer .ensures)
+    ends-four _ _ (stored-published (a .s) (a .p) (a .area .now) (opened d) (a .i) (a .v) (q .5) (q .6) (a .map) (q .7) (q .1) (q .2) (q .8) (d .work-at .result) (d .work-at .ensures) _
+    (x .before .before .form-pointer .ensures)
     (a .room .now) (put-update .result) (put-update .ensures .0) _ (put-update .ensures .1) out)
 
 pub publish-spec : {M : Type 1} → statement M

@@ -43,7 +43,8 @@ u32-at-requires c κs =
     let p = c .before .before .before .before .pre in
     let f = c .before .before .past in
     let g = c .past2 in
-    index-room (a .s) (a .own) (a .index) (a .rows .now) (a .at) (λ i. c .before .before .before .shared-slice-known .given i .fits) (p .1) (p .3) (f .result) (f .ensures .0) (g .result) (g .ensures .0) (g .ensures .1)
+    index-room (a .s) (a .own) (a .index) (a .rows .now) (a .at) (λ i. c .before .before .before .shared-slice-known .given i .fits) (p .1) (p .3) (f .result) (f .ensures .0) (g .result)
+    (g .ensures .0) (g .ensures .1)
 
 sub-w : tie.Need-sub-w
 sub-w c = search needs
@@ -76,7 +77,8 @@ returns c =
     let u = c .before .before .before .u32-at in
     c .picked .ensures
     ∙ picked-whole (a .rows .now) (a .at + 1) (f .result) (a .index) (record { 0 = u .result })
-    ∙ offered-picks (a .s) (a .own) (a .index) (a .rows .now) (a .at) (λ i. x .before .before .before .shared-slice-known .given i .fits) (p .1) (p .3) (f .result) (f .ensures .0) (g .result) (g .ensures .0) (u .result) _ (u .ensures)
+    ∙ offered-picks (a .s) (a .own) (a .index) (a .rows .now) (a .at) (λ i. x .before .before .before .shared-slice-known .given i .fits) (p .1) (p .3) (f .result) (f .ensures .0)
+    (g .result) (g .ensures .0) (u .result) _ (u .ensures)
 
 pub candidate-at-spec : {M : Type 1} → statement M
 candidate-at-spec =

@@ -1,35 +1,34 @@
 use borrow.Author.Needs.{needs}
 use mathlib.Core.Path.{sym, ap, _∙_}
-use Prim.Native.Nat.{_^_, _<_}
 use native.Mathlib.Omega.{arith}
 use lib.ListN.{length}
-use Rattle.coding.specs.Bytes.{Bytes}
 use Rattle.protocol.specs.declared.version.Version.{Version}
 use Rattle.protocol.specs.Pointer.{Pointer}
-use Rattle.protocol.proofs.PointerLaws.{GoodPointer}
+use Rattle.protocol.proofs.PointerLaws.{GoodPointer, pointer-length}
 use Rattle.protocol.proofs.RowLaws.{pointer-fits}
 use Rattle.client.specs.Choose.{offered}
-use Rattle.client.proofs.PickLaws.{pointer-length}
 use Rattle.client.proofs.StartLaws.{ends-three}
 use Rattle.client.proofs.ChooseLaws.{offered-good, version-fits, version-shown}
-use Rattle.client.proofs.FetchLaws.{area-within, finds-none, asks}
+use Rattle.client.proofs.FetchLaws.{finds-none, asks}
+use Rattle.client.proofs.GateLaws.{work-within, Opened}
 use Rattle.client.proofs.choose.fetch.Statement.{statement}
 use Rattle.client.proofs.choose.fetch.Tie as tie
 
-small : (c : tie.After-candidate-at) → c .before .before .before .before .before .before .args .p .reading .0 < 256 ^ 4
-small c = omega arith
-
-bytes : (c : tie.After-candidate-at) → Bytes (c .before .before .before .before .before .before .args .area .now)
-bytes c = λ i. c .before .before .before .before .before .slice-known .given i .fits
+opened : (c : tie.After-candidate-at) → let a = c .before .before .before .before .before .before .args in Opened (a .s) (a .p) (a .area .now)
+opened c =
+    let q = c .before .before .before .before .before .before .pre in
+    record { measures = q .0; step = omega arith; reading = omega arith; bytes = λ i. c .before .before .before .before .before .slice-known .given i .fits; reads = q .3 }
 
 abbrev found : tie.After-candidate-at → Pointer
 found c = let a = c .before .before .before .before .before .before .args in offered (a .s) (a .own) (a .p .reading) (a .rows .now) (c .before .pick-row .result)
 
 good : (c : tie.After-candidate-at) → GoodPointer (c .before .before .before .before .before .before .args .s) (found c)
 good c =
-    let a = c .before .before .before .before .before .before .args in
-    let q = c .before .before .before .before .before .before .pre in
-    offered-good (a .s) (a .own) (a .p .reading) (a .rows .now) (c .before .pick-row .result) (λ i. c .before .before .before .before .shared-slice-known .given i .fits) (q .1) (c .before .pick-row .ensures .2)
+    let x = c .before .before .before .before .before .before in
+    let a = x .args in
+    let q = x .pre in
+    offered-good (a .s) (a .own) (a .p .reading) (a .rows .now) (c .before .pick-row .result) (λ i. c .before .before .before .before .shared-slice-known .given i .fits) (q .1)
+    (c .before .pick-row .ensures .2)
 
 pick-row-requires : tie.Need-pick-row-requires
 pick-row-requires c κs = search needs
@@ -46,7 +45,7 @@ returns c =
     let a = x .before .before .before .before .before .before .args in
     let q = x .before .before .before .before .before .before .pre in
     let v = version-shown (a .s) (found x) (good x) (x .candidate-at .result .now) (x .candidate-at .ensures) in
-    ends-three _ _ (finds-none (a .s) (q .0) (a .own) (a .p) (q .2) (small x) (a .area .now) (bytes x) (q .3) (a .rows .now) (a .room .now) (found x) (x .before .pick-row .ensures .0) (good x)
+    ends-three _ _ (finds-none (a .s) (a .own) (a .p) (a .area .now) (opened x) (q .2) (a .rows .now) (a .room .now) (found x) (x .before .pick-row .ensures .0) (good x)
     (sym (ap (λ (w : Version). w .sequence .0) (c .before .before .before .version-at .ensures ∙ v)) ∙ c .if1 .taken))
 
 u16-at-requires : tie.Need-u16-at-requires
@@ -73,7 +72,7 @@ put-fetched-requires c κs =
     let q = x .before .before .before .before .before .before .pre in
     let w = c .before .before .before .before .before .work-size .ensures in (
       omega (arith, ap length (x .candidate-at .ensures), pointer-fits (a .s) (found x) (good x), w),
-      omega (arith, area-within (a .s) (q .0) (a .own) (a .p) (q .2) (small x) (a .area .now) (bytes x) (q .3), w, c .before .before .before .before .before .before .work-at .ensures),
+      omega (arith, work-within (a .s) (a .p) (a .area .now) (opened x), w, c .before .before .before .before .before .before .work-at .ensures),
     )
 
 same-length : tie.Need-same-length
@@ -84,14 +83,17 @@ same-length-2 c = search needs
 
 returns-2 : tie.Need-returns-2
 returns-2 c =
-    let y = c .before .before .before .before .before .before .before .before in
+    let z = c .before .before .before .before .before .before in
+    let y = z .before .before in
     let x = y .before .before .before .before .before .before .before in
     let a = x .before .before .before .before .before .before .args in
     let q = x .before .before .before .before .before .before .pre in
-    ends-three _ _ (asks (a .s) (q .0) (a .own) (a .p) (q .2) (small x) (a .area .now) (bytes x) (q .3) (a .rows .now) (a .room .now) (found x) (x .before .pick-row .ensures .0) (good x)
-    (x .candidate-at .result .now) (x .candidate-at .ensures) (y .before .before .before .before .before .before .version-at .result) (y .before .before .before .before .before .before .version-at .ensures)
-    (y .before .before .before .if1 .left) (y .before .before .u16-at .result) _ (y .before .before .u16-at .ensures) (y .before .work-at .result) (y .before .work-at .ensures) (y .work-size .result) (y .work-size .ensures)
-    _ (c .before .before .put-fetched .ensures) _ (c .before .before .before .before .before .before .put-request .ensures))
+    ends-three _ _ (asks (a .s) (a .own) (a .p) (a .area .now) (opened x) (q .2) (a .rows .now) (a .room .now) (found x) (x .before .pick-row .ensures .0) (good x)
+    (x .candidate-at .result .now) (x .candidate-at .ensures) (y .before .before .before .before .before .before .version-at .result)
+    (y .before .before .before .before .before .before .version-at .ensures)
+    (y .before .before .before .if1 .left) (y .before .before .u16-at .result) _ (y .before .before .u16-at .ensures) (y .before .work-at .result) (y .before .work-at .ensures)
+    (y .work-size .result) (y .work-size .ensures)
+    _ (c .before .before .put-fetched .ensures) _ (z .put-request .ensures))
 
 pub fetch-spec : {M : Type 1} → statement M
 fetch-spec =

@@ -1,5 +1,5 @@
 use borrow.Author.Needs.{needs}
-use mathlib.Core.Path.{_≡_, _∙_}
+use mathlib.Core.Path.{_∙_}
 use Rattle.client.specs.Choose.{offered}
 use Rattle.client.proofs.ChooseLaws.{offered-good, version-fits, version-shown}
 use Rattle.client.proofs.choose.offer_at.Statement.{statement}
@@ -21,7 +21,8 @@ returns c =
     let p = c .before .before .before .pre in
     let q = c .version-at .ensures
     ∙ version-shown (a .s) (offered (a .s) (a .own) (a .index) (a .rows .now) (a .at))
-    (offered-good (a .s) (a .own) (a .index) (a .rows .now) (a .at) (λ i. c .before .before .shared-slice-known .given i .fits) (p .1) (p .3)) (c .before .candidate-at .result .now) (c .before .candidate-at .ensures) in
+    (offered-good (a .s) (a .own) (a .index) (a .rows .now) (a .at) (λ i. c .before .before .shared-slice-known .given i .fits) (p .1) (p .3)) (c .before .candidate-at .result .now)
+    (c .before .candidate-at .ensures) in
     λ i. record { row = a .at; version = q i }
 
 pub offer-at-spec : {M : Type 1} → statement M

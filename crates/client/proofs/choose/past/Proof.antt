@@ -1,5 +1,4 @@
 use borrow.Author.Needs.{needs}
-use mathlib.Core.Path.{sym, _∙_}
 use lib.ListN.{drop}
 use Rattle.protocol.specs.Format.{readMany}
 use Rattle.protocol.specs.Pointer.{readPointer}
@@ -30,7 +29,9 @@ returns-2 : tie.Need-returns-2
 returns-2 c =
     let a = c .before .before .before .before .before .args in
     let p = c .before .before .before .pointers in
-    let g = formed-sound (a .t .now) (a .at) (c .before .next .given .0 .0) (rest (readMany (readPointer (a .s)) (a .n) (drop (a .at) (a .t .now)))) (p .result) (p .ensures) (c .before .next .given .1) in
+    let g = formed-sound (a .t .now) (a .at) (c .before .next .given .0 .0) (rest (readMany (readPointer (a .s)) (a .n) (drop (a .at) (a .t .now)))) (p .result) (p .ensures)
+    (c .before .next .given .1)
+    in
     (g .left, g .to)
 
 pub past-spec : {M : Type 1} → statement M

@@ -55,8 +55,11 @@ loop-holds c =
     let i = a .s .m - 1 in
     let l : a .s .m - 1 < a .s .m = omega (arith, p .1) in
     let e = c .offer-at .ensures
-    ∙ ap (λ (k : ℕ). record { row = i * k; version = offered (a .s) (a .own) (a .index) t (i * k) .version }) (c .before .before .row-size .ensures) in
-    (l, subst (Chosen (a .s) (a .own) (a .index) t i) (sym e) (chosen-last (a .s) (a .own) (a .index) t (λ i. c .before .before .before .shared-slice-known .given i .fits) (p .1) (p .2) (p .3) (omega (arith, p .1))))
+    ∙ ap (λ (k : ℕ). record { row = i * k; version = offered (a .s) (a .own) (a .index) t (i * k) .version }) (c .before .before .row-size .ensures) in (
+      l,
+      subst (Chosen (a .s) (a .own) (a .index) t i) (sym e) (chosen-last (a .s) (a .own) (a .index) t (λ i. c .before .before .before .shared-slice-known .given i .fits) (p .1) (p .2)
+          (p .3) (omega (arith, p .1))),
+    )
 
 sub-i-2 : tie.Need-sub-i-2 Inv-loop μ-loop
 sub-i-2 c = omega arith
@@ -101,7 +104,8 @@ loop-again c =
     let q = c .better .ensures ∙ ap (λ (n : Offer). cond (below (n .version) (best .version)) best n) e in (
       omega (arith, x .loop .inv .0),
       subst (Chosen (a .s) (a .own) (a .index) t i) (sym q)
-          (chosen-turn (a .s) (a .own) (a .index) t (λ i. x .before .before .before .before .shared-slice-known .given i .fits) (p .1) (p .2) (p .3) (x .loop .i) best (c .before .before .loop-test .taken) (x .loop .inv .0) (x .loop .inv .1)),
+          (chosen-turn (a .s) (a .own) (a .index) t (λ i. x .before .before .before .before .shared-slice-known .given i .fits) (p .1) (p .2) (p .3) (x .loop .i) best
+          (c .before .before .loop-test .taken) (x .loop .inv .0) (x .loop .inv .1)),
     )
 
 returns : tie.Need-returns Inv-loop μ-loop

@@ -19,9 +19,11 @@ same-length c =
 
 returns : tie.Need-returns
 returns c =
-    let a = c .before .before .before .before .before .before .args in
-    let q = c .before .before .before .before .before .before .pre in
-    c .before .before .copy .ensures ∙ tagged (a .room .now) 2 (a .p .now) 0 5 (q .0) (q .1) ∙ request-laid (a .room .now) (a .p .now) (λ i. c .before .before .before .before .shared-slice-known .given i .fits) (q .1)
+    let x = c .before .before .before .before .before .before in
+    let a = x .args in
+    let q = x .pre in
+    c .before .before .copy .ensures ∙ tagged (a .room .now) 2 (a .p .now) 0 5 (q .0) (q .1)
+    ∙ request-laid (a .room .now) (a .p .now) (λ i. c .before .before .before .before .shared-slice-known .given i .fits) (q .1)
 
 pub put-request-spec : {M : Type 1} → statement M
 put-request-spec = tie.close (tie.spec slice-write-room copy-requires same-length returns)

@@ -30,19 +30,24 @@ same-length c = search needs
 
 returns : tie.Need-returns
 returns c =
-    let a = c .before .before .before .before .before .before .before .before .before .before .before .before .args in
-    let q = c .before .before .before .before .before .before .before .before .before .before .before .before .pre in
-    absurd (cut-refuses (a .s) (q .0) (a .v) (a .page .now) (a .room .now) (q .1) (q .2) (c .before .before .before .before .before .before .before .before .split .result) (c .before .before .before .before .before .before .before .before .split .ensures .0) (c .enum-told .given .0 .0) (c .enum-told .given .1))
+    let x = c .before .before .before .before .before .before in
+    let y = x .before .before .before .before .before .before in
+    let a = y .args in
+    let q = y .pre in
+    absurd (cut-refuses (a .s) (q .0) (a .v) (a .page .now) (a .room .now) (q .1) (q .2) (x .before .before .split .result) (x .before .before .split .ensures .0) (c .enum-told .given .0 .0)
+    (c .enum-told .given .1))
 
 same-length-2 : tie.Need-same-length-2
 same-length-2 c = search needs
 
 returns-2 : tie.Need-returns-2
 returns-2 c =
-    let a = c .before .before .before .before .before .before .before .before .before .before .before .before .before .args in
-    let q = c .before .before .before .before .before .before .before .before .before .before .before .before .before .pre in
-    let y = c .before .before .before .before .before .before .before .before .before .split .ensures in (
-      cut-gives (a .s) (q .0) (a .v) (a .page .now) (a .room .now) (q .1) (q .2) (c .before .before .before .before .before .before .before .before .before .split .result) (y .0) (c .before .a .given .0 .0) (c .before .a .given .1),
+    let x = c .before .before .before .before .before .before in
+    let z = x .before .before .before .before .before .before in
+    let a = z .before .args in
+    let q = z .before .pre in
+    let y = x .before .before .before .split .ensures in (
+      cut-gives (a .s) (q .0) (a .v) (a .page .now) (a .room .now) (q .1) (q .2) (x .before .before .before .split .result) (y .0) (c .before .a .given .0 .0) (c .before .a .given .1),
       c .before .before .before .before .before .put-front .ensures ∙ cut-room (a .s) (q .0) (a .v) (a .page .now) (a .room .now) (q .1) (q .2) _ (y .1),
     )
 

@@ -4,13 +4,16 @@ use Rattle.coding.proofs.FrameLaws.{columns-within}
 use Rattle.protocol.proofs.MeasureLaws.{passed}
 use Rattle.client.proofs.ClientFormLaws.{sizes}
 use Rattle.client.proofs.StartLaws.{ends-three}
-use Rattle.client.proofs.DrawEndLaws.{work-within, page-fits, page-short-at, drawn-at}
+use Rattle.client.proofs.DrawEndLaws.{page-fits, page-short-at, drawn-at}
+use Rattle.client.proofs.GateLaws.{work-within, Opened}
 use borrow.Author.Needs.{needs}
 use Rattle.client.proofs.draw.draw.Statement.{statement}
 use Rattle.client.proofs.draw.draw.Tie as tie
 
-small : (c : tie.After-work-at) → c .before .before .before .args .p .reading .0 < 256 ^ 4
-small c = omega arith
+opened : (c : tie.After-slice-known) → let a = c .before .args in Opened (a .s) (a .p) (a .area .now)
+opened c =
+    let q = c .before .pre in
+    record { measures = q .0; step = omega arith; reading = omega arith; bytes = λ i. c .slice-known .given i .fits; reads = q .3 }
 
 small-sequence : (c : tie.After-work-at) → c .before .before .before .args .q .0 < 256 ^ 4
 small-sequence c = omega arith
@@ -25,7 +28,7 @@ u32-at-requires : tie.Need-u32-at-requires
 u32-at-requires c κs =
     let a = c .before .before .before .before .args in
     let q = c .before .before .before .before .pre in
-    omega (arith, work-within (a .s) (q .0) (a .own) (q .1) (a .p) (q .2) (omega arith) (a .area .now) (λ i. c .before .before .before .slice-known .given i .fits) (q .3), c .before .work-at .ensures)
+    omega (arith, work-within (a .s) (a .p) (a .area .now) (opened (c .before .before .before)), c .before .work-at .ensures)
 
 cast-to : tie.Need-cast-to
 cast-to c = search needs
@@ -47,24 +50,41 @@ part-cut-start c = search needs
 
 part-cut-end : tie.Need-part-cut-end
 part-cut-end c =
-    let a = c .before .before .before .before .before .before .args in
-    let q = c .before .before .before .before .before .before .pre in
-    let f = page-fits (a .s) (q .0) (a .own) (q .1) (a .p) (q .2) (omega arith) (a .area .now) (λ i. c .before .before .before .before .before .slice-known .given i .fits) (q .3) (c .before .before .before .work-at .result) (c .before .before .before .work-at .ensures) (c .before .u32-at .result) _ (c .before .u32-at .ensures) in
+    let x = c .before .before .before .before .before .before in
+    let a = x .args in
+    let q = x .pre in
+    let f = page-fits (a .s) (a .own) (q .1) (a .p) (a .area .now) (opened (c .before .before .before .before .before)) (q .2) (c .before .before .before .work-at .result)
+    (c .before .before .before .work-at .ensures) (c .before .u32-at .result) _ (c .before .u32-at .ensures)
+    in
     omega (arith, f)
 
 cut-requires : tie.Need-cut-requires
 cut-requires c κs =
-    let a = c .before .before .before .before .before .before .before .before .args in
-    let q = c .before .before .before .before .before .before .before .before .pre in
-    (q .0, page-short-at (a .s) (q .0) (a .own) (q .1) (a .p) (q .2) (omega arith) (a .area .now) (λ i. c .before .before .before .before .before .before .before .slice-known .given i .fits) (q .3) (c .before .before .before .before .before .work-at .result) (c .before .before .before .before .before .work-at .ensures) (c .before .before .before .u32-at .result) _ (c .before .before .before .u32-at .ensures), q .4)
+    let x = c .before .before .before .before .before .before in
+    let a = x .before .before .args in
+    let q = x .before .before .pre in (
+      q .0,
+      page-short-at (a .s) (a .own) (q .1) (a .p) (a .area .now) (opened (x .before)) (q .2) (c .before .before .before .before .before .work-at .result)
+          (c .before .before .before .before .before .work-at .ensures) (c .before .before .before .u32-at .result) _ (c .before .before .before .u32-at .ensures),
+      q .4,
+    )
 
 put-stores-requires : tie.Need-put-stores-requires
 put-stores-requires c κs =
-    let a = c .before .before .before .before .before .before .before .before .before .before .before .before .before .args in
-    let q = c .before .before .before .before .before .before .before .before .before .before .before .before .before .pre in
-    let f = page-short-at (a .s) (q .0) (a .own) (q .1) (a .p) (q .2) (omega arith) (a .area .now) (λ i. c .before .before .before .before .before .before .before .before .before .before .before .before .slice-known .given i .fits) (q .3) (c .before .before .before .before .before .before .before .before .before .before .work-at .result) (c .before .before .before .before .before .before .before .before .before .before .work-at .ensures) (c .before .before .before .before .before .before .before .before .u32-at .result) _ (c .before .before .before .before .before .before .before .before .u32-at .ensures) in
-    let g = columns-within (a .s .k) (a .s .f) _ (passed (a .s) (q .0) .parts) (passed (a .s) (q .0) .frame) f in
-    (q .0, omega (arith, g, c .before .before .before .before .cut .ensures .0), search needs, omega (arith, work-within (a .s) (q .0) (a .own) (q .1) (a .p) (q .2) (omega arith) (a .area .now) (λ i. c .before .before .before .before .before .before .before .before .before .before .before .before .slice-known .given i .fits) (q .3), c .before .before .before .before .before .before .before .before .before .before .work-at .ensures))
+    let x = c .before .before .before .before .before .before in
+    let y = x .before .before .before .before .before .before in
+    let a = y .before .args in
+    let q = y .before .pre in
+    let f = page-short-at (a .s) (a .own) (q .1) (a .p) (a .area .now) (opened y) (q .2) (x .before .before .before .before .work-at .result)
+    (x .before .before .before .before .work-at .ensures) (x .before .before .u32-at .result) _ (x .before .before .u32-at .ensures)
+    in
+    let g = columns-within (a .s .k) (a .s .f) _ (passed (a .s) (q .0) .parts) (passed (a .s) (q .0) .frame) f in (
+      q .0,
+      omega (arith, g, c .before .before .before .before .cut .ensures .0),
+      search needs,
+      omega
+          (arith, work-within (a .s) (a .p) (a .area .now) (opened y), x .before .before .before .before .work-at .ensures),
+    )
 
 same-length : tie.Need-same-length
 same-length c = search needs
@@ -74,9 +94,13 @@ same-length-2 c = search needs
 
 returns : tie.Need-returns
 returns c =
-    let a = c .before .before .before .before .before .before .before .before .before .before .before .before .before .before .before .before .before .args in
-    let q = c .before .before .before .before .before .before .before .before .before .before .before .before .before .before .before .before .before .pre in
-    ends-three _ _ (drawn-at (a .s) (q .0) (a .own) (q .1) (a .p) (q .2) (small (c .before .before .before .before .before .before .before .before .before .before .before .before .before .before)) (a .area .now) (λ i. c .before .before .before .before .before .before .before .before .before .before .before .before .before .before .before .before .slice-known .given i .fits) (q .3) (c .before .before .before .before .before .before .before .before .before .before .before .before .before .before .work-at .result) (c .before .before .before .before .before .before .before .before .before .before .before .before .before .before .work-at .ensures) (c .before .before .before .before .before .before .before .before .before .before .before .before .u32-at .result) _ (c .before .before .before .before .before .before .before .before .before .before .before .before .u32-at .ensures) (a .q) (q .5) (small-sequence (c .before .before .before .before .before .before .before .before .before .before .before .before .before .before)) (a .room .now) (q .4) (c .before .before .before .before .before .before .before .before .cut .result) (c .before .before .before .before .before .before .before .before .cut .ensures .0) _ (c .before .before .before .before .before .before .before .before .cut .ensures .1) _ (c .before .before .before .put-stores .ensures))
+    let x = c .before .before .before .before .before .before in
+    let y = x .before .before .before .before .before .before in
+    let a = y .before .before .before .before .before .args in
+    let q = y .before .before .before .before .before .pre in
+    ends-three _ _ (drawn-at (a .s) (a .own) (q .1) (a .p) (a .area .now) (opened (y .before .before .before .before)) (q .2) (y .before .before .work-at .result)
+    (y .before .before .work-at .ensures) (y .u32-at .result) _ (y .u32-at .ensures) (a .q) (q .5) (small-sequence (y .before .before)) (a .room .now) (q .4) (x .before .before .cut .result)
+    (x .before .before .cut .ensures .0) _ (x .before .before .cut .ensures .1) _ (c .before .before .before .put-stores .ensures))
 
 pub draw-spec : {M : Type 1} → statement M
 draw-spec =

@@ -2,12 +2,12 @@
 use mathlib.Core.Path.{_≡_, _∙_}
 use Prim.Native.Nat.{_+_, _-_, _*_, _≤_}
 use native.Mathlib.Omega.{arith}
-use lib.ListN.{length, take, drop}
+use lib.ListN.{take, drop}
 use lib.Seq.{paste}
 use Rattle.coding.specs.Digest.{pieceDigest}
 use Rattle.coding.proofs.BytesLaws.{stride}
 use Rattle.protocol.specs.Pointer.{writeVersion}
-use Rattle.client.specs.Draw.{roomDigest, roomDigests}
+use Rattle.client.specs.Draw.{roomDigests}
 use Rattle.records.proofs.BytesLaws.{Copied, copied-none}
 use Rattle.records.proofs.SizeLaws.{below-rows}
 use Rattle.client.proofs.ClientFormLaws.{sizes}
@@ -38,9 +38,10 @@ put-piece-digest-requires c κs =
 
 add-p : tie.Need-add-p Inv-loop μ-loop
 add-p c =
-    let a = c .before .before .before .before .before .before .before .before .args in
+    let x = c .before .before .before .before .before .before in
+    let a = x .before .before .args in
     let l = c .before .before .before .before .before .loop in
-    omega (arith, below-rows (l .i) (a .s .n) (a .s .f) (c .before .before .before .before .loop-test .taken), l .inv .1, sizes (a .s) (c .before .before .before .before .before .before .before .before .pre .0) .pieces)
+    omega (arith, below-rows (l .i) (a .s .n) (a .s .f) (c .before .before .before .before .loop-test .taken), l .inv .1, sizes (a .s) (x .before .before .pre .0) .pieces)
 
 add-at : tie.Need-add-at Inv-loop μ-loop
 add-at c =
@@ -48,7 +49,9 @@ add-at c =
     omega (arith, c .before .before .before .before .loop-test .taken, l .inv .2, c .before .before .before .before .before .before .before .before .pre .3)
 
 add-i : tie.Need-add-i Inv-loop μ-loop
-add-i c = omega (arith, c .before .before .before .before .loop-test .taken, sizes (c .before .before .before .before .before .before .before .before .args .s) (c .before .before .before .before .before .before .before .before .pre .0) .nodes)
+add-i c =
+    let x = c .before .before .before .before .before .before in
+    omega (arith, c .before .before .before .before .loop-test .taken, sizes (x .before .before .args .s) (x .before .before .pre .0) .nodes)
 
 loop-less : tie.Need-loop-less Inv-loop μ-loop
 loop-less c = omega arith

@@ -48,15 +48,18 @@ same-length c = search needs
 
 returns : tie.Need-returns
 returns c =
-    let a = c .before .before .before .before .before .before .before .before .before .before .before .before .before .before .before .before .before .before .before .before .args in
-    let q = c .before .before .before .before .before .before .before .before .before .before .before .before .before .before .before .before .before .before .before .before .pre in
+    let x = c .before .before .before .before .before .before in
+    let y = x .before .before .before .before .before .before in
+    let z = y .before .before .before .before .before .before in
+    let a = z .before .before .args in
+    let q = z .before .before .pre in
     let ds = roomDigests (a .s .n) (a .s .f) (a .v) (a .len) (a .room .now) in
     let rest : ℕ = a .at + 7 + 32 * a .s .n in
-    let e = c .before .before .before .before .before .before .put-digests .ensures
+    let e = x .put-digests .ensures
     ∙ ap (λ (l : List ℕ). paste l (a .at + 7) ds (32 * a .s .n))
-    (c .before .before .before .before .before .before .before .before .before .before .put-u16 .ensures ∙ ap (λ (l : List ℕ). paste l (a .at + 5) (writeNumber 2 0) 2) (c .before .before .before .before .before .before .before .before .before .before .before .before .before .before .put-version .ensures))
+    (x .before .before .before .before .put-u16 .ensures ∙ ap (λ (l : List ℕ). paste l (a .at + 5) (writeNumber 2 0) 2) (y .before .before .put-version .ensures))
     in
-    let w = c .before .before .before .before .before .before .before .before .before .before .before .before .before .before .before .before .before .work-size .ensures in
+    let w = y .before .before .before .before .before .work-size .ensures in
     c .before .before .clear .ensures
     ∙ (λ i. paste (e i) rest (replicate (a .at + w i - rest) 0) (a .at + w i - rest))
     ∙ stores-put (a .s) (q .0) (a .v) ds (a .area .now) (a .at) rest (length-room-digests (a .s .n) (a .s .f) (a .v) (a .len) (a .room .now)) (q .3) refl

@@ -15,10 +15,12 @@ same-length c = search needs
 
 returns : tie.Need-returns
 returns c =
-    let a = c .before .before .before .before .before .before .args in
-    let p = c .before .before .before .before .before .before .pre in
+    let x = c .before .before .before .before .before .before in
+    let a = x .args in
+    let p = x .pre in
     let j = c .before .before .before .seek in
-    added-old (a .room .now) (λ i. c .before .before .before .before .before .slice-known .given i .fits) (a .v) (a .count) (j .result) (j .ensures) p (sym (c .before .reaches .ensures) ∙ c .if1 .taken)
+    added-old (a .room .now) (λ i. c .before .before .before .before .before .slice-known .given i .fits) (a .v) (a .count) (j .result) (j .ensures) p
+    (sym (c .before .reaches .ensures) ∙ c .if1 .taken)
 
 put-in-requires : tie.Need-put-in-requires
 put-in-requires c κs =
@@ -35,10 +37,12 @@ same-length-2 c = search needs
 
 returns-2 : tie.Need-returns-2
 returns-2 c =
-    let a = c .before .before .before .before .before .before .before .before .before .before .args in
-    let p = c .before .before .before .before .before .before .before .before .before .before .pre in
-    let j = c .before .before .before .before .before .before .before .seek in
-    added-new (a .room .now) (λ i. c .before .before .before .before .before .before .before .before .before .slice-known .given i .fits) (a .v) (a .count) (j .result) (j .ensures) p (sym (c .before .before .before .before .before .reaches .ensures) ∙ c .before .before .before .before .if1 .left) _ (c .before .before .put-in .ensures)
+    let x = c .before .before .before .before .before .before in
+    let a = x .before .before .before .before .args in
+    let p = x .before .before .before .before .pre in
+    let j = x .before .seek in
+    added-new (a .room .now) (λ i. x .before .before .before .slice-known .given i .fits) (a .v) (a .count) (j .result) (j .ensures) p
+    (sym (c .before .before .before .before .before .reaches .ensures) ∙ c .before .before .before .before .if1 .left) _ (c .before .before .put-in .ensures)
 
 pub add-version-spec : {M : Type 1} → statement M
 add-version-spec =

@@ -18,7 +18,8 @@ returns c =
     let a = c .before .before .before .before .args in
     let p = c .before .before .before .before .pre in
     λ first x.
-    skipped (a .s) (a .area .now) (λ i. c .before .before .before .shared-slice-known .given i .fits) (p .0) (a .map) (a .new) (a .q) (p .1) (sym (c .before .stands .ensures) ∙ not-true (c .before .stands .result) (c .if1 .taken)) first (a .count) (a .room .now) x
+    skipped (a .s) (a .area .now) (λ i. c .before .before .before .shared-slice-known .given i .fits) (p .0) (a .map) (a .new) (a .q) (p .1)
+    (sym (c .before .stands .ensures) ∙ not-true (c .before .stands .result) (c .if1 .taken)) first (a .count) (a .room .now) x
 
 reserved-for-requires : tie.Need-reserved-for-requires
 reserved-for-requires c κs = search needs
@@ -37,14 +38,18 @@ same-length c = search needs
 
 returns-2 : tie.Need-returns-2
 returns-2 c =
-    let a = c .before .before .before .before .before .before .before .before .before .before .before .before .before .before .args in
-    let p = c .before .before .before .before .before .before .before .before .before .before .before .before .before .before .pre in
-    let v = c .before .before .before .before .before .before .before .before .before .reserved-for in
-    let m = c .before .before .before .before .before .before .before .free-version in
+    let y = c .before .before .before .before .before .before in
+    let z = y .before .before .before .before .before .before in
+    let a = z .before .before .args in
+    let p = z .before .before .pre in
+    let v = y .before .before .before .reserved-for in
+    let m = y .before .free-version in
     let w = c .before .before .before .before .frozen-version in
     let n = c .before .before .free-version2 in
     λ first x.
-    client-freed (a .s) (a .area .now) (λ i. c .before .before .before .before .before .before .before .before .before .before .before .before .before .shared-slice-known .given i .fits) (p .0) (a .map) (a .new) (a .q) (p .1) (sym (c .before .before .before .before .before .before .before .before .before .before .before .stands .ensures) ∙ not-false (c .before .before .before .before .before .before .before .before .before .before .before .stands .result) (c .before .before .before .before .before .before .before .before .before .before .if1 .left)) first (a .count) (a .room .now)
+    client-freed (a .s) (a .area .now) (λ i. z .before .shared-slice-known .given i .fits) (p .0) (a .map) (a .new) (a .q) (p .1)
+    (sym (y .before .before .before .before .before .stands .ensures) ∙ not-false (y .before .before .before .before .before .stands .result)
+    (y .before .before .before .before .if1 .left)) first (a .count) (a .room .now)
     (m .result) (m .last .1 .1 .1 .1 .0) (n .result) (n .last .1 .1 .1 .1 .0) (v .result) (w .result) (v .ensures) (w .ensures) (m .ensures .0) (n .ensures .0) x
 
 pub free-client-spec : {M : Type 1} → statement M

@@ -2,11 +2,11 @@ use mathlib.Core.Path.{sym, _∙_}
 use Prim.Native.Nat.{_+_}
 use native.Mathlib.Omega.{arith}
 use lib.ListN.{getD}
+use Rattle.coding.proofs.Cases.{chosen-yes, chosen-no}
 use Rattle.protocol.specs.Nodes.{stands}
 use Rattle.protocol.specs.Pointer.{nonePointer}
 use Rattle.client.specs.Found.{retainedIn}
 use Rattle.client.proofs.ClientFormLaws.{sizes}
-use Rattle.client.proofs.FreeListLaws.{now-new, now-old}
 use borrow.Author.Needs.{needs}
 use Rattle.client.proofs.free.frozen_now.Statement.{statement}
 use Rattle.client.proofs.free.frozen_now.Tie as tie
@@ -20,7 +20,7 @@ stands-requires c κs = (omega arith, omega (arith, sizes (c .before .args .s) (
 returns : tie.Need-returns
 returns c =
     let a = c .before .before .before .args in
-    now-new (stands (a .map) (a .q + 1)) (a .new) (getD (retainedIn (a .s) (a .area .now) .frozen) (a .q) nonePointer .version) (sym (c .before .stands .ensures) ∙ c .if1 .taken)
+    chosen-yes (stands (a .map) (a .q + 1)) (a .new) (getD (retainedIn (a .s) (a .area .now) .frozen) (a .q) nonePointer .version) (sym (c .before .stands .ensures) ∙ c .if1 .taken)
 
 frozen-version-requires : tie.Need-frozen-version-requires
 frozen-version-requires c κs = search needs
@@ -28,8 +28,8 @@ frozen-version-requires c κs = search needs
 returns-2 : tie.Need-returns-2
 returns-2 c =
     let a = c .before .before .before .before .args in
-    now-old (stands (a .map) (a .q + 1)) (a .new) (getD (retainedIn (a .s) (a .area .now) .frozen) (a .q) nonePointer .version) (c .frozen-version .result)
-    (sym (c .before .before .stands .ensures) ∙ c .before .if1 .left) (c .frozen-version .ensures)
+    c .frozen-version .ensures ∙ chosen-no (stands (a .map) (a .q + 1)) (a .new) (getD (retainedIn (a .s) (a .area .now) .frozen) (a .q) nonePointer .version)
+    (sym (c .before .before .stands .ensures) ∙ c .before .if1 .left)
 
 pub frozen-now-spec : {M : Type 1} → statement M
 frozen-now-spec =

@@ -28,7 +28,8 @@ returns : tie.Need-returns
 returns c =
     let a = c .before .before .before .args in
     let p = c .before .before .before .pre in
-    c .version-at .ensures ∙ frozen-there (a .s) (a .area .now) (λ i. c .before .before .shared-slice-known .given i .fits) (p .0) (a .q) (p .1) _ (ap (λ (x : ℕ). (a .q + 1) * x) (c .before .pointer-size .ensures)) .1
+    c .version-at .ensures ∙ frozen-there (a .s) (a .area .now) (λ i. c .before .before .shared-slice-known .given i .fits) (p .0) (a .q) (p .1) _
+    (ap (λ (x : ℕ). (a .q + 1) * x) (c .before .pointer-size .ensures)) .1
 
 pub frozen-version-spec : {M : Type 1} → statement M
 frozen-version-spec =

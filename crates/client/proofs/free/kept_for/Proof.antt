@@ -2,7 +2,7 @@ use mathlib.Core.Path.{sym, _∙_}
 use mathlib.Core.List.{[], _∷_}
 use Rattle.protocol.specs.Node.{listed}
 use Rattle.client.specs.Found.{retainedIn}
-use Rattle.client.specs.FreeList.{frozenNow, reservedNow}
+use Rattle.client.specs.Freeze.{frozenNow, reservedNow}
 use Rattle.client.proofs.FreeListLaws.{kept-first, kept-second}
 use borrow.Author.Needs.{needs}
 use Rattle.client.proofs.free.kept_for.Statement.{statement}
@@ -11,21 +11,21 @@ use Rattle.client.proofs.free.kept_for.Tie as tie
 frozen-now-requires : tie.Need-frozen-now-requires
 frozen-now-requires c κs = search needs
 
-same-requires : tie.Need-same-requires
-same-requires c κs = search needs
+same-version-requires : tie.Need-same-version-requires
+same-version-requires c κs = search needs
 
 returns : tie.Need-returns
 returns c =
     let a = c .before .before .before .before .args in
     let x = retainedIn (a .s) (a .area .now) in
-    kept-first (a .v) (c .before .before .frozen-now .result) (frozenNow (a .map) x (a .new) (a .q)) (c .before .before .frozen-now .ensures) (sym (c .before .same .ensures) ∙ c .if1 .taken)
+    kept-first (a .v) (c .before .before .frozen-now .result) (frozenNow (a .map) x (a .new) (a .q)) (c .before .before .frozen-now .ensures) (sym (c .before .same-version .ensures) ∙ c .if1 .taken)
     (listed (a .v) (reservedNow (a .map) x (a .q) ∷ []))
 
 reserved-now-requires : tie.Need-reserved-now-requires
 reserved-now-requires c κs = search needs
 
-same-requires-2 : tie.Need-same-requires-2
-same-requires-2 c κs = search needs
+same-version-requires-2 : tie.Need-same-version-requires-2
+same-version-requires-2 c κs = search needs
 
 returns-2 : tie.Need-returns-2
 returns-2 c =
@@ -33,17 +33,17 @@ returns-2 c =
     let x = retainedIn (a .s) (a .area .now) in
     let f = c .before .before .before .before .frozen-now in
     let g = c .before .reserved-now in
-    c .same2 .ensures
+    c .same-version2 .ensures
     ∙ kept-second (a .v) (f .result) (frozenNow (a .map) x (a .new) (a .q)) (g .result) (reservedNow (a .map) x (a .q)) (f .ensures)
-    (sym (c .before .before .before .same .ensures) ∙ c .before .before .if1 .left) (g .ensures)
+    (sym (c .before .before .before .same-version .ensures) ∙ c .before .before .if1 .left) (g .ensures)
 
 pub kept-for-spec : {M : Type 1} → statement M
 kept-for-spec =
     tie.close
     (tie.spec
     frozen-now-requires
-    same-requires
+    same-version-requires
     returns
     reserved-now-requires
-    same-requires-2
+    same-version-requires-2
     returns-2)

@@ -27,18 +27,30 @@ loop-holds c = (omega arith, refl, λ first x. x)
 
 free-client-requires : tie.Need-free-client-requires Inv-loop μ-loop
 free-client-requires c κs =
-    let a = c .before .before .before .before .before .before .before .before .before .args in
-    let p = c .before .before .before .before .before .before .before .before .before .pre in
+    let y = c .before .before .before .before .before .before in
+    let a = y .before .before .before .args in
+    let p = y .before .before .before .pre in
     let l = c .before .before .loop in
     let f = c .before .before .before .before .before .start-list in
     let x = l .inv .2 (a .room .now) (f .ensures) in (
       (p .0, p .1, p .2),
       c .before .loop-test .taken,
-      omega (arith, listing-few (a .s) (a .map) (retainedIn (a .s) (a .area .now)) (a .v) (l .q) (a .room .now) (l .count) (l .room) x, room-enough (a .s), p .3, l .inv .1, f .kept .1 .1 .1 .1 .0, c .before .loop-test .taken),
+      omega (
+        arith,
+        listing-few (a .s) (a .map) (retainedIn (a .s) (a .area .now)) (a .v) (l .q) (a .room .now) (l .count) (l .room) x,
+        room-enough
+            (a .s),
+        p .3,
+        l .inv .1,
+        f .kept .1 .1 .1 .1 .0,
+        c .before .loop-test .taken,
+      ),
     )
 
 add-q : tie.Need-add-q Inv-loop μ-loop
-add-q c = omega (arith, c .before .before .before .before .loop-test .taken, sizes (c .before .before .before .before .before .before .before .before .before .before .before .before .args .s) (c .before .before .before .before .before .before .before .before .before .before .before .before .pre .0) .clients)
+add-q c =
+    let y = c .before .before .before .before .before .before .before .before .before .before .before .before in
+    omega (arith, c .before .before .before .before .loop-test .taken, sizes (y .args .s) (y .pre .0) .clients)
 
 loop-less : tie.Need-loop-less Inv-loop μ-loop
 loop-less c = omega (arith, c .before .before .before .before .loop-test .taken)

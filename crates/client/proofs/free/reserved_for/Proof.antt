@@ -34,13 +34,15 @@ version-at-requires : tie.Need-version-at-requires
 version-at-requires c κs =
     let a = c .before .before .before .args in
     let p = c .before .before .before .pre in
-    reserved-there (a .s) (a .area .now) (λ i. c .before .before .shared-slice-known .given i .fits) (p .0) (a .q) (p .1) _ (ap (λ (x : ℕ). (a .s .m + 1) * x + 5 * a .q) (c .before .pointer-size .ensures)) .0
+    reserved-there (a .s) (a .area .now) (λ i. c .before .before .shared-slice-known .given i .fits) (p .0) (a .q) (p .1) _
+    (ap (λ (x : ℕ). (a .s .m + 1) * x + 5 * a .q) (c .before .pointer-size .ensures)) .0
 
 returns : tie.Need-returns
 returns c =
     let a = c .before .before .before .before .args in
     let p = c .before .before .before .before .pre in
-    c .version-at .ensures ∙ reserved-there (a .s) (a .area .now) (λ i. c .before .before .before .shared-slice-known .given i .fits) (p .0) (a .q) (p .1) _ (ap (λ (x : ℕ). (a .s .m + 1) * x + 5 * a .q) (c .before .before .pointer-size .ensures)) .1
+    c .version-at .ensures ∙ reserved-there (a .s) (a .area .now) (λ i. c .before .before .before .shared-slice-known .given i .fits) (p .0) (a .q) (p .1) _
+    (ap (λ (x : ℕ). (a .s .m + 1) * x + 5 * a .q) (c .before .before .pointer-size .ensures)) .1
 
 pub reserved-for-spec : {M : Type 1} → statement M
 reserved-for-spec =

@@ -2,11 +2,11 @@ use mathlib.Core.Path.{sym, _∙_}
 use Prim.Native.Nat.{_+_}
 use native.Mathlib.Omega.{arith}
 use lib.ListN.{getD}
+use Rattle.coding.proofs.Cases.{chosen-yes, chosen-no}
 use Rattle.protocol.specs.Nodes.{stands}
 use Rattle.protocol.specs.Version.{none}
 use Rattle.client.specs.Found.{retainedIn}
 use Rattle.client.proofs.ClientFormLaws.{sizes}
-use Rattle.client.proofs.FreeListLaws.{now-new, now-old}
 use borrow.Author.Needs.{needs}
 use Rattle.client.proofs.free.reserved_now.Statement.{statement}
 use Rattle.client.proofs.free.reserved_now.Tie as tie
@@ -24,7 +24,7 @@ returns : tie.Need-returns
 returns c =
     let a = c .before .before .before .before .args in
     let x = retainedIn (a .s) (a .area .now) in
-    c .written-version .ensures ∙ now-new (stands (a .map) (a .q + 1)) (x .written .version) (getD (x .reserved) (a .q) none) (sym (c .before .before .stands .ensures) ∙ c .before .if1 .taken)
+    c .written-version .ensures ∙ chosen-yes (stands (a .map) (a .q + 1)) (x .written .version) (getD (x .reserved) (a .q) none) (sym (c .before .before .stands .ensures) ∙ c .before .if1 .taken)
 
 reserved-for-requires : tie.Need-reserved-for-requires
 reserved-for-requires c κs = search needs
@@ -33,8 +33,8 @@ returns-2 : tie.Need-returns-2
 returns-2 c =
     let a = c .before .before .before .before .args in
     let x = retainedIn (a .s) (a .area .now) in
-    now-old (stands (a .map) (a .q + 1)) (x .written .version) (getD (x .reserved) (a .q) none) (c .reserved-for .result)
-    (sym (c .before .before .stands .ensures) ∙ c .before .if1 .left) (c .reserved-for .ensures)
+    c .reserved-for .ensures ∙ chosen-no (stands (a .map) (a .q + 1)) (x .written .version) (getD (x .reserved) (a .q) none)
+    (sym (c .before .before .stands .ensures) ∙ c .before .if1 .left)
 
 pub reserved-now-spec : {M : Type 1} → statement M
 reserved-now-spec =

@@ -19,11 +19,13 @@ same-length c = c .before .before .free-version .kept .1 .1 .1 .1 .0 ∙ length-
 
 returns : tie.Need-returns
 returns c =
-    let a = c .before .before .before .before .before .before .before .args in
-    let p = c .before .before .before .before .before .before .before .pre in
+    let x = c .before .before .before .before .before .before in
+    let a = x .before .args in
+    let p = x .before .pre in
     let w = c .before .before .before .before .written-version in
     let f = c .before .before .free-version in
-    started (a .s) (a .area .now) (λ i. c .before .before .before .before .before .before .shared-slice-known .given i .fits) (p .0) (a .map) (a .new) (a .room .now) (p .1) (f .result) (f .last .1 .1 .1 .1 .0) (w .result) (w .ensures) (f .ensures .0)
+    started (a .s) (a .area .now) (λ i. x .shared-slice-known .given i .fits) (p .0) (a .map) (a .new) (a .room .now) (p .1) (f .result) (f .last .1 .1 .1 .1 .0) (w .result) (w .ensures)
+    (f .ensures .0)
 
 pub start-list-spec : {M : Type 1} → statement M
 start-list-spec =

@@ -86,11 +86,13 @@ same-length c = search needs
 
 returns : tie.Need-returns
 returns c =
-    let a = c .before .before .before .before .before .before .before .before .before .before .before .before .before .before .before .args in
-    let p = c .before .before .before .before .before .before .before .before .before .before .before .before .before .before .before .pre in
+    let x = c .before .before .before .before .before .before in
+    let y = x .before .before .before .before .before .before in
+    let a = y .before .before .before .args in
+    let p = y .before .before .before .pre in
     let z = fits (a .s) (p .0) (a .size) (a .q) (p .1) (p .3) in
     noticed-put (a .s) (a .q) (a .i) (a .size) (a .at) (p .1) (p .2) (omega (arith, z .within, z .same, p .2)) (a .area .now) _ _ _
-    (c .before .before .before .before .before .before .before .before .before .before .move-down .ensures) (c .before .before .before .before .before .before .move-up .ensures) (c .before .before .put-u32 .ensures)
+    (x .before .before .before .before .move-down .ensures) (x .move-up .ensures) (c .before .before .put-u32 .ensures)
 
 pub put-noticed-spec : {M : Type 1} → statement M
 put-noticed-spec =

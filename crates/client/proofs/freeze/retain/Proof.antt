@@ -32,10 +32,23 @@ loop-holds c =
 
 retain-one-requires : tie.Need-retain-one-requires Inv-loop μ-loop
 retain-one-requires c κs =
-    let a = c .before .before .before .before .before .before .before .before .args in
-    let p = c .before .before .before .before .before .before .before .before .pre in
-    let l = c .before .before .loop in
-    (p .0, c .before .before .before .before .before .pointer-size .ensures, c .before .before .before .before .work-at .ensures, c .before .loop-test .taken, omega (arith, p .1, retaining-length (a .s) (a .map) (rowsOf (readDirectory (a .s) (a .rows .now))) (a .area .now) (λ i. c .before .before .before .before .before .before .slice-known .given i .fits) (p .1) (p .2) (p .3) (l .area) (l .q) (l .inv .1)), p .4, p .5)
+    let x = c .before .before .before .before .before .before in
+    let a = x .before .before .args in
+    let p = x .before .before .pre in
+    let l = c .before .before .loop in (
+      p .0,
+      c .before .before .before .before .before .pointer-size .ensures,
+      c .before .before .before .before .work-at .ensures,
+      c .before .loop-test .taken,
+      omega (
+        arith,
+        p .1,
+        retaining-length (a .s) (a .map) (rowsOf (readDirectory (a .s) (a .rows .now))) (a .area .now) (λ i. x .slice-known .given i .fits) (p .1) (p .2) (p .3) (l .area) (l .q)
+            (l .inv .1),
+      ),
+      p .4,
+      p .5,
+    )
 
 add-q : tie.Need-add-q Inv-loop μ-loop
 add-q c =
@@ -48,11 +61,15 @@ loop-less c = omega (arith, c .before .before .before .before .loop-test .taken)
 
 loop-again : tie.Need-loop-again Inv-loop μ-loop
 loop-again c =
-    let a = c .before .before .before .before .before .before .before .before .before .before .before .args in
-    let p = c .before .before .before .before .before .before .before .before .before .before .before .pre in
+    let x = c .before .before .before .before .before .before in
+    let a = x .before .before .before .before .before .args in
+    let p = x .before .before .before .before .before .pre in
     let l = c .before .before .before .before .before .loop in
-    let t = c .before .before .before .before .loop-test .taken in
-    (omega (arith, t), retaining-more (a .s) (a .map) (rowsOf (readDirectory (a .s) (a .rows .now))) (a .area .now) (λ i. c .before .before .before .before .before .before .before .before .before .slice-known .given i .fits) (p .1) (p .2) (p .3) (l .area) (l .q) (l .inv .1) t _ (c .before .before .retain-one .ensures))
+    let t = c .before .before .before .before .loop-test .taken in (
+      omega (arith, t),
+      retaining-more (a .s) (a .map) (rowsOf (readDirectory (a .s) (a .rows .now))) (a .area .now) (λ i. x .before .before .before .slice-known .given i .fits) (p .1) (p .2)
+          (p .3) (l .area) (l .q) (l .inv .1) t _ (c .before .before .retain-one .ensures),
+    )
 
 add-move-down : tie.Need-add-move-down Inv-loop μ-loop
 add-move-down c =
@@ -63,40 +80,73 @@ add-move-down c =
 
 move-down-requires : tie.Need-move-down-requires Inv-loop μ-loop
 move-down-requires c κs =
-    let a = c .before .before .before .before .before .before .before .before .args in
-    let p = c .before .before .before .before .before .before .before .before .pre in
-    let l = c .before .before .loop in
-    (omega arith, omega arith, omega (arith, p .1, retaining-length (a .s) (a .map) (rowsOf (readDirectory (a .s) (a .rows .now))) (a .area .now) (λ i. c .before .before .before .before .before .before .slice-known .given i .fits) (p .1) (p .2) (p .3) (l .area) (l .q) (l .inv .1), c .before .before .before .before .work-at .ensures, c .before .before .before .before .before .pointer-size .ensures))
+    let x = c .before .before .before .before .before .before in
+    let a = x .before .before .args in
+    let p = x .before .before .pre in
+    let l = c .before .before .loop in (
+      omega arith,
+      omega arith,
+      omega (
+        arith,
+        p .1,
+        retaining-length (a .s) (a .map) (rowsOf (readDirectory (a .s) (a .rows .now))) (a .area .now) (λ i. x .slice-known .given i .fits) (p .1)
+            (p .2) (p .3) (l .area) (l .q) (l .inv .1),
+        c .before .before .before .before .work-at .ensures,
+        c .before .before .before .before .before .pointer-size .ensures,
+      ),
+    )
 
 add-clear : tie.Need-add-clear Inv-loop μ-loop
 add-clear c =
-    let a = c .before .before .before .before .before .before .before .before .before .before .before .before .args in
-    let p = c .before .before .before .before .before .before .before .before .before .before .before .before .pre in
+    let x = c .before .before .before .before .before .before in
+    let y = x .before .before .before .before .before .before in
+    let a = y .args in
+    let p = y .pre in
     let z = sizes (a .s) (p .0) in
-    omega (arith, z .pointers, z .pointer, z .clients, z .nodes, z .pieces, c .before .before .before .before .before .before .before .before .work-at .ensures, c .before .before .before .before .before .before .before .work-size .ensures)
+    omega (arith, z .pointers, z .pointer, z .clients, z .nodes, z .pieces, x .before .before .work-at .ensures, x .before .work-size .ensures)
 
 clear-requires : tie.Need-clear-requires Inv-loop μ-loop
 clear-requires c κs =
-    let a = c .before .before .before .before .before .before .before .before .before .before .before .before .args in
-    let p = c .before .before .before .before .before .before .before .before .before .before .before .before .pre in
-    let l = c .before .before .before .before .before .before .loop in
-    (omega arith, omega (arith, p .1, retaining-length (a .s) (a .map) (rowsOf (readDirectory (a .s) (a .rows .now))) (a .area .now) (λ i. c .before .before .before .before .before .before .before .before .before .before .slice-known .given i .fits) (p .1) (p .2) (p .3) (l .area) (l .q) (l .inv .1), c .before .before .before .move-down .kept .0, c .before .before .before .before .before .before .before .before .work-at .ensures, c .before .before .before .before .before .before .before .work-size .ensures))
+    let x = c .before .before .before .before .before .before in
+    let y = x .before .before .before .before .before .before in
+    let a = y .args in
+    let p = y .pre in
+    let l = x .loop in (
+      omega arith,
+      omega (
+        arith,
+        p .1,
+        retaining-length (a .s) (a .map) (rowsOf (readDirectory (a .s) (a .rows .now))) (a .area .now)
+            (λ i. x .before .before .before .before .slice-known .given i .fits) (p .1) (p .2) (p .3) (l .area) (l .q)
+            (l .inv .1),
+        c .before .before .before .move-down .kept .0,
+        x .before .before .work-at .ensures,
+        x .before .work-size .ensures,
+      ),
+    )
 
 same-length : tie.Need-same-length Inv-loop μ-loop
 same-length c =
-    let a = c .before .before .before .before .before .before .before .before .before .before .before .before .before .before .before .args in
-    let p = c .before .before .before .before .before .before .before .before .before .before .before .before .before .before .before .pre in
-    let l = c .before .before .before .before .before .before .before .before .before .loop in
-    c .before .before .clear .kept .0 ∙ c .before .before .before .before .before .before .move-down .kept .0 ∙ retaining-length (a .s) (a .map) (rowsOf (readDirectory (a .s) (a .rows .now))) (a .area .now) (λ i. c .before .before .before .before .before .before .before .before .before .before .before .before .before .slice-known .given i .fits) (p .1) (p .2) (p .3) (l .area) (l .q) (l .inv .1)
+    let x = c .before .before .before .before .before .before in
+    let y = x .before .before .before .before .before .before in
+    let a = y .before .before .before .args in
+    let p = y .before .before .before .pre in
+    let l = x .before .before .before .loop in
+    c .before .before .clear .kept .0 ∙ x .move-down .kept .0 ∙ retaining-length (a .s) (a .map) (rowsOf (readDirectory (a .s) (a .rows .now))) (a .area .now)
+    (λ i. y .before .slice-known .given i .fits) (p .1) (p .2) (p .3) (l .area) (l .q) (l .inv .1)
 
 returns : tie.Need-returns Inv-loop μ-loop
 returns c =
-    let a = c .before .before .before .before .before .before .before .before .before .before .before .before .before .before .before .args in
-    let p = c .before .before .before .before .before .before .before .before .before .before .before .before .before .before .before .pre in
-    let l = c .before .before .before .before .before .before .before .before .before .loop in
-    let e : l .q ≡ a .s .m = omega (arith, l .inv .0, c .before .before .before .before .before .before .before .before .loop-test .left) in
-    retaining-ends (a .s) (a .map) (rowsOf (readDirectory (a .s) (a .rows .now))) (a .area .now) (λ i. c .before .before .before .before .before .before .before .before .before .before .before .before .before .slice-known .given i .fits) (p .1) (p .2) (p .3) (l .area) (l .q) (l .inv .1) e (c .before .before .before .before .before .before .before .before .before .before .before .work-at .result) (c .before .before .before .before .before .before .before .before .before .before .before .before .pointer-size .result) (c .before .before .before .before .before .before .before .before .before .before .work-size .result)
-    (c .before .before .before .before .before .before .before .before .before .before .before .work-at .ensures) (c .before .before .before .before .before .before .before .before .before .before .before .before .pointer-size .ensures) (c .before .before .before .before .before .before .before .before .before .before .work-size .ensures) _ _ (c .before .before .before .before .before .before .move-down .ensures) (c .before .before .clear .ensures)
+    let x = c .before .before .before .before .before .before in
+    let y = x .before .before .before .before .before .before in
+    let a = y .before .before .before .args in
+    let p = y .before .before .before .pre in
+    let l = x .before .before .before .loop in
+    let e : l .q ≡ a .s .m = omega (arith, l .inv .0, x .before .before .loop-test .left) in
+    retaining-ends (a .s) (a .map) (rowsOf (readDirectory (a .s) (a .rows .now))) (a .area .now) (λ i. y .before .slice-known .given i .fits) (p .1) (p .2) (p .3) (l .area) (l .q)
+    (l .inv .1) e (x .before .before .before .before .before .work-at .result) (y .pointer-size .result) (x .before .before .before .before .work-size .result)
+    (x .before .before .before .before .before .work-at .ensures) (y .pointer-size .ensures) (x .before .before .before .before .work-size .ensures) _ _ (x .move-down .ensures)
+    (c .before .before .clear .ensures)
 
 pub retain-spec : {M : Type 1} → statement M
 retain-spec =

@@ -1,10 +1,10 @@
 use mathlib.Core.Path.{sym, ap, _∙_}
 use native.Mathlib.Omega.{arith}
 use borrow.Author.Tests.{not-true, not-false}
+use Rattle.coding.proofs.Cases.{chosen-yes, chosen-no}
 use Rattle.protocol.specs.declared.version.ReadingIndex.{ReadingIndex}
 use Rattle.client.specs.Retain.{notice}
 use Rattle.client.proofs.ClientFormLaws.{sizes}
-use Rattle.client.proofs.RetainLaws.{chosen-yes, chosen-no}
 use borrow.Author.Needs.{needs}
 use Rattle.client.proofs.freeze.retain_one.Statement.{statement}
 use Rattle.client.proofs.freeze.retain_one.Tie as tie

@@ -37,8 +37,12 @@ returns-3 c =
 
 returns-4 : tie.Need-returns-4
 returns-4 c =
-    let a = c .before .before .before .before .before .args in
-    (not-false (a .enough) (c .before .before .before .if1 .left), not-false (a .within) (c .before .before .if2 .left), sym (c .before .sound .ensures) ∙ not-false (c .before .sound .result) (c .if3 .left))
+    let a = c .before .before .before .before .before .args in (
+      not-false (a .enough) (c .before .before .before .if1 .left),
+      not-false (a .within) (c .before .before .if2 .left),
+      sym (c .before .sound .ensures)
+          ∙ not-false (c .before .sound .result) (c .if3 .left),
+    )
 
 pub admit-spec : {M : Type 1} → statement M
 admit-spec = tie.close (tie.spec returns returns-2 sound-requires returns-3 returns-4)

@@ -47,7 +47,9 @@ returns : tie.Need-returns
 returns c =
     let a = c .before .before .before .before .before .args in
     let p = c .before .before .before .before .before .pre in
-    let e = kept-told (a .s) (a .area .now) (λ i. c .before .before .before .before .shared-slice-known .given i .fits) (p .1) (a .q) (p .3) _ (ap (λ (x : ℕ). (a .s .m + 1) * x + 5 * a .s .m + 4 * a .q) (c .before .before .before .pointer-size .ensures)) (c .u32-at .result) _ (c .u32-at .ensures) in
+    let e = kept-told (a .s) (a .area .now) (λ i. c .before .before .before .before .shared-slice-known .given i .fits) (p .1) (a .q) (p .3) _
+    (ap (λ (x : ℕ). (a .s .m + 1) * x + 5 * a .s .m + 4 * a .q) (c .before .before .before .pointer-size .ensures)) (c .u32-at .result) _ (c .u32-at .ensures)
+    in
     λ i. record { 0 = e i }
 
 pub kept-index-spec : {M : Type 1} → statement M

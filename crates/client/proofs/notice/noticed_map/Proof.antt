@@ -35,10 +35,14 @@ add-marked : tie.Need-add-marked Inv-loop μ-loop
 add-marked c = omega (arith, c .before .loop-test .taken, sizes (c .before .before .before .before .before .before .args .s) (c .before .before .before .before .before .before .pre .0) .clients)
 
 marked-requires : tie.Need-marked-requires Inv-loop μ-loop
-marked-requires c κs = (omega arith, omega (arith, c .before .loop-test .taken, sizes (c .before .before .before .before .before .before .args .s) (c .before .before .before .before .before .before .pre .0) .clients))
+marked-requires c κs =
+    let x = c .before .before .before .before .before .before in
+    (omega arith, omega (arith, c .before .loop-test .taken, sizes (x .args .s) (x .pre .0) .clients))
 
 add-q : tie.Need-add-q Inv-loop μ-loop
-add-q c = omega (arith, c .before .before .loop-test .taken, sizes (c .before .before .before .before .before .before .before .args .s) (c .before .before .before .before .before .before .before .pre .0) .clients)
+add-q c =
+    let x = c .before .before .before .before .before .before in
+    omega (arith, c .before .before .loop-test .taken, sizes (x .before .args .s) (x .before .pre .0) .clients)
 
 loop-less : tie.Need-loop-less Inv-loop μ-loop
 loop-less c = omega (arith, c .before .before .loop-test .taken)

@@ -49,7 +49,9 @@ returns c =
     let a = c .before .before .before .before .before .args in
     let p = c .before .before .before .before .before .pre in
     let f = c .before .before .past in
-    let e = shown-told (a .s) (a .size) (p .1) (a .rows .now) (λ i. c .before .before .before .before .shared-slice-known .given i .fits) (p .3) (a .q) (p .4) (f .result) (f .ensures .0) (c .u32-at .result) _ (c .u32-at .ensures) in
+    let e = shown-told (a .s) (a .size) (p .1) (a .rows .now) (λ i. c .before .before .before .before .shared-slice-known .given i .fits) (p .3) (a .q) (p .4) (f .result) (f .ensures .0)
+    (c .u32-at .result) _ (c .u32-at .ensures)
+    in
     λ i. record { 0 = e i }
 
 pub shown-index-spec : {M : Type 1} → statement M

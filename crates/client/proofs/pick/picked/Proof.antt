@@ -14,10 +14,14 @@ pointer-part-requires-2 : tie.Need-pointer-part-requires-2
 pointer-part-requires-2 c κs = search needs
 
 returns : tie.Need-returns
-returns c = c .pointer-part .ensures ∙ sym (picked-written (c .before .before .before .before .before .args .written .now) (c .before .before .before .before .before .args .frozen .now) (c .before .before .before .before .before .args .index) (c .before .before .before .before .before .args .frozen-index) (sym (c .before .before .below .ensures) ∙ c .before .if1 .taken))
+returns c =
+    c .pointer-part .ensures ∙ sym (picked-written (c .before .before .before .before .before .args .written .now) (c .before .before .before .before .before .args .frozen .now)
+    (c .before .before .before .before .before .args .index) (c .before .before .before .before .before .args .frozen-index) (sym (c .before .before .below .ensures) ∙ c .before .if1 .taken))
 
 returns-2 : tie.Need-returns-2
-returns-2 c = c .pointer-part2 .ensures ∙ sym (picked-frozen (c .before .before .before .before .before .args .written .now) (c .before .before .before .before .before .args .frozen .now) (c .before .before .before .before .before .args .index) (c .before .before .before .before .before .args .frozen-index) (sym (c .before .before .below .ensures) ∙ c .before .if1 .left))
+returns-2 c =
+    c .pointer-part2 .ensures ∙ sym (picked-frozen (c .before .before .before .before .before .args .written .now) (c .before .before .before .before .before .args .frozen .now)
+    (c .before .before .before .before .before .args .index) (c .before .before .before .before .before .args .frozen-index) (sym (c .before .before .below .ensures) ∙ c .before .if1 .left))
 
 pub picked-spec : {M : Type 1} → statement M
 picked-spec =

@@ -1,8 +1,10 @@
 use mathlib.Core.Path.{sym, ap, _∙_}
 use native.Mathlib.Omega.{arith}
 use lib.Seq.{length-take-le}
+use Rattle.coding.proofs.NodesLaws.{nodes-few}
 use Rattle.protocol.specs.Nodes.{count as countOf}
-use Rattle.client.proofs.PickLaws.{map-read, part-few, part-all, part-cut}
+use Rattle.records.proofs.BytesLaws.{two-read}
+use Rattle.client.proofs.PickLaws.{part-all, part-cut}
 use borrow.Author.Needs.{needs}
 use Rattle.client.proofs.pick.pointer_part.Statement.{statement}
 use Rattle.client.proofs.pick.pointer_part.Tie as tie
@@ -17,21 +19,23 @@ count-requires : tie.Need-count-requires
 count-requires c κs = search needs
 
 mul-n : tie.Need-mul-n
-mul-n c = omega (arith, c .count .ensures, part-few (c .before .u16-at .result))
+mul-n c = omega (arith, c .count .ensures, nodes-few (c .before .u16-at .result) 16)
 
 add-n : tie.Need-add-n
-add-n c = omega (arith, c .count .ensures, part-few (c .before .u16-at .result))
+add-n c = omega (arith, c .count .ensures, nodes-few (c .before .u16-at .result) 16)
 
 returns-2 : tie.Need-returns-2
 returns-2 c =
-    let e = (c .before .count .ensures ∙ ap countOf (map-read (c .before .before .before .before .before .args .s .now) _ _ (omega arith) (c .before .before .u16-at .ensures))) in
+    let e = (c .before .count .ensures ∙ ap countOf (two-read (c .before .before .before .before .before .args .s .now) 5 _ _ (omega arith) (c .before .before .u16-at .ensures))) in
     part-all (c .before .before .before .before .before .args .s .now) (omega arith)
 
 slice-aggregate-result : tie.Need-slice-aggregate-result
 slice-aggregate-result c = sym (length-take-le _ (c .before .before .before .before .before .before .args .s .now) (omega arith))
 
 returns-3 : tie.Need-returns-3
-returns-3 c = part-cut (c .before .before .before .before .before .before .args .s .now) _ (c .before .before .count .ensures ∙ ap countOf (map-read (c .before .before .before .before .before .before .args .s .now) _ _ (omega arith) (c .before .before .before .u16-at .ensures)))
+returns-3 c =
+    let x = c .before .before .before .before .before .before in
+    part-cut (x .args .s .now) _ (c .before .before .count .ensures ∙ ap countOf (two-read (x .args .s .now) 5 _ _ (omega arith) (c .before .before .before .u16-at .ensures)))
 
 pub pointer-part-spec : {M : Type 1} → statement M
 pointer-part-spec =

@@ -38,8 +38,9 @@ loop-less c = omega arith
 
 loop-again : tie.Need-loop-again Inv-loop μ-loop
 loop-again c =
+    let x = c .before .before .before .before .before .before in
     let k = c .before .before .keep-digest in
-    walk-more _ _ _ _ (c .before .before .before .before .before .before .before .pre .2) _ _ _ _ (c .before .before .before .before .before .loop .inv) (c .before .before .before .before .loop-test .taken) _ _ (k .ensures .0) (k .ensures .1)
+    walk-more _ _ _ _ (x .before .pre .2) _ _ _ _ (c .before .before .before .before .before .loop .inv) (c .before .before .before .before .loop-test .taken) _ _ (k .ensures .0) (k .ensures .1)
 
 same-length : tie.Need-same-length Inv-loop μ-loop
 same-length c = walk-length _ _ _ _ (c .before .before .before .pre .2) _ _ _ _ (c .before .loop .inv)

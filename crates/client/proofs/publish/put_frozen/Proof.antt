@@ -27,7 +27,8 @@ put-pointer-requires c κs =
     let l = w .loop in
     let a = w .before .before .before .args in
     let p = w .before .before .before .pre in (
-      laid-from (a .s) (a .area .now) (λ i. w .before .before .shared-slice-known .given i .fits) (p .2) (a .room .now) (a .at) (p .4) (l .room) (l .end) (l .from) (l .q) (l .inv) (omega arith) (p .3),
+      laid-from (a .s) (a .area .now) (λ i. w .before .before .shared-slice-known .given i .fits) (p .2) (a .room .now) (a .at) (p .4) (l .room) (l .end) (l .from) (l .q) (l .inv)
+          (omega arith) (p .3),
       laid-fits (a .s) (a .area .now) (λ i. w .before .before .shared-slice-known .given i .fits) (p .2) (a .room .now) (a .at) (p .4) (l .room) (l .end) (l .from) (l .q) (l .inv) (omega arith),
     )
 
@@ -42,7 +43,9 @@ add-from c =
     omega (arith, l .inv .source, p .1, z .pointers, z .pointer, stride (l .q) k, below-rows (l .q) (a .s .m) k (omega arith), stride (a .s .m) k)
 
 add-q : tie.Need-add-q Inv-loop μ-loop
-add-q c = omega (arith, sizes (c .before .before .before .before .before .before .before .before .before .args .s) (c .before .before .before .before .before .before .before .before .before .pre .0) .clients)
+add-q c =
+    let x = c .before .before .before .before .before .before in
+    omega (arith, sizes (x .before .before .before .args .s) (x .before .before .before .pre .0) .clients)
 
 loop-less : tie.Need-loop-less Inv-loop μ-loop
 loop-less c = omega arith

@@ -64,12 +64,14 @@ copy-requires-2 c κs =
 
 add-result : tie.Need-add-result
 add-result c =
-    let a = c .before .before .before .before .before .before .before .before .before .before .before .before .before .before .before .before .before .args in
-    let p = c .before .before .before .before .before .before .before .before .before .before .before .before .before .before .before .before .before .pre in
-    let f = c .before .before .before .before .before .before .put-frozen .ensures in
+    let x = c .before .before .before .before .before .before in
+    let y = x .before .before .before .before .before .before in
+    let a = y .before .before .before .before .before .args in
+    let p = y .before .before .before .before .before .pre in
+    let f = x .put-frozen .ensures in
     let e =
-    end-fits (a .s) (a .area .now) (λ i. c .before .before .before .before .before .before .before .before .before .before .before .before .before .before .before .before .shared-slice-known .given i .fits) (p .1) (p .2) (a .room .now) (p .3) (p .4) _ _
-    (c .before .before .before .before .before .before .before .before .before .before .before .before .before .before .pointer-size .ensures) (c .before .before .before .before .before .before .before .before .before .before .before .before .before .work-at .ensures) _ (c .before .before .before .before .before .before .before .before .before .before .copy .ensures) _ _ (f .0) (f .1)
+    end-fits (a .s) (a .area .now) (λ i. y .before .before .before .before .shared-slice-known .given i .fits) (p .1) (p .2) (a .room .now) (p .3) (p .4) _ _
+    (y .before .before .pointer-size .ensures) (y .before .work-at .ensures) _ (x .before .before .before .before .copy .ensures) _ _ (f .0) (f .1)
     in
     omega (arith, e)
 

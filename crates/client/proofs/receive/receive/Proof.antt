@@ -1,6 +1,6 @@
 use borrow.Author.Needs.{needs}
-use Rattle.client.proofs.AcknowledgeLaws.{ends-four}
-use Rattle.client.proofs.MessageLaws.{ends-as, told-stored, told-reply, told-missing, told-freed, told-broken, told-long}
+use Rattle.client.proofs.MessageLaws.{told-stored, told-reply, told-missing, told-freed, told-broken, told-long}
+use Rattle.client.proofs.StartLaws.{ends-four, ends-as}
 use Rattle.client.proofs.receive.receive.Statement.{statement}
 use Rattle.client.proofs.receive.receive.Tie as tie
 
@@ -54,16 +54,20 @@ same-length-2 c = search needs
 
 returns : tie.Need-returns
 returns c =
-    let a = c .before .before .before .before .before .before .before .before .before .before .before .before .before .before .before .args in
-    let tell = c .before .before .before .before .before .before .before .before .before .before .tell in
-    let told = c .before .before .before .before .before .before .before .before .told in
-    ends-as _ _ (told-stored (a .s) (a .i) _ (a .message .now) (a .room .now) (a .out .now) (tell .result) (tell .ensures) (told .given .0 .0) (told .given .1)) (c .before .before .before .before .acknowledge .ensures (a .out .now))
+    let x = c .before .before .before .before .before .before in
+    let y = x .before .before .before .before .before .before in
+    let a = y .before .before .before .args in
+    let tell = x .before .before .before .before .tell in
+    let told = x .before .before .told in
+    ends-as _ _ (told-stored (a .s) (a .i) _ (a .message .now) (a .room .now) (a .out .now) (tell .result) (tell .ensures) (told .given .0 .0) (told .given .1))
+    (c .before .before .before .before .acknowledge .ensures (a .out .now))
 
 returns-2 : tie.Need-returns-2
 returns-2 c =
-    let a = c .before .before .before .before .before .before .before .args in
+    let x = c .before .before .before .before .before .before in
+    let a = x .before .args in
     let tell = c .before .before .tell in
-    ends-four _ _ (told-freed (a .s) (a .i) _ (a .message .now) (a .room .now) (a .out .now) (tell .result) (tell .ensures) (c .enum-told .given .1) (c .before .before .before .before .before .before .before .pre .3))
+    ends-four _ _ (told-freed (a .s) (a .i) _ (a .message .now) (a .room .now) (a .out .now) (tell .result) (tell .ensures) (c .enum-told .given .1) (x .before .pre .3))
 
 same-length-3 : tie.Need-same-length-3
 same-length-3 c = search needs
@@ -73,26 +77,33 @@ same-length-4 c = search needs
 
 returns-3 : tie.Need-returns-3
 returns-3 c =
-    let a = c .before .before .before .before .before .before .before .before .before .before .before .before .before .before .before .before .args in
-    let tell = c .before .before .before .before .before .before .before .before .before .before .before .tell in
-    let told = c .before .before .before .before .before .before .before .before .before .told2 in
-    ends-as _ _ (told-reply (a .s) (a .i) _ (a .message .now) (a .room .now) (a .out .now) (tell .result) (tell .ensures) (told .given .0 .0) (told .given .1)) (c .before .before .before .before .reply .ensures (a .room .now))
+    let x = c .before .before .before .before .before .before in
+    let y = x .before .before .before .before .before .before in
+    let a = y .before .before .before .before .args in
+    let tell = x .before .before .before .before .before .tell in
+    let told = x .before .before .before .told2 in
+    ends-as _ _ (told-reply (a .s) (a .i) _ (a .message .now) (a .room .now) (a .out .now) (tell .result) (tell .ensures) (told .given .0 .0) (told .given .1))
+    (c .before .before .before .before .reply .ensures (a .room .now))
 
 same-length-5 : tie.Need-same-length-5
 same-length-5 c = search needs
 
 returns-4 : tie.Need-returns-4
 returns-4 c =
-    let a = c .before .before .before .before .before .before .before .before .before .before .before .before .args in
-    let tell = c .before .before .before .before .before .before .before .tell in
+    let x = c .before .before .before .before .before .before in
+    let y = x .before .before .before .before .before .before in
+    let a = y .args in
+    let tell = x .before .tell in
     let told = c .before .before .before .before .before .told3 in
-    ends-as _ _ (told-missing (a .s) (a .i) _ (a .message .now) (a .room .now) (a .out .now) (tell .result) (tell .ensures) (told .given .0 .0) (told .given .1)) (c .before .before .missing .ensures (a .room .now) (a .out .now))
+    ends-as _ _ (told-missing (a .s) (a .i) _ (a .message .now) (a .room .now) (a .out .now) (tell .result) (tell .ensures) (told .given .0 .0) (told .given .1))
+    (c .before .before .missing .ensures (a .room .now) (a .out .now))
 
 returns-5 : tie.Need-returns-5
 returns-5 c =
-    let a = c .before .before .before .before .before .before .before .args in
+    let x = c .before .before .before .before .before .before in
+    let a = x .before .args in
     let tell = c .before .before .tell in
-    ends-four _ _ (told-broken (a .s) (a .i) _ (a .message .now) (a .room .now) (a .out .now) (tell .result) (tell .ensures) (c .enum-told2 .given .1) (c .before .before .before .before .before .before .before .pre .3))
+    ends-four _ _ (told-broken (a .s) (a .i) _ (a .message .now) (a .room .now) (a .out .now) (tell .result) (tell .ensures) (c .enum-told2 .given .1) (x .before .pre .3))
 
 pub receive-spec : {M : Type 1} → statement M
 receive-spec =

@@ -18,10 +18,12 @@ use Rattle.client.proofs.record.fetches_form.Tie as tie
 read : (c : tie.After-known-told) → let a = c .before .before .before .before .before .args in Goes (a .t .now) (a .at) (c .before .p .given .0 .0) (rest (readSome (a .s) (drop (a .at) (a .t .now))))
 read c =
     let a = c .before .before .before .before .before .args in
-    formed-sound (a .t .now) (a .at) (c .before .p .given .0 .0) (rest (readSome (a .s) (drop (a .at) (a .t .now)))) (c .before .before .before .some-form .result) (c .before .before .before .some-form .ensures) (c .before .p .given .1)
+    formed-sound (a .t .now) (a .at) (c .before .p .given .0 .0) (rest (readSome (a .s) (drop (a .at) (a .t .now)))) (c .before .before .before .some-form .result)
+    (c .before .before .before .some-form .ensures) (c .before .p .given .1)
 
 -- the pieces end within the area
-ends : (c : tie.After-known-told) → let a = c .before .before .before .before .before .args in (c .before .p .given .0 .0 + 4 + 2 * a .s .n + a .s .n * a .s .f ≤ length (a .t .now)) × (a .at ≤ c .before .p .given .0 .0)
+ends : (c : tie.After-known-told) → let a = c .before .before .before .before .before .args in (c .before .p .given .0 .0 + 4 + 2 * a .s .n + a .s .n * a .s .f ≤ length (a .t .now)) ×
+    (a .at ≤ c .before .p .given .0 .0)
 ends c =
     let a = c .before .before .before .before .before .args in
     let z = sizes (a .s) (c .before .before .before .before .before .pre .0) in
@@ -49,7 +51,8 @@ returns c =
     let a = c .before .before .before .before .args in
     record {
       told = sym (fetches-none (a .s) (a .t .now) (a .at)
-          (formed-broken (a .t .now) (a .at) (rest (readSome (a .s) (drop (a .at) (a .t .now)))) (c .before .before .some-form .result) (c .before .before .some-form .ensures) (c .enum-told .given .1)));
+          (formed-broken (a .t .now) (a .at) (rest (readSome (a .s) (drop (a .at) (a .t .now)))) (c .before .before .some-form .result) (c .before .before .some-form .ensures)
+          (c .enum-told .given .1)));
       within = tt;
     }
 
@@ -119,20 +122,22 @@ add-t13 c = omega (arith, ends ((c .before .before .before .before .before .befo
 
 returns-5 : tie.Need-returns-5
 returns-5 c =
-    let a = c .before .before .before .before .before .before .before .before .before .before .before .before .before .before .before .args in
+    let x = c .before .before .before .before .before .before in
+    let y = x .before .before .before .before .before .before in
+    let a = y .before .before .before .args in
     let t = a .t .now in
-    let p = c .before .before .before .before .before .before .before .before .before .before .before .p .given .0 .0 in
-    let m = c .before .before .before .before .before .before .before .before .before .u16-at .result in
-    let v = c .before .before .before .before .before .before .before .before .within in
-    let w : ltb m (2 ^ a .s .n) ≡ true = sym (v .ensures) ∙ not-false (v .result) (c .before .before .before .before .before .before .before .if1 .left) in
-    let n : ltb (count m) (a .s .k) ≡ true = lt-ltb (count m) (a .s .k) (omega (arith, c .before .before .before .before .before .before .count .ensures, c .before .before .before .before .if2 .left)) in
+    let p = x .before .before .before .before .before .p .given .0 .0 in
+    let m = x .before .before .before .u16-at .result in
+    let v = x .before .before .within in
+    let w : ltb m (2 ^ a .s .n) ≡ true = sym (v .ensures) ∙ not-false (v .result) (x .before .if1 .left) in
+    let n : ltb (count m) (a .s .k) ≡ true = lt-ltb (count m) (a .s .k) (omega (arith, x .count .ensures, c .before .before .before .before .if2 .left)) in
     let q : rest (readPieces (a .s) (drop (p + 4) t)) ≡ some (drop (p + 4 + 2 * a .s .n + a .s .n * a .s .f) t) =
     c .before .before .before .pieces .ensures
     ∙ ap (λ (b : Bool). cond b (some (drop (p + 4 + 2 * a .s .n + a .s .n * a .s .f) t)) none) (not-false (c .before .before .before .pieces .result) (c .before .before .if3 .left))
     in
-    let e = ends ((c .before .before .before .before .before .before .before .before .before .before)) in
+    let e = ends ((x .before .before .before .before)) in
     record {
-      told = sym (left ((c .before .before .before .before .before .before .before .before .before)) ∙ simp (w, n, q));
+      told = sym (left ((x .before .before .before)) ∙ simp (w, n, q));
       within = (omega (arith, e .1), e .0);
     }
 

@@ -23,7 +23,8 @@ zero-run-requires c κs = search needs
 returns-2 : tie.Need-returns-2
 returns-2 c =
     let a = c .before .before .before .before .before .args in
-    piece-left (a .s) (a .t .now) (a .at) (a .l) (c .before .before .before .before .before .pre) (λ i. c .before .before .before .before .shared-slice-known .given i .fits) (c .before .before .if1 .left)
+    piece-left (a .s) (a .t .now) (a .at) (a .l) (c .before .before .before .before .before .pre) (λ i. c .before .before .before .before .shared-slice-known .given i .fits)
+    (c .before .before .if1 .left)
     ∙ ap (λ (b : Bool). cond b (some (drop (a .at + a .s .f) (a .t .now))) none) (sym (c .zero-run .ensures))
 
 pub piece-spec : {M : Type 1} → statement M

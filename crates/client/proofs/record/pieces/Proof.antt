@@ -64,16 +64,20 @@ returns c =
 
 add-q : tie.Need-add-q Inv-loop μ-loop
 add-q c =
-    let a = c .before .before .before .before .before .before .args in
-    let l = c .before .before .before .before .loop in omega (arith, below-rows (l .i) (a .s .n) (a .s .f) (c .before .before .before .loop-test .taken), c .before .before .before .before .before .before .pre .1)
+    let x = c .before .before .before .before .before .before in
+    let a = x .args in
+    let l = c .before .before .before .before .loop in omega (arith, below-rows (l .i) (a .s .n) (a .s .f) (c .before .before .before .loop-test .taken), x .pre .1)
 
 add-p-2 : tie.Need-add-p-2 Inv-loop μ-loop
 add-p-2 c =
-    let a = c .before .before .before .before .before .before .args in
-    let l = c .before .before .before .before .loop in omega (arith, below-rows (l .i) (a .s .n) (a .s .f) (c .before .before .before .loop-test .taken), c .before .before .before .before .before .before .pre .1)
+    let x = c .before .before .before .before .before .before in
+    let a = x .args in
+    let l = c .before .before .before .before .loop in omega (arith, below-rows (l .i) (a .s .n) (a .s .f) (c .before .before .before .loop-test .taken), x .pre .1)
 
 add-i : tie.Need-add-i Inv-loop μ-loop
-add-i c = let z = sizes (c .before .before .before .before .before .before .args .s) (c .before .before .before .before .before .before .pre .0) in omega (arith, c .before .before .before .loop-test .taken, z .nodes)
+add-i c =
+    let x = c .before .before .before .before .before .before in
+    let z = sizes (x .args .s) (x .pre .0) in omega (arith, c .before .before .before .loop-test .taken, z .nodes)
 
 loop-less : tie.Need-loop-less Inv-loop μ-loop
 loop-less c = omega arith

@@ -17,10 +17,12 @@ use Rattle.client.proofs.ClientFormLaws.{area-broken, area-ends, area-l
 use Rattle.client.proofs.record.pointer_area.Statement.{statement}
 use Rattle.client.proofs.record.pointer_area.Tie as tie
 
-read : (c : tie.After-known-told) → let a = c .before .before .before .before .before .args in Goes (a .t .now) (a .at) (c .before .next .given .0 .0) (rest (readPointer (a .s) (drop (a .at) (a .t .now))))
+read : (c : tie.After-known-told) → let a = c .before .before .before .before .before .args in Goes (a .t .now) (a .at) (c .before .next .given .0 .0)
+    (rest (readPointer (a .s) (drop (a .at) (a .t .now))))
 read c =
     let a = c .before .before .before .before .before .args in
-    formed-sound (a .t .now) (a .at) (c .before .next .given .0 .0) (rest (readPointer (a .s) (drop (a .at) (a .t .now)))) (c .before .before .before .pointer .result) (c .before .before .before .pointer .ensures) (c .before .next .given .1)
+    formed-sound (a .t .now) (a .at) (c .before .next .given .0 .0) (rest (readPointer (a .s) (drop (a .at) (a .t .now)))) (c .before .before .before .pointer .result)
+    (c .before .before .before .pointer .ensures) (c .before .next .given .1)
 
 pointer-requires : tie.Need-pointer-requires
 pointer-requires c κs = search needs

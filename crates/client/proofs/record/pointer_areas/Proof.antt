@@ -34,8 +34,12 @@ loop-holds c =
 pointer-area-requires : tie.Need-pointer-area-requires Inv-loop μ-loop
 pointer-area-requires c κs =
     let a = c .before .before .before .before .args in
-    let l = c .before .loop in
-    (c .before .before .before .before .pre .0, c .before .before .before .before .pre .1, omega (arith, below-rows (l .i) (a .s .m + 1) (pointerSize (a .s)) (c .loop-test .taken), c .before .before .before .before .pre .2, l .inv .1))
+    let l = c .before .loop in (
+      c .before .before .before .before .pre .0,
+      c .before .before .before .before .pre .1,
+      omega
+          (arith, below-rows (l .i) (a .s .m + 1) (pointerSize (a .s)) (c .loop-test .taken), c .before .before .before .before .pre .2, l .inv .1),
+    )
 
 returns : tie.Need-returns Inv-loop μ-loop
 returns c =
@@ -48,9 +52,10 @@ returns c =
 
 add-at : tie.Need-add-at Inv-loop μ-loop
 add-at c =
-    let a = c .before .before .before .before .before .before .args in
+    let x = c .before .before .before .before .before .before in
+    let a = x .args in
     let l = c .before .before .before .loop in
-    omega (arith, below-rows (l .i) (a .s .m + 1) (pointerSize (a .s)) (c .before .before .loop-test .taken), c .before .before .before .before .before .before .pre .1, c .before .before .before .before .before .before .pre .2, l .inv .1)
+    omega (arith, below-rows (l .i) (a .s .m + 1) (pointerSize (a .s)) (c .before .before .loop-test .taken), x .pre .1, x .pre .2, l .inv .1)
 
 add-i : tie.Need-add-i Inv-loop μ-loop
 add-i c = omega (arith, c .before .before .loop-test .taken)

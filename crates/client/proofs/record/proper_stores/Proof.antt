@@ -34,10 +34,11 @@ add-result c = let z = sizes (c .before .before .before .before .before .before 
 
 returns-4 : tie.Need-returns-4
 returns-4 c =
-    let a = c .before .before .before .before .before .before .before .args in
+    let x = c .before .before .before .before .before .before in
+    let a = x .before .args in
     let v = c .before .before .before .within in
     let w : ltb (a .map) (2 ^ a .s .n) ≡ true = sym (v .ensures) ∙ not-false (v .result) (c .before .before .if3 .left) in
-    simp (le-leb 1 (a .q) (omega (arith, c .before .before .before .before .before .before .if1 .left)), lt-ltb (a .c) (a .s .m) (c .before .before .before .before .if2 .left), w, c .before .count .ensures)
+    simp (le-leb 1 (a .q) (omega (arith, x .if1 .left)), lt-ltb (a .c) (a .s .m) (c .before .before .before .before .if2 .left), w, c .before .count .ensures)
 
 pub proper-stores-spec : {M : Type 1} → statement M
 proper-stores-spec =

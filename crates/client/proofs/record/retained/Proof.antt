@@ -37,7 +37,8 @@ mul-reserved-versions c =
     omega (arith, z .pointers, ap (λ (x : ℕ). (c .before .before .before .before .before .args .s .m + 1) * x) (c .before .before .before .pointer-size .ensures))
 
 reserved-versions-requires : tie.Need-reserved-versions-requires
-reserved-versions-requires c κs = omega (arith, c .before .before .before .before .before .pre .1, ap (λ (x : ℕ). (c .before .before .before .before .before .args .s .m + 1) * x) (c .before .before .before .pointer-size .ensures))
+reserved-versions-requires c κs =
+    omega (arith, c .before .before .before .before .before .pre .1, ap (λ (x : ℕ). (c .before .before .before .before .before .args .s .m + 1) * x) (c .before .before .before .pointer-size .ensures))
 
 returns-2 : tie.Need-returns-2
 returns-2 c =

@@ -34,7 +34,8 @@ formed : (c : tie.After-work-form)
     → let a = c .before .before .before .before .before .before .args in Formed (a .area .now) (workAt (a .s)) (left (a .s) (a .p) (a .area .now)) (c .work-form .result)
 formed c =
     let a = c .before .before .before .before .before .before .args in
-    subst (λ (k : ℕ). Formed (a .area .now) k (rest (readWork (a .s) (a .p .step) (drop k (a .area .now)))) (c .work-form .result)) (c .before .before .before .before .work-at .ensures) (c .work-form .ensures)
+    subst (λ (k : ℕ). Formed (a .area .now) k (rest (readWork (a .s) (a .p .step) (drop k (a .area .now)))) (c .work-form .result)) (c .before .before .before .before .work-at .ensures)
+    (c .work-form .ensures)
 
 goes : (c : tie.After-known-told)
     → let a = c .before .before .before .before .before .before .before .before .before .args in Goes (a .area .now) (workAt (a .s)) (c .before .next .given .0 .0) (left (a .s) (a .p) (a .area .now))
@@ -104,7 +105,8 @@ returns-3 c =
     let k : w .result + z .result ≡ workAt (a .s) + workSize (a .s) = omega (arith, w .ensures, z .ensures) in
     c .zero-run .ensures
     ∙ ap (λ (n : ℕ). all (λ b. eqb b 0) (take (n - next) (drop next (a .area .now)))) k
-    ∙ client-sound (a .s) (c .before .before .before .before .before .before .before .before .before .before .pre .0) (a .p) f (a .area .now) (λ i. b i .fits) (kept ((c .before .before .before .before))) next (goes ((c .before)))
+    ∙ client-sound (a .s) (c .before .before .before .before .before .before .before .before .before .before .pre .0) (a .p) f (a .area .now) (λ i. b i .fits)
+    (kept ((c .before .before .before .before))) next (goes ((c .before)))
     (omega (arith, c .before .before .before .before .before .before .before .before .before .before .pre .1))
 
 pub sound-spec : {M : Type 1} → statement M

@@ -73,10 +73,12 @@ returns-6 c =
 
 returns-7 : tie.Need-returns-7
 returns-7 c =
-    let a = c .before .before .before .before .before .before .before .args in
+    let x = c .before .before .before .before .before .before in
+    let a = x .before .args in
     record {
-      told = sym (work-empty (a .s) (drop (a .at) (a .t .now)) (a .step) (c .if6 .left) (c .before .before .before .before .before .if1 .left) (c .before .before .before .before .if2 .left) (c .before .before .before .if3 .left) (c .before .before .if4 .left) (c .before .if5 .left));
-      within = (omega arith, omega (arith, c .before .before .before .before .before .before .before .pre .1));
+      told = sym (work-empty (a .s) (drop (a .at) (a .t .now)) (a .step) (c .if6 .left) (c .before .before .before .before .before .if1 .left) (c .before .before .before .before .if2 .left)
+          (c .before .before .before .if3 .left) (c .before .before .if4 .left) (c .before .if5 .left));
+      within = (omega arith, omega (arith, x .before .pre .1));
     }
 
 pub work-form-spec : {M : Type 1} → statement M

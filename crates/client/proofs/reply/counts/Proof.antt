@@ -10,7 +10,9 @@ same-version-requires : tie.Need-same-version-requires
 same-version-requires c κs = search needs
 
 returns : tie.Need-returns
-returns c = let a = c .before .before .args in sym (ap (λ (b : Bool). b && (stands (a .x .named) (a .i) && not (stands (a .x .counted) (a .i)))) (sym (c .before .same-version .ensures) ∙ not-true _ (c .if1 .taken)))
+returns c =
+    let a = c .before .before .args in
+    sym (ap (λ (b : Bool). b && (stands (a .x .named) (a .i) && not (stands (a .x .counted) (a .i)))) (sym (c .before .same-version .ensures) ∙ not-true _ (c .if1 .taken)))
 
 awaited-requires : tie.Need-awaited-requires
 awaited-requires c κs = search needs

@@ -58,7 +58,8 @@ returns : tie.Need-returns Inv-loop μ-loop
 returns c =
     let q = c .before .before .before .pre in
     let l = c .before .loop in
-    lengths-done _ (l .v) (l .j) (c .before .before .before .args .n) (c .before .before .before .args .i) (c .before .before .before .args .len) (l .inv .0) (l .inv .1) (c .loop-test .left) (q .1) (q .2)
+    lengths-done _ (l .v) (l .j) (c .before .before .before .args .n) (c .before .before .before .args .i) (c .before .before .before .args .len) (l .inv .0) (l .inv .1) (c .loop-test .left)
+    (q .1) (q .2)
 
 pub lengths-with-spec : {M : Type 1} → statement M
 lengths-with-spec =

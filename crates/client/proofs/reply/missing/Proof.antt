@@ -1,29 +1,30 @@
 use mathlib.Core.Path.{sym, _∙_}
 use mathlib.Core.Bool.{cond}
 use mathlib.Core.Option.{none}
-use Prim.Native.Nat.{_+_, _^_, _<_}
+use Prim.Native.Nat.{_+_}
 use native.Mathlib.Omega.{arith}
 use borrow.Author.Tests.{not-true, not-false}
 use Rattle.coding.specs.Nodes.{all}
 use Rattle.protocol.specs.Nodes.{nodesIn, stands}
 use Rattle.client.specs.Reply.{standingAt, wentOn, cleared, mapped}
 use Rattle.client.proofs.ClientFormLaws.{sizes}
-use Rattle.client.proofs.ReplyLaws.{ends-four, work-within, other-end, skipped-end, missing-end}
+use Rattle.client.proofs.ReplyLaws.{other-end, skipped-end, missing-end}
+use Rattle.client.proofs.StartLaws.{ends-four}
+use Rattle.client.proofs.GateLaws.{work-within, Opened}
 use borrow.Author.Needs.{needs}
 use Rattle.client.proofs.reply.missing.Statement.{statement}
 use Rattle.client.proofs.reply.missing.Tie as tie
 
-step-small : (c : tie.After-work-at) → c .before .before .before .before .args .p .step < 256
-step-small c = omega arith
-
-reading-small : (c : tie.After-work-at) → c .before .before .before .before .args .p .reading .0 < 256 ^ 4
-reading-small c = omega arith
+opened : (c : tie.After-slice-known) → let a = c .before .args in Opened (a .s) (a .p) (a .area .now)
+opened c =
+    let q = c .before .pre in
+    record { measures = q .0; step = omega arith; reading = omega arith; bytes = λ i. c .slice-known .given i .fits; reads = q .3 }
 
 returns : tie.Need-returns
 returns c =
     let a = c .before .before .before .args in
     let q = c .before .before .before .pre in
-    λ room out. ends-four _ _ (other-end (a .s) (q .0) (a .p) (omega arith) (omega arith) (a .area .now) (λ i. c .before .before .slice-known .given i .fits) (q .3) (a .i) (a .v) none room out (c .if1 .taken))
+    λ room out. ends-four _ _ (other-end (a .s) (a .p) (a .area .now) (opened (c .before .before)) (a .i) (a .v) none room out (c .if1 .taken))
 
 work-at-requires : tie.Need-work-at-requires
 work-at-requires c κs = search needs
@@ -41,43 +42,56 @@ standing-at-requires : tie.Need-standing-at-requires
 standing-at-requires c κs =
     let a = c .before .before .before .before .before .before .args in
     let q = c .before .before .before .before .before .before .pre in
-    let w = work-within (a .s) (q .0) (a .p) (step-small (c .before .before)) (reading-small (c .before .before)) (a .area .now) (λ i. c .before .before .before .before .before .slice-known .given i .fits) (q .3) in
+    let w = work-within (a .s) (a .p) (a .area .now) (opened (c .before .before .before .before .before)) in
     (omega (arith, w, c .before .before .work-at .ensures), omega (arith, w, c .before .before .work-at .ensures, c .pointer-size .ensures))
 
 counts-requires : tie.Need-counts-requires
-counts-requires c κs = let q = c .before .before .before .before .before .before .before .pre in (q .1, omega (arith, q .2, sizes (c .before .before .before .before .before .before .before .args .s) (q .0) .nodes))
+counts-requires c κs =
+    let x = c .before .before .before .before .before .before in
+    let q = x .before .pre in (q .1, omega (arith, q .2, sizes (x .before .args .s) (q .0) .nodes))
 
 same-length : tie.Need-same-length
 same-length c = search needs
 
 returns-2 : tie.Need-returns-2
 returns-2 c =
-    let a = c .before .before .before .before .before .before .before .before .before .args in
-    let q = c .before .before .before .before .before .before .before .before .before .pre in
-    let x = c .before .before .standing-at .ensures ∙ (λ j. standingAt (a .area .now) (c .before .before .before .before .before .work-at .ensures j) (c .before .before .before .before .before .work-at .ensures j + c .before .before .before .pointer-size .ensures j)) in
-    λ room out. ends-four _ _ (skipped-end (a .s) (q .0) (a .p) (step-small (c .before .before .before .before .before)) (reading-small (c .before .before .before .before .before)) (a .area .now) (λ i. c .before .before .before .before .before .before .before .before .slice-known .given i .fits) (q .3) (c .before .before .before .before .before .before .if1 .left) (a .i) (q .1) (q .2) (a .v) (c .before .before .standing-at .result) x none room out (sym (c .before .counts .ensures) ∙ not-true _ (c .if2 .taken)))
+    let y = c .before .before .before .before .before .before in
+    let a = y .before .before .before .args in
+    let q = y .before .before .before .pre in
+    let x = c .before .before .standing-at .ensures ∙ (λ j. standingAt (a .area .now) (c .before .before .before .before .before .work-at .ensures j)
+    (c .before .before .before .before .before .work-at .ensures j + c .before .before .before .pointer-size .ensures j))
+    in
+    λ room out. ends-four _ _ (skipped-end (a .s) (a .p) (a .area .now) (opened (y .before .before)) (y .if1 .left) (a .i) (q .1) (q .2) (a .v)
+    (c .before .before .standing-at .result) x none room out (sym (c .before .counts .ensures) ∙ not-true _ (c .if2 .taken)))
 
 with-node-requires : tie.Need-with-node-requires
-with-node-requires c κs = let q = c .before .before .before .before .before .before .before .before .before .pre in (q .1, omega (arith, q .2, sizes (c .before .before .before .before .before .before .before .before .before .args .s) (q .0) .nodes))
+with-node-requires c κs =
+    let x = c .before .before .before .before .before .before in
+    let q = x .before .before .before .pre in (q .1, omega (arith, q .2, sizes (x .before .before .before .args .s) (q .0) .nodes))
 
 go-on-requires : tie.Need-go-on-requires
 go-on-requires c κs =
     let a = c .before .before .before .before .before .before .before .before .before .before .before .args in
     let q = c .before .before .before .before .before .before .before .before .before .before .before .pre in
-    (q .0, work-within (a .s) (q .0) (a .p) (step-small (c .before .before .before .before .before .before .before)) (reading-small (c .before .before .before .before .before .before .before)) (a .area .now) (λ i. c .before .before .before .before .before .before .before .before .before .before .slice-known .given i .fits) (q .3))
+    (q .0, work-within (a .s) (a .p) (a .area .now) (opened (c .before .before .before .before .before .before .before .before .before .before)))
 
 same-length-2 : tie.Need-same-length-2
 same-length-2 c = search needs
 
 returns-3 : tie.Need-returns-3
 returns-3 c =
-    let a = c .before .before .before .before .before .before .before .before .before .before .before .before .before .before .args in
-    let q = c .before .before .before .before .before .before .before .before .before .before .before .before .before .before .pre in
-    let s = c .before .before .before .before .before .before .before .standing-at .result in
-    let x = c .before .before .before .before .before .before .before .standing-at .ensures ∙ (λ j. standingAt (a .area .now) (c .before .before .before .before .before .before .before .before .before .before .work-at .ensures j) (c .before .before .before .before .before .before .before .before .before .before .work-at .ensures j + c .before .before .before .before .before .before .before .before .pointer-size .ensures j)) in
+    let y = c .before .before .before .before .before .before in
+    let z = y .before .before .before .before .before .before in
+    let a = z .before .before .args in
+    let q = z .before .before .pre in
+    let s = y .before .standing-at .result in
+    let x = y .before .standing-at .ensures ∙ (λ j. standingAt (a .area .now) (y .before .before .before .before .work-at .ensures j)
+    (y .before .before .before .before .work-at .ensures j + y .before .before .pointer-size .ensures j))
+    in
     let n = c .before .before .before .before .with-node .ensures in
     let g = c .before .before .go-on .ensures in
-    λ room out. ends-four _ _ (missing-end (a .s) (q .0) (a .p) (step-small (c .before .before .before .before .before .before .before .before .before .before)) (reading-small (c .before .before .before .before .before .before .before .before .before .before)) (a .area .now) (λ i. c .before .before .before .before .before .before .before .before .before .before .before .before .before .slice-known .given i .fits) (q .3) (c .before .before .before .before .before .before .before .before .before .before .before .if1 .left) (a .i) (q .1) (q .2) (a .v) s x (sym (c .before .before .before .before .before .before .counts .ensures) ∙ not-false _ (c .before .before .before .before .before .if2 .left)) room out _
+    λ room out. ends-four _ _ (missing-end (a .s) (a .p) (a .area .now) (opened (z .before)) (y .before .before .before .before .before .if1 .left) (a .i) (q .1) (q .2) (a .v) s x
+    (sym (y .counts .ensures) ∙ not-false _ (c .before .before .before .before .before .if2 .left)) room out _
     (g .0 ∙ (λ j. wentOn (a .p) (all (stands (n j)) (nodesIn (s .named))))) _
     (g .1 ∙ (λ j. cond (all (stands (n j)) (nodesIn (s .named))) (cleared (a .s) (a .area .now)) (mapped (a .s) (n j) (s .matching) (a .area .now)))))
 

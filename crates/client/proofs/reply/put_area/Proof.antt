@@ -3,7 +3,7 @@ use mathlib.Core.List.{List}
 use Prim.Native.Nat.{ℕ, _+_, _-_}
 use lib.ListN.{length, replicate}
 use lib.Seq.{paste}
-use Rattle.client.proofs.JoinWithLaws.{area-put}
+use Rattle.records.proofs.SpliceLaws.{area-put}
 use borrow.Author.Needs.{needs}
 use Rattle.client.proofs.reply.put_area.Statement.{statement}
 use Rattle.client.proofs.reply.put_area.Tie as tie

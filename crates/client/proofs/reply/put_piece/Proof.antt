@@ -41,7 +41,9 @@ put-u16-requires : tie.Need-put-u16-requires
 put-u16-requires c κs = search needs
 
 put-area-requires : tie.Need-put-area-requires
-put-area-requires c κs = let a = c .before .before .before .before .before .before .before .args in (omega (arith, below-rows (a .i - 1) (a .n) (a .f) (omega arith)), c .before .before .before .before .before .before .before .pre .5)
+put-area-requires c κs =
+    let x = c .before .before .before .before .before .before in
+    let a = x .before .args in (omega (arith, below-rows (a .i - 1) (a .n) (a .f) (omega arith)), x .before .pre .5)
 
 same-length : tie.Need-same-length
 same-length c = search needs

@@ -1,26 +1,27 @@
 use mathlib.Core.Path.{sym, _∙_}
 use mathlib.Core.Option.{some}
-use Prim.Native.Nat.{_+_, _^_, _<_}
+use Prim.Native.Nat.{_+_}
 use native.Mathlib.Omega.{arith}
 use borrow.Author.Tests.{not-true, not-false}
 use Rattle.client.specs.Reply.{standingAt}
 use Rattle.client.proofs.ClientFormLaws.{sizes}
-use Rattle.client.proofs.ReplyLaws.{ends-four, work-within, other-end, skipped-end}
+use Rattle.client.proofs.ReplyLaws.{other-end, skipped-end}
+use Rattle.client.proofs.StartLaws.{ends-four}
+use Rattle.client.proofs.GateLaws.{work-within, Opened}
 use borrow.Author.Needs.{needs}
 use Rattle.client.proofs.reply.reply.Statement.{statement}
 use Rattle.client.proofs.reply.reply.Tie as tie
 
-step-small : (c : tie.After-work-at) → c .before .before .before .before .before .before .args .p .step < 256
-step-small c = omega arith
-
-reading-small : (c : tie.After-work-at) → c .before .before .before .before .before .before .args .p .reading .0 < 256 ^ 4
-reading-small c = omega arith
+opened : (c : tie.After-slice-known) → let a = c .before .args in Opened (a .s) (a .p) (a .area .now)
+opened c =
+    let q = c .before .pre in
+    record { measures = q .0; step = omega arith; reading = omega arith; bytes = λ i. c .slice-known .given i .fits; reads = q .3 }
 
 returns : tie.Need-returns
 returns c =
     let a = c .before .before .before .before .before .args in
     let q = c .before .before .before .before .before .pre in
-    λ room. ends-four _ _ (other-end (a .s) (q .0) (a .p) (omega arith) (omega arith) (a .area .now) (λ i. c .before .before .before .before .slice-known .given i .fits) (q .3) (a .i) (a .v) (some (a .piece .now)) room (a .out .now) (c .if1 .taken))
+    λ room. ends-four _ _ (other-end (a .s) (a .p) (a .area .now) (opened (c .before .before .before .before)) (a .i) (a .v) (some (a .piece .now)) room (a .out .now) (c .if1 .taken))
 
 work-at-requires : tie.Need-work-at-requires
 work-at-requires c κs = search needs
@@ -38,28 +39,38 @@ standing-at-requires : tie.Need-standing-at-requires
 standing-at-requires c κs =
     let a = c .before .before .before .before .before .before .before .before .args in
     let q = c .before .before .before .before .before .before .before .before .pre in
-    let w = work-within (a .s) (q .0) (a .p) (step-small (c .before .before)) (reading-small (c .before .before)) (a .area .now) (λ i. c .before .before .before .before .before .before .before .slice-known .given i .fits) (q .3) in
+    let w = work-within (a .s) (a .p) (a .area .now) (opened (c .before .before .before .before .before .before .before)) in
     (omega (arith, w, c .before .before .work-at .ensures), omega (arith, w, c .before .before .work-at .ensures, c .pointer-size .ensures))
 
 counts-requires : tie.Need-counts-requires
-counts-requires c κs = let q = c .before .before .before .before .before .before .before .before .before .pre in (q .1, omega (arith, q .2, sizes (c .before .before .before .before .before .before .before .before .before .args .s) (q .0) .nodes))
+counts-requires c κs =
+    let x = c .before .before .before .before .before .before in
+    let q = x .before .before .before .pre in (q .1, omega (arith, q .2, sizes (x .before .before .before .args .s) (q .0) .nodes))
 
 same-length : tie.Need-same-length
 same-length c = search needs
 
 returns-2 : tie.Need-returns-2
 returns-2 c =
-    let a = c .before .before .before .before .before .before .before .before .before .before .before .args in
-    let q = c .before .before .before .before .before .before .before .before .before .before .before .pre in
-    let x = c .before .before .standing-at .ensures ∙ (λ j. standingAt (a .area .now) (c .before .before .before .before .before .work-at .ensures j) (c .before .before .before .before .before .work-at .ensures j + c .before .before .before .pointer-size .ensures j)) in
-    λ room. ends-four _ _ (skipped-end (a .s) (q .0) (a .p) (step-small (c .before .before .before .before .before)) (reading-small (c .before .before .before .before .before)) (a .area .now) (λ i. c .before .before .before .before .before .before .before .before .before .before .slice-known .given i .fits) (q .3) (c .before .before .before .before .before .before .if1 .left) (a .i) (q .1) (q .2) (a .v) (c .before .before .standing-at .result) x (some (a .piece .now)) room (a .out .now) (sym (c .before .counts .ensures) ∙ not-true _ (c .if2 .taken)))
+    let y = c .before .before .before .before .before .before in
+    let a = y .before .before .before .before .before .args in
+    let q = y .before .before .before .before .before .pre in
+    let x = c .before .before .standing-at .ensures ∙ (λ j. standingAt (a .area .now) (c .before .before .before .before .before .work-at .ensures j)
+    (c .before .before .before .before .before .work-at .ensures j + c .before .before .before .pointer-size .ensures j))
+    in
+    λ room. ends-four _ _ (skipped-end (a .s) (a .p) (a .area .now) (opened (y .before .before .before .before)) (y .if1 .left) (a .i) (q .1) (q .2) (a .v)
+    (c .before .before .standing-at .result) x (some (a .piece .now)) room (a .out .now) (sym (c .before .counts .ensures) ∙ not-true _ (c .if2 .taken)))
 
 reply-counted-requires : tie.Need-reply-counted-requires
 reply-counted-requires c κs =
-    let a = c .before .before .before .before .before .before .before .before .before .before .before .before .before .args in
-    let q = c .before .before .before .before .before .before .before .before .before .before .before .before .before .pre in
-    let x = c .before .before .before .before .standing-at .ensures ∙ (λ j. standingAt (a .area .now) (c .before .before .before .before .before .before .before .work-at .ensures j) (c .before .before .before .before .before .before .before .work-at .ensures j + c .before .before .before .before .before .pointer-size .ensures j)) in
-    (q .0, q .1, q .2, q .3, q .4, c .before .before .before .before .before .before .before .before .if1 .left, x, sym (c .before .before .before .counts .ensures) ∙ not-false _ (c .before .before .if2 .left))
+    let y = c .before .before .before .before .before .before in
+    let z = y .before .before .before .before .before .before in
+    let a = z .before .args in
+    let q = z .before .pre in
+    let x = c .before .before .before .before .standing-at .ensures ∙ (λ j. standingAt (a .area .now) (y .before .work-at .ensures j)
+    (y .before .work-at .ensures j + c .before .before .before .before .before .pointer-size .ensures j))
+    in
+    (q .0, q .1, q .2, q .3, q .4, y .before .before .if1 .left, x, sym (c .before .before .before .counts .ensures) ∙ not-false _ (c .before .before .if2 .left))
 
 same-length-2 : tie.Need-same-length-2
 same-length-2 c = search needs

@@ -1,13 +1,13 @@
 -- The first l bytes are saved.
 use Prim.Native.Nat.{_-_}
 use native.Mathlib.Omega.{arith}
-use Rattle.client.proofs.JoinWithLaws.{Saved, saved-none, saved-more, saved-all}
+use Rattle.records.proofs.BytesLaws.{Loaded, loaded-none, loaded-more, loaded-all}
 use borrow.Author.Needs.{needs}
 use Rattle.client.proofs.reply.save.Statement.{statement}
 use Rattle.client.proofs.reply.save.Tie as tie
 
 abbrev Inv-loop : tie.InvT-loop
-Inv-loop t at n v₀ l₀ v l = Saved t at n v l
+Inv-loop t at n v₀ l₀ v l = Loaded t at n 4096 v l
 
 abbrev μ-loop : tie.MeasureT-loop
 μ-loop t at n v₀ l₀ v l = n - l
@@ -16,7 +16,7 @@ blank-requires : tie.Need-blank-requires Inv-loop μ-loop
 blank-requires c κs = search needs
 
 loop-holds : tie.Need-loop-holds Inv-loop μ-loop
-loop-holds c = saved-none _ _ _ _ (c .blank .ensures)
+loop-holds c = loaded-none _ _ _ 4096 _ (c .blank .ensures)
 
 add-v : tie.Need-add-v Inv-loop μ-loop
 add-v c = omega arith
@@ -34,10 +34,11 @@ loop-less : tie.Need-loop-less Inv-loop μ-loop
 loop-less c = omega arith
 
 loop-again : tie.Need-loop-again Inv-loop μ-loop
-loop-again c = saved-more _ _ _ (c .before .before .before .before .before .pre .0) (c .before .before .before .before .before .pre .1) _ _ (c .before .before .loop .inv) (c .before .loop-test .taken)
+loop-again c =
+    loaded-more _ _ _ 4096 (c .before .before .before .before .before .pre .0) (c .before .before .before .before .before .pre .1) _ _ (c .before .before .loop .inv) (c .before .loop-test .taken)
 
 returns : tie.Need-returns Inv-loop μ-loop
-returns c = saved-all _ _ _ (c .before .before .before .before .pre .0) (c .before .before .before .before .pre .1) _ _ (c .before .loop .inv) (c .loop-test .left)
+returns c = loaded-all _ _ _ 4096 (c .before .before .before .before .pre .0) (c .before .before .before .before .pre .1) _ _ (c .before .loop .inv) (c .loop-test .left)
 
 pub save-spec : {M : Type 1} → statement M
 save-spec =

@@ -1,17 +1,15 @@
 use borrow.Author.Needs.{needs}
-use Prim.Native.Nat.{_^_, _<_}
 use native.Mathlib.Omega.{arith}
-use Rattle.coding.specs.Bytes.{Bytes}
-use Rattle.client.proofs.StartLaws.{ends-three}
-use Rattle.client.proofs.ScanLaws.{same-end, scanned-freezes, scanned-fetches, scanned-other}
+use Rattle.client.proofs.StartLaws.{ends-three, same-end}
+use Rattle.client.proofs.ScanLaws.{scanned-freezes, scanned-fetches, scanned-other}
+use Rattle.client.proofs.GateLaws.{Opened}
 use Rattle.client.proofs.scan.after_scan.Statement.{statement}
 use Rattle.client.proofs.scan.after_scan.Tie as tie
 
-small : (c : tie.Else1) → (c .before .before .before .before .before .args .p .step < 256) × (c .before .before .before .before .before .args .p .reading .0 < 256 ^ 4)
-small c = (omega arith, omega arith)
-
-bytes : (c : tie.Else1) → Bytes (c .before .before .before .before .before .args .area .now)
-bytes c = λ i. c .before .before .before .before .slice-known .given i .fits
+opened : (c : tie.Else1) → let a = c .before .before .before .before .before .args in Opened (a .s) (a .p) (a .area .now)
+opened c =
+    let q = c .before .before .before .before .before .pre in
+    record { measures = q .0; step = omega arith; reading = omega arith; bytes = λ i. c .before .before .before .before .slice-known .given i .fits; reads = q .2 }
 
 first-scan-requires : tie.Need-first-scan-requires
 first-scan-requires c κs = search needs
@@ -36,9 +34,10 @@ same-length-4 c = search needs
 
 returns-2 : tie.Need-returns-2
 returns-2 c =
-    let x = c .before .before .before .before .before .before .before .before .before in
+    let y = c .before .before .before .before .before .before in
+    let x = y .before .before .before in
     let a = x .before .before .before .before .before .args in
-    same-end _ _ (scanned-freezes (a .s) (a .p) (small x .0) (small x .1) (a .area .now) (bytes x) (a .own) (a .rows .now) (a .room .now) (c .before .before .before .before .before .before .before .if2 .taken)) _ _ _ (c .before .before .before .before .freeze .ensures)
+    same-end _ _ (scanned-freezes (a .s) (a .p) (a .area .now) (opened x) (a .own) (a .rows .now) (a .room .now) (y .before .if2 .taken)) _ _ _ (c .before .before .before .before .freeze .ensures)
 
 fetch-requires : tie.Need-fetch-requires
 fetch-requires c κs = search needs
@@ -51,15 +50,16 @@ same-length-6 c = search needs
 
 returns-3 : tie.Need-returns-3
 returns-3 c =
-    let x = c .before .before .before .before .before .before .before .before .before .before .before in
+    let y = c .before .before .before .before .before .before in
+    let x = y .before .before .before .before .before in
     let a = x .before .before .before .before .before .args in
-    same-end _ _ (scanned-fetches (a .s) (a .p) (small x .0) (small x .1) (a .area .now) (bytes x) (a .own) (a .rows .now) (a .room .now) (c .before .before .before .before .before .before .before .if3 .taken)) _ _ _ (c .before .before .before .before .fetch .ensures)
+    same-end _ _ (scanned-fetches (a .s) (a .p) (a .area .now) (opened x) (a .own) (a .rows .now) (a .room .now) (y .before .if3 .taken)) _ _ _ (c .before .before .before .before .fetch .ensures)
 
 returns-4 : tie.Need-returns-4
 returns-4 c =
     let x = c .before .before .before .before in
     let a = x .before .before .before .before .before .args in
-    ends-three _ _ (scanned-other (a .s) (a .p) (small x .0) (small x .1) (a .area .now) (bytes x) (a .own) (a .rows .now) (a .room .now) (x .before .before .before .before .before .pre .2) (x .if1 .left) (c .before .before .if2 .left) (c .if3 .left))
+    ends-three _ _ (scanned-other (a .s) (a .p) (a .area .now) (opened x) (a .own) (a .rows .now) (a .room .now) (x .if1 .left) (c .before .before .if2 .left) (c .if3 .left))
 
 pub after-scan-spec : {M : Type 1} → statement M
 after-scan-spec =

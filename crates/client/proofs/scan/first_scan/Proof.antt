@@ -1,24 +1,24 @@
 use borrow.Author.Needs.{needs}
 use mathlib.Core.Path.{_≡_, sym, ap, _∙_}
-use Prim.Native.Nat.{_^_, _<_}
 use native.Mathlib.Omega.{arith}
-use Rattle.coding.specs.Bytes.{Bytes}
 use Rattle.protocol.specs.Version.{nextSequence}
 use Rattle.protocol.specs.Directory.{readDirectory}
 use Rattle.protocol.specs.Deposit.{highest}
 use Rattle.client.specs.Draw.{rowsOf}
-use Rattle.client.proofs.ScanLaws.{same-end, drawn-one, scanned-draws, scanned-spent}
+use Rattle.client.proofs.ScanLaws.{drawn-one, scanned-draws, scanned-spent}
+use Rattle.client.proofs.StartLaws.{same-end}
+use Rattle.client.proofs.GateLaws.{Opened}
 use Rattle.client.proofs.scan.first_scan.Statement.{statement}
 use Rattle.client.proofs.scan.first_scan.Tie as tie
 
-small : (c : tie.After-next) → (c .before .before .before .before .before .args .p .step < 256) × (c .before .before .before .before .before .args .p .reading .0 < 256 ^ 4)
-small c = (omega arith, omega arith)
-
-bytes : (c : tie.After-next) → Bytes (c .before .before .before .before .before .args .area .now)
-bytes c = λ i. c .before .before .before .before .slice-known .given i .fits
+opened : (c : tie.After-next) → let a = c .before .before .before .before .before .args in Opened (a .s) (a .p) (a .area .now)
+opened c =
+    let q = c .before .before .before .before .before .pre in
+    record { measures = q .0; step = omega arith; reading = omega arith; bytes = λ i. c .before .before .before .before .slice-known .given i .fits; reads = q .3 }
 
 -- the sequence after the highest of the rows
-told : (c : tie.After-next) → nextSequence (highest (rowsOf (readDirectory (c .before .before .before .before .before .args .s) (c .before .before .before .before .before .args .rows .now)))) ≡ c .next .result
+told : (c : tie.After-next) → nextSequence (highest (rowsOf (readDirectory (c .before .before .before .before .before .args .s)
+    (c .before .before .before .before .before .args .rows .now)))) ≡ c .next .result
 told c = sym (c .next .ensures ∙ ap nextSequence (c .before .highest .ensures))
 
 highest-requires : tie.Need-highest-requires
@@ -44,15 +44,24 @@ same-length-2 c = search needs
 
 returns : tie.Need-returns
 returns c =
-    let x = c .before .before .before .before .before .before .before in
+    let y = c .before .before .before .before .before .before in
+    let x = y .before in
     let a = x .before .before .before .before .before .args in
-    same-end _ _ (scanned-spent (a .s) (a .p) (small x .0) (small x .1) (a .area .now) (bytes x) (a .own) (a .rows .now) (a .room .now) (x .before .before .before .before .before .pre .2) (told x ∙ c .before .before .before .before .before .enum-told .given .1)) _ _ _ (c .before .before .give-up .ensures)
+    same-end _ _ (scanned-spent (a .s) (a .p) (a .area .now) (opened x) (a .own) (a .rows .now) (a .room .now) (x .before .before .before .before .before .pre .2)
+    (told x ∙ c .before .before .before .before .before .enum-told .given .1)) _ _ _ (c .before .before .give-up .ensures)
 
 draw-requires : tie.Need-draw-requires
 draw-requires c κs =
     let x = c .before .before .before .before .before in
-    let q = x .before .before .before .before .before .pre in
-    (q .0, q .1, q .2, q .3, q .5, drawn-one (highest (rowsOf (readDirectory (x .before .before .before .before .before .args .s) (x .before .before .before .before .before .args .rows .now)))) (c .before .before .before .next2 .given .0 .0) (told x ∙ c .before .before .before .next2 .given .1))
+    let q = x .before .before .before .before .before .pre in (
+      q .0,
+      q .1,
+      q .2,
+      q .3,
+      q .5,
+      drawn-one (highest (rowsOf (readDirectory (x .before .before .before .before .before .args .s)
+          (x .before .before .before .before .before .args .rows .now)))) (c .before .before .before .next2 .given .0 .0) (told x ∙ c .before .before .before .next2 .given .1),
+    )
 
 same-length-3 : tie.Need-same-length-3
 same-length-3 c = search needs
@@ -62,9 +71,11 @@ same-length-4 c = search needs
 
 returns-2 : tie.Need-returns-2
 returns-2 c =
-    let x = c .before .before .before .before .before .before .before .before .before .before in
+    let y = c .before .before .before .before .before .before in
+    let x = y .before .before .before .before in
     let a = x .before .before .before .before .before .args in
-    same-end _ _ (scanned-draws (a .s) (a .p) (small x .0) (small x .1) (a .area .now) (bytes x) (a .own) (a .rows .now) (a .room .now) (x .before .before .before .before .before .pre .2) (c .before .before .before .before .before .before .before .before .next2 .given .0 .0) (told x ∙ c .before .before .before .before .before .before .before .before .next2 .given .1)) _ _ _ (c .before .before .before .before .draw .ensures)
+    same-end _ _ (scanned-draws (a .s) (a .p) (a .area .now) (opened x) (a .own) (a .rows .now) (a .room .now) (x .before .before .before .before .before .pre .2)
+    (y .before .before .next2 .given .0 .0) (told x ∙ y .before .before .next2 .given .1)) _ _ _ (c .before .before .before .before .draw .ensures)
 
 pub first-scan-spec : {M : Type 1} → statement M
 first-scan-spec =

@@ -1,18 +1,16 @@
 use borrow.Author.Needs.{needs}
-use Prim.Native.Nat.{_^_, _<_}
 use native.Mathlib.Omega.{arith}
-use Rattle.coding.specs.Bytes.{Bytes}
 use Rattle.client.proofs.ClientFormLaws.{sizes}
 use Rattle.client.proofs.StartLaws.{ends-three}
-use Rattle.client.proofs.ScanLaws.{page-within, spent-leaves}
+use Rattle.client.proofs.ScanLaws.{spent-leaves}
+use Rattle.client.proofs.GateLaws.{work-within, Opened}
 use Rattle.client.proofs.scan.give_up.Statement.{statement}
 use Rattle.client.proofs.scan.give_up.Tie as tie
 
-small : (c : tie.After-work-at) → (c .before .before .before .args .p .step < 256) × (c .before .before .before .args .p .reading .0 < 256 ^ 4)
-small c = (omega arith, omega arith)
-
-bytes : (c : tie.After-work-at) → Bytes (c .before .before .before .args .area .now)
-bytes c = λ i. c .before .before .slice-known .given i .fits
+opened : (c : tie.After-work-at) → let a = c .before .before .before .args in Opened (a .s) (a .p) (a .area .now)
+opened c =
+    let q = c .before .before .before .pre in
+    record { measures = q .0; step = omega arith; reading = omega arith; bytes = λ i. c .before .before .slice-known .given i .fits; reads = q .1 }
 
 work-at-requires : tie.Need-work-at-requires
 work-at-requires c κs = search needs
@@ -30,17 +28,19 @@ clear-requires c κs =
     let x = c .before .before in
     let a = x .before .before .before .args in
     let q = x .before .before .before .pre in
-    (omega arith, omega (arith, page-within (a .s) (a .p) (small x .0) (small x .1) (a .area .now) (bytes x) (q .1) (q .0), x .work-at .ensures, c .before .work-size .ensures))
+    (omega arith, omega (arith, work-within (a .s) (a .p) (a .area .now) (opened x), x .work-at .ensures, c .before .work-size .ensures))
 
 same-length : tie.Need-same-length
 same-length c = search needs
 
 returns : tie.Need-returns
 returns c =
-    let x = c .before .before .before .before .before .before in
+    let y = c .before .before .before .before .before .before in
+    let x = y in
     let a = x .before .before .before .args in
     let q = x .before .before .before .pre in
-    ends-three _ _ (spent-leaves (a .s) (a .p) (small x .0) (small x .1) (a .area .now) (bytes x) (q .1) (q .0) (x .work-at .result) (x .work-at .ensures) (c .before .before .before .before .before .work-size .result) (c .before .before .before .before .before .work-size .ensures) _ (c .before .before .before .clear .ensures) (a .room .now))
+    ends-three _ _ (spent-leaves (a .s) (a .p) (a .area .now) (opened x) (x .work-at .result) (x .work-at .ensures) (c .before .before .before .before .before .work-size .result)
+    (c .before .before .before .before .before .work-size .ensures) _ (c .before .before .before .clear .ensures) (a .room .now))
 
 pub give-up-spec : {M : Type 1} → statement M
 give-up-spec =

@@ -29,31 +29,39 @@ shared-slice-read-held c = search needs
 
 returns-3 : tie.Need-returns-3
 returns-3 c =
-    let a = c .before .before .before .before .before .before .before .args in
-    let p = c .before .before .before .before .before .before .before .pre in
+    let x = c .before .before .before .before .before .before in
+    let a = x .before .args in
+    let p = x .before .pre in
     let proper-at = c .before .before .before .before .proper-at in
-    replied-piece (a .s) (a .b .now) (p .0) (p .1) (c .before .before .before .before .before .if1 .left) (sym (proper-at .ensures) ∙ not-false (proper-at .result) (c .before .before .before .if2 .left)) (c .before .before .version-at .result) (c .before .before .version-at .ensures) (c .if3 .taken)
+    replied-piece (a .s) (a .b .now) (p .0) (p .1) (c .before .before .before .before .before .if1 .left)
+    (sym (proper-at .ensures) ∙ not-false (proper-at .result) (c .before .before .before .if2 .left)) (c .before .before .version-at .result) (c .before .before .version-at .ensures) (c .if3 .taken)
 
 returns-4 : tie.Need-returns-4
 returns-4 c =
-    let a = c .before .before .before .before .before .before .before .before .args in
-    let p = c .before .before .before .before .before .before .before .before .pre in
+    let x = c .before .before .before .before .before .before in
+    let a = x .before .before .args in
+    let p = x .before .before .pre in
     let proper-at = c .before .before .before .before .before .proper-at in
-    replied-neither (a .s) (a .b .now) (p .0) (p .1) (c .before .before .before .before .before .before .if1 .left) (sym (proper-at .ensures) ∙ not-false (proper-at .result) (c .before .before .before .before .if2 .left)) (c .before .if3 .left) (c .if4 .taken)
+    replied-neither (a .s) (a .b .now) (p .0) (p .1) (x .if1 .left) (sym (proper-at .ensures) ∙ not-false (proper-at .result) (c .before .before .before .before .if2 .left))
+    (c .before .if3 .left) (c .if4 .taken)
 
 returns-5 : tie.Need-returns-5
 returns-5 c =
-    let a = c .before .before .before .before .before .before .before .before .before .args in
-    let p = c .before .before .before .before .before .before .before .before .before .pre in
-    let proper-at = c .before .before .before .before .before .before .proper-at in
-    replied-long (a .s) (a .b .now) (p .0) (p .1) (c .before .before .before .before .before .before .before .if1 .left) (sym (proper-at .ensures) ∙ not-false (proper-at .result) (c .before .before .before .before .before .if2 .left)) (c .before .before .if3 .left) (c .before .if4 .left) (c .if5 .taken)
+    let x = c .before .before .before .before .before .before in
+    let a = x .before .before .before .args in
+    let p = x .before .before .before .pre in
+    let proper-at = x .proper-at in
+    replied-long (a .s) (a .b .now) (p .0) (p .1) (x .before .if1 .left) (sym (proper-at .ensures) ∙ not-false (proper-at .result) (c .before .before .before .before .before .if2 .left))
+    (c .before .before .if3 .left) (c .before .if4 .left) (c .if5 .taken)
 
 returns-6 : tie.Need-returns-6
 returns-6 c =
-    let a = c .before .before .before .before .before .before .before .before .before .args in
-    let p = c .before .before .before .before .before .before .before .before .before .pre in
-    let proper-at = c .before .before .before .before .before .before .proper-at in
-    replied-missing (a .s) (a .b .now) (p .0) (p .1) (c .before .before .before .before .before .before .before .if1 .left) (sym (proper-at .ensures) ∙ not-false (proper-at .result) (c .before .before .before .before .before .if2 .left)) (c .before .before .if3 .left) (c .before .if4 .left) (c .before .before .before .before .version-at .result) (c .before .before .before .before .version-at .ensures) (c .if5 .left)
+    let x = c .before .before .before .before .before .before in
+    let a = x .before .before .before .args in
+    let p = x .before .before .before .pre in
+    let proper-at = x .proper-at in
+    replied-missing (a .s) (a .b .now) (p .0) (p .1) (x .before .if1 .left) (sym (proper-at .ensures) ∙ not-false (proper-at .result) (c .before .before .before .before .before .if2 .left))
+    (c .before .before .if3 .left) (c .before .if4 .left) (c .before .before .before .before .version-at .result) (c .before .before .before .before .version-at .ensures) (c .if5 .left)
 
 pub replied-spec : {M : Type 1} → statement M
 replied-spec =

@@ -15,7 +15,8 @@ Inv-loop t₀ from width n at₀ i₀ t at i = (i ≤ n) × (at ≡ from + i * w
 abbrev μ-loop : tie.MeasureT-loop
 μ-loop t₀ from width n at₀ i₀ t at i = n - i
 
-within : (c : tie.In-loop Inv-loop μ-loop) → let l = c .before .loop in (l .at + c .before .before .args .width ≤ length (c .before .before .args .t .now)) × (length (l .t) ≡ length (c .before .before .args .t .now))
+within : (c : tie.In-loop Inv-loop μ-loop) → let l = c .before .loop in (l .at + c .before .before .args .width ≤ length (c .before .before .args .t .now)) ×
+    (length (l .t) ≡ length (c .before .before .args .t .now))
 within c =
     let a = c .before .before .args in
     let l = c .before .loop in (

@@ -18,8 +18,8 @@ use Rattle.records.specs.Answer.{number}
 use Rattle.records.specs.Form.{rest}
 use Rattle.client.specs.Record.{recordOf, areaSize, isSome}
 use Rattle.client.proofs.GateLaws.{gated-open, gated-shut, Opened}
-use Rattle.client.proofs.StartLaws.{ends-three}
-use Rattle.client.proofs.ScanLaws.{same-end, scan-measures, scan-shut, scan-broken, rows-read, scan-goes}
+use Rattle.client.proofs.StartLaws.{ends-three, same-end}
+use Rattle.client.proofs.ScanLaws.{scan-measures, scan-shut, scan-broken, rows-read, scan-goes}
 use Rattle.client.proofs.turn.scan_answer.Statement.{statement}
 use Rattle.client.proofs.turn.scan_answer.Tie as tie
 
@@ -30,15 +30,16 @@ measured c = sym (c .before .pass .ensures) ∙ not-false (c .before .pass .resu
 enters : (c : tie.After-enum-told) → let a = c .before .before .before .before .before .before .before .before .before .before .before .args in
     (c .before .before .before .before .before .ample .result ≡ true) × (ltb (a .own) (a .s .m) ≡ true) × (isSome (readClient (a .s) (recordOf (a .p) (a .area .now))) ≡ true)
 enters c =
-    let a = c .before .before .before .before .before .before .before .before .before .before .before .args in
-    gated-open (a .s) (a .p) (a .area .now) (c .before .before .before .before .before .ample .result) (ltb (a .own) (a .s .m)) (c .before .before .admit .result) (c .before .before .admit .ensures) (c .enum-told .given .1)
+    let x = c .before .before .before .before .before .before in
+    let a = x .before .before .before .before .before .args in
+    gated-open (a .s) (a .p) (a .area .now) (c .before .before .before .before .before .ample .result) (ltb (a .own) (a .s .m)) (c .before .before .admit .result)
+    (c .before .before .admit .ensures) (c .enum-told .given .1)
 
-opened : (c : tie.After-enum-told) → let a = c .before .before .before .before .before .before .before .before .before .before .before .args in Opened (a .s) (a .own) (a .p) (a .area .now)
+opened : (c : tie.After-enum-told) → let a = c .before .before .before .before .before .before .before .before .before .before .before .args in Opened (a .s) (a .p) (a .area .now)
 opened c =
     let e = enters c in
     record {
       measures = measured (c .before .before .before .before .before .before);
-      within = e .1;
       step = omega arith;
       reading = omega arith;
       bytes = λ i. c .before .before .before .before .before .before .before .before .before .before .slice-known .given i .fits;
@@ -46,9 +47,11 @@ opened c =
     }
 
 -- rows and room are long enough
-long : (c : tie.After-enum-told) → let a = c .before .before .before .before .before .before .before .before .before .before .before .args in (a .s .m * rowSize (a .s) ≤ length (a .rows .now)) × (roomSize (a .s) ≤ length (a .room .now))
+long : (c : tie.After-enum-told) → let a = c .before .before .before .before .before .before .before .before .before .before .before .args in
+    (a .s .m * rowSize (a .s) ≤ length (a .rows .now)) × (roomSize (a .s) ≤ length (a .room .now))
 long c =
-    let a = c .before .before .before .before .before .before .before .before .before .before .before .args in
+    let x = c .before .before .before .before .before .before in
+    let a = x .before .before .before .before .before .args in
     let l = and-true (leb (areaSize (a .s)) (length (a .area .now))) _ (sym (c .before .before .before .before .before .ample .ensures) ∙ enters c .0) .1 in
     let m = and-true (leb (a .s .m * rowSize (a .s)) (length (a .rows .now))) _ l in
     (leb-true (a .s .m * rowSize (a .s)) (length (a .rows .now)) (m .0), leb-true (roomSize (a .s)) (length (a .room .now)) (m .1))
@@ -78,11 +81,14 @@ same-length c = search needs
 
 returns-2 : tie.Need-returns-2
 returns-2 c =
-    let a = c .before .before .before .before .before .before .before .before .before .before .before .before .args in
+    let x = c .before .before .before .before .before .before in
+    let y = x .before .before .before .before .before .before in
+    let a = y .args in
     let n = c .before .g .given .0 .0 in
-    ends-three _ _ (scan-shut (a .s) (a .own) (a .p) (a .area .now) (a .rows .now) (a .room .now) (c .before .before .before .before .before .before .ample .result) (c .before .before .before .before .before .before .ample .ensures)
+    ends-three _ _ (scan-shut (a .s) (a .own) (a .p) (a .area .now) (a .rows .now) (a .room .now) (x .ample .result) (x .ample .ensures)
     (unchanged (refused (number n)) (recordOf (a .p) (a .area .now)) (a .room .now) [])
-    (gated-shut (a .s) (a .p) (a .area .now) (c .before .before .before .before .before .before .ample .result) (ltb (a .own) (a .s .m)) (c .before .before .before .admit .result) (c .before .before .before .admit .ensures) n (c .before .g .given .1)
+    (gated-shut (a .s) (a .p) (a .area .now) (x .ample .result) (ltb (a .own) (a .s .m)) (c .before .before .before .admit .result) (c .before .before .before .admit .ensures) n
+    (c .before .g .given .1)
     (a .room .now) [] (λ k. onRows (readDirectory (a .s) (a .rows .now)) (λ l. scannedAt (a .s) (a .own) k (a .room .now) l (k .phase)))))
 
 enum-told : tie.Need-enum-told
@@ -101,13 +107,16 @@ returns-3 : tie.Need-returns-3
 returns-3 c =
     let x = c .before .before .before in
     let a = x .before .before .before .before .before .before .before .before .before .before .before .args in
-    ends-three _ _ (scan-broken (a .s) (a .own) (a .p) (a .area .now) (a .rows .now) (a .room .now) (x .before .before .before .before .before .ample .result) (x .before .before .before .before .before .ample .ensures) (opened x) (enters x .0)
+    ends-three _ _ (scan-broken (a .s) (a .own) (a .p) (a .area .now) (a .rows .now) (a .room .now) (x .before .before .before .before .before .ample .result)
+    (x .before .before .before .before .before .ample .ensures) (opened x) (enters x .1) (enters x .0)
     (c .before .directory .ensures ∙ ap (λ (b : Bool). cond b (some (drop (a .s .m * rowSize (a .s)) (a .rows .now))) none) (not-true (c .before .directory .result) (c .if2 .taken))))
 
 -- the rows keep their form
-sound : (c : tie.Else2) → let a = c .before .before .before .before .before .before .before .before .before .before .before .before .before .before .args in rest (readDirectory (a .s) (a .rows .now)) ≡ some (drop (a .s .m * rowSize (a .s)) (a .rows .now))
+sound : (c : tie.Else2) → let a = c .before .before .before .before .before .before .before .before .before .before .before .before .before .before .args in rest
+    (readDirectory (a .s) (a .rows .now)) ≡ some (drop (a .s .m * rowSize (a .s)) (a .rows .now))
 sound c =
-    let a = c .before .before .before .before .before .before .before .before .before .before .before .before .before .before .args in
+    let y = c .before .before .before .before .before .before .before .before .before .before .before .before in
+    let a = y .before .before .args in
     c .before .directory .ensures ∙ ap (λ (b : Bool). cond b (some (drop (a .s .m * rowSize (a .s)) (a .rows .now))) none) (not-false (c .before .directory .result) (c .if2 .left))
 
 after-scan-requires : tie.Need-after-scan-requires
@@ -119,7 +128,8 @@ after-scan-requires c κs =
       ltb-true (a .own) (a .s .m) (e .1),
       e .2,
       long x .0,
-      rows-read (a .s) (a .own) (a .p) (a .area .now) (a .rows .now) (a .room .now) (x .before .before .before .before .before .ample .result) (x .before .before .before .before .before .ample .ensures) (opened x) (e .0) _ (sound (c .before .before)),
+      rows-read (a .s) (a .own) (a .p) (a .area .now) (a .rows .now) (a .room .now) (x .before .before .before .before .before .ample .result)
+          (x .before .before .before .before .before .ample .ensures) (opened x) (enters x .1) (e .0) _ (sound (c .before .before)),
       long x .1,
     )
 
@@ -131,9 +141,11 @@ same-length-4 c = search needs
 
 returns-4 : tie.Need-returns-4
 returns-4 c =
-    let x = c .before .before .before .before .before .before .before .before .before .before in
+    let y = c .before .before .before .before .before .before in
+    let x = y .before .before .before .before in
     let a = x .before .before .before .before .before .before .before .before .before .before .before .args in
-    same-end _ _ (scan-goes (a .s) (a .own) (a .p) (a .area .now) (a .rows .now) (a .room .now) (x .before .before .before .before .before .ample .result) (x .before .before .before .before .before .ample .ensures) (opened x) (enters x .0) _ (sound (c .before .before .before .before .before .before .before))) _ _ _ (c .before .before .before .before .after-scan .ensures)
+    same-end _ _ (scan-goes (a .s) (a .own) (a .p) (a .area .now) (a .rows .now) (a .room .now) (x .before .before .before .before .before .ample .result)
+    (x .before .before .before .before .before .ample .ensures) (opened x) (enters x .1) (enters x .0) _ (sound (y .before))) _ _ _ (c .before .before .before .before .after-scan .ensures)
 
 pub scan-answer-spec : {M : Type 1} → statement M
 scan-answer-spec =

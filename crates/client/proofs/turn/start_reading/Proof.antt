@@ -29,16 +29,17 @@ measured c = sym (c .before .pass .ensures) ∙ not-false (c .before .pass .resu
 enters : (c : tie.After-enum-told) → let a = c .before .before .before .before .before .before .before .before .before .before .args in
     (c .before .before .before .before .before .roomy .result ≡ true) × (ltb (a .own) (a .s .m) ≡ true) × (isSome (readClient (a .s) (recordOf (a .p) (a .area .now))) ≡ true)
 enters c =
-    let a = c .before .before .before .before .before .before .before .before .before .before .args in
-    gated-open (a .s) (a .p) (a .area .now) (c .before .before .before .before .before .roomy .result) (ltb (a .own) (a .s .m)) (c .before .before .admit .result) (c .before .before .admit .ensures) (c .enum-told .given .1)
+    let x = c .before .before .before .before .before .before in
+    let a = x .before .before .before .before .args in
+    gated-open (a .s) (a .p) (a .area .now) (c .before .before .before .before .before .roomy .result) (ltb (a .own) (a .s .m)) (c .before .before .admit .result)
+    (c .before .before .admit .ensures) (c .enum-told .given .1)
 
-opened : (c : tie.After-enum-told) → let a = c .before .before .before .before .before .before .before .before .before .before .args in Opened (a .s) (a .own) (a .p) (a .area .now)
+opened : (c : tie.After-enum-told) → let a = c .before .before .before .before .before .before .before .before .before .before .args in Opened (a .s) (a .p) (a .area .now)
 opened c =
     let a = c .before .before .before .before .before .before .before .before .before .before .args in
     let e = enters c in
     record {
       measures = measured ((c .before .before .before .before .before .before));
-      within = e .1;
       step = omega arith;
       reading = omega arith;
       bytes = λ i. c .before .before .before .before .before .before .before .before .before .slice-known .given i .fits;
@@ -47,7 +48,9 @@ opened c =
 
 long : (c : tie.After-enum-told) → let a = c .before .before .before .before .before .before .before .before .before .before .args in
     (leb (clientSize (a .s)) (length (recordOf (a .p) (a .area .now))) && leb (roomSize (a .s)) (length (a .room .now))) ≡ true
-long c = let a = c .before .before .before .before .before .before .before .before .before .before .args in both-long (a .s) (a .own) (a .p) (a .area .now) (a .room .now) ∙ sym (c .before .before .before .before .before .roomy .ensures) ∙ enters c .0
+long c =
+    let x = c .before .before .before .before .before .before in
+    let a = x .before .before .before .before .args in both-long (a .s) (a .own) (a .p) (a .area .now) (a .room .now) ∙ sym (c .before .before .before .before .before .roomy .ensures) ∙ enters c .0
 
 room-long : (c : tie.After-enum-told) → 5 ≤ length (c .before .before .before .before .before .before .before .before .before .before .args .room .now)
 room-long c =
@@ -80,11 +83,13 @@ same-length c = search needs
 
 returns-2 : tie.Need-returns-2
 returns-2 c =
-    let a = c .before .before .before .before .before .before .before .before .before .before .before .args in
+    let x = c .before .before .before .before .before .before in
+    let a = x .before .before .before .before .before .args in
     let n = c .before .g .given .0 .0 in
-    ends-three _ _ (reading-shut (a .s) (a .own) (a .p) (a .area .now) (a .room .now) (c .before .before .before .before .before .before .roomy .result) (c .before .before .before .before .before .before .roomy .ensures)
+    ends-three _ _ (reading-shut (a .s) (a .own) (a .p) (a .area .now) (a .room .now) (x .roomy .result) (x .roomy .ensures)
     (unchanged (refused (number n)) (recordOf (a .p) (a .area .now)) (a .room .now) [])
-    (gated-shut (a .s) (a .p) (a .area .now) (c .before .before .before .before .before .before .roomy .result) (ltb (a .own) (a .s .m)) (c .before .before .before .admit .result) (c .before .before .before .admit .ensures) n (c .before .g .given .1)
+    (gated-shut (a .s) (a .p) (a .area .now) (x .roomy .result) (ltb (a .own) (a .s .m)) (c .before .before .before .admit .result) (c .before .before .before .admit .ensures) n
+    (c .before .g .given .1)
     (a .room .now) [] (λ k. beginReading k (a .room .now))))
 
 enum-told : tie.Need-enum-told
@@ -97,7 +102,7 @@ returns-3 : tie.Need-returns-3
 returns-3 c =
     let a = c .before .before .before .before .before .before .before .before .before .before .before .before .args in
     let d = (c .before .before) in
-    ends-three _ _ (reading-busy (a .s) (a .own) (a .p) (a .area .now) (opened d) (a .room .now) (long d) (c .if2 .taken))
+    ends-three _ _ (reading-busy (a .s) (a .own) (a .p) (a .area .now) (opened d) (enters d .1) (a .room .now) (long d) (c .if2 .taken))
 
 next-requires : tie.Need-next-requires
 next-requires c κs = search needs
@@ -113,34 +118,45 @@ same-length-3 c = search needs
 
 returns-4 : tie.Need-returns-4
 returns-4 c =
-    let a = c .before .before .before .before .before .before .before .before .before .before .before .before .before .before .before .before .args in
-    let d = (c .before .before .before .before .before .before) in
-    ends-three _ _ (reading-spent (a .s) (a .own) (a .p) (a .area .now) (opened d) (a .room .now) (long d) (c .before .before .before .before .if2 .left) (sym (c .before .before .next .ensures) ∙ c .enum-told2 .given .1))
+    let x = c .before .before .before .before .before .before in
+    let y = x .before .before .before .before .before .before in
+    let a = y .before .before .before .before .args in
+    let d = x in
+    ends-three _ _ (reading-spent (a .s) (a .own) (a .p) (a .area .now) (opened d) (enters d .1) (a .room .now) (long d) (c .before .before .before .before .if2 .left)
+    (sym (c .before .before .next .ensures) ∙ c .enum-told2 .given .1))
 
 slice-write-room : tie.Need-slice-write-room
 slice-write-room c = let l = room-long (c .before .before .before .before .before .before .before) in omega (arith, l)
 
 put-u32-requires : tie.Need-put-u32-requires
-put-u32-requires c κs = let l = room-long (c .before .before .before .before .before .before .before .before) in omega (arith, l, length-set (c .before .before .before .before .before .before .before .before .before .before .before .before .before .before .before .before .before .before .args .room .now) 0 8)
+put-u32-requires c κs =
+    let x = c .before .before .before .before .before .before in
+    let z = x .before .before .before .before .before .before .before .before .before .before .before .before in
+    let l = room-long (x .before .before) in omega (arith, l, length-set (z .args .room .now) 0 8)
 
 same-length-4 : tie.Need-same-length-4
 same-length-4 c = search needs
 
 same-length-5 : tie.Need-same-length-5
 same-length-5 c =
-    let room = c .before .before .before .before .before .before .before .before .before .before .before .before .before .before .before .before .before .before .before .before .before .args .room .now in
+    let x = c .before .before .before .before .before .before in
+    let z = x .before .before .before .before .before .before .before .before .before .before .before .before in
+    let room = z .before .before .before .args .room .now in
     let i = c .before .before .before .before .before .next2 .given .0 .0 .0 in
-    let l = room-long (c .before .before .before .before .before .before .before .before .before .before .before) in
+    let l = room-long (x .before .before .before .before .before) in
     ap length (c .before .before .put-u32 .ensures)
     ∙ length-paste (set room 0 8) 1 (writeNumber 4 i) 4 (omega (arith, l, length-set room 0 8)) (omega (arith, length-number 4 i))
     ∙ length-set room 0 8
 
 returns-5 : tie.Need-returns-5
 returns-5 c =
-    let a = c .before .before .before .before .before .before .before .before .before .before .before .before .before .before .before .before .before .before .before .before .before .args in
-    let d = (c .before .before .before .before .before .before .before .before .before .before .before) in
-    let e = ends-three _ _ (reading-raised (a .s) (a .own) (a .p) (a .area .now) (opened d) (a .room .now) (long d) (c .before .before .before .before .before .before .before .before .before .if2 .left) (c .before .before .before .before .before .next2 .given .0 .0)
-    (sym (c .before .before .before .before .before .before .before .next .ensures) ∙ c .before .before .before .before .before .next2 .given .1) (room-long d))
+    let x = c .before .before .before .before .before .before in
+    let z = x .before .before .before .before .before .before .before .before .before .before .before .before in
+    let a = z .before .before .before .args in
+    let d = (x .before .before .before .before .before) in
+    let e = ends-three _ _ (reading-raised (a .s) (a .own) (a .p) (a .area .now) (opened d) (enters d .1) (a .room .now) (long d) (x .before .before .before .if2 .left)
+    (c .before .before .before .before .before .next2 .given .0 .0)
+    (sym (x .before .next .ensures) ∙ c .before .before .before .before .before .next2 .given .1) (room-long d))
     in
     (e .0, e .1, c .before .before .put-u32 .ensures ∙ e .2)
 

@@ -25,16 +25,17 @@ measured c = sym (c .before .pass .ensures) ∙ not-false (c .before .pass .resu
 enters : (c : tie.After-enum-told) → let a = c .before .before .before .before .before .before .before .before .before .before .args in
     (c .before .before .before .before .before .roomy .result ≡ true) × (ltb (a .own) (a .s .m) ≡ true) × (isSome (readClient (a .s) (recordOf (a .p) (a .area .now))) ≡ true)
 enters c =
-    let a = c .before .before .before .before .before .before .before .before .before .before .args in
-    gated-open (a .s) (a .p) (a .area .now) (c .before .before .before .before .before .roomy .result) (ltb (a .own) (a .s .m)) (c .before .before .admit .result) (c .before .before .admit .ensures) (c .enum-told .given .1)
+    let x = c .before .before .before .before .before .before in
+    let a = x .before .before .before .before .args in
+    gated-open (a .s) (a .p) (a .area .now) (c .before .before .before .before .before .roomy .result) (ltb (a .own) (a .s .m)) (c .before .before .admit .result)
+    (c .before .before .admit .ensures) (c .enum-told .given .1)
 
-opened : (c : tie.After-enum-told) → let a = c .before .before .before .before .before .before .before .before .before .before .args in Opened (a .s) (a .own) (a .p) (a .area .now)
+opened : (c : tie.After-enum-told) → let a = c .before .before .before .before .before .before .before .before .before .before .args in Opened (a .s) (a .p) (a .area .now)
 opened c =
     let a = c .before .before .before .before .before .before .before .before .before .before .args in
     let e = enters c in
     record {
       measures = measured ((c .before .before .before .before .before .before));
-      within = e .1;
       step = omega arith;
       reading = omega arith;
       bytes = λ i. c .before .before .before .before .before .before .before .before .before .slice-known .given i .fits;
@@ -43,7 +44,9 @@ opened c =
 
 long : (c : tie.After-enum-told) → let a = c .before .before .before .before .before .before .before .before .before .before .args in
     (leb (clientSize (a .s)) (length (recordOf (a .p) (a .area .now))) && leb (roomSize (a .s)) (length (a .room .now))) ≡ true
-long c = let a = c .before .before .before .before .before .before .before .before .before .before .args in both-long (a .s) (a .own) (a .p) (a .area .now) (a .room .now) ∙ sym (c .before .before .before .before .before .roomy .ensures) ∙ enters c .0
+long c =
+    let x = c .before .before .before .before .before .before in
+    let a = x .before .before .before .before .args in both-long (a .s) (a .own) (a .p) (a .area .now) (a .room .now) ∙ sym (c .before .before .before .before .before .roomy .ensures) ∙ enters c .0
 
 pass-requires : tie.Need-pass-requires
 pass-requires c κs = search needs
@@ -70,11 +73,13 @@ same-length c = search needs
 
 returns-2 : tie.Need-returns-2
 returns-2 c =
-    let a = c .before .before .before .before .before .before .before .before .before .before .before .args in
+    let x = c .before .before .before .before .before .before in
+    let a = x .before .before .before .before .before .args in
     let n = c .before .g .given .0 .0 in
-    ends-three _ _ (update-shut (a .s) (a .own) (a .p) (a .area .now) (a .room .now) (c .before .before .before .before .before .before .roomy .result) (c .before .before .before .before .before .before .roomy .ensures)
+    ends-three _ _ (update-shut (a .s) (a .own) (a .p) (a .area .now) (a .room .now) (x .roomy .result) (x .roomy .ensures)
     (unchanged (refused (number n)) (recordOf (a .p) (a .area .now)) (a .room .now) [])
-    (gated-shut (a .s) (a .p) (a .area .now) (c .before .before .before .before .before .before .roomy .result) (ltb (a .own) (a .s .m)) (c .before .before .before .admit .result) (c .before .before .before .admit .ensures) n (c .before .g .given .1)
+    (gated-shut (a .s) (a .p) (a .area .now) (x .roomy .result) (ltb (a .own) (a .s .m)) (c .before .before .before .admit .result) (c .before .before .before .admit .ensures) n
+    (c .before .g .given .1)
     (a .room .now) [] (λ k. acknowledgedAt k (a .room .now) (k .phase))))
 
 enum-told : tie.Need-enum-told
@@ -87,7 +92,7 @@ returns-3 : tie.Need-returns-3
 returns-3 c =
     let a = c .before .before .before .before .before .before .before .before .before .before .before .before .before .args in
     let d = (c .before .before .before) in
-    ends-three _ _ (update-freezing (a .s) (a .own) (a .p) (a .area .now) (opened d) (a .room .now) (long d) (c .if2 .taken))
+    ends-three _ _ (update-freezing (a .s) (a .own) (a .p) (a .area .now) (opened d) (enters d .1) (a .room .now) (long d) (c .if2 .taken))
 
 same-length-3 : tie.Need-same-length-3
 same-length-3 c = search needs
@@ -96,7 +101,7 @@ returns-4 : tie.Need-returns-4
 returns-4 c =
     let a = c .before .before .before .before .before .before .before .before .before .before .before .before .before .before .before .args in
     let d = (c .before .before .before .before .before) in
-    ends-three _ _ (update-picking (a .s) (a .own) (a .p) (a .area .now) (opened d) (a .room .now) (long d) (c .if3 .taken))
+    ends-three _ _ (update-picking (a .s) (a .own) (a .p) (a .area .now) (opened d) (enters d .1) (a .room .now) (long d) (c .if3 .taken))
 
 same-length-4 : tie.Need-same-length-4
 same-length-4 c = search needs
@@ -105,7 +110,7 @@ returns-5 : tie.Need-returns-5
 returns-5 c =
     let a = c .before .before .before .before .before .before .before .before .before .before .before .before .before .before .before .args in
     let d = (c .before .before .before .before .before) in
-    ends-three _ _ (update-other (a .s) (a .own) (a .p) (a .area .now) (opened d) (a .room .now) (long d) (c .before .before .if2 .left) (c .if3 .left))
+    ends-three _ _ (update-other (a .s) (a .own) (a .p) (a .area .now) (opened d) (enters d .1) (a .room .now) (long d) (c .before .before .if2 .left) (c .if3 .left))
 
 pub update-answer-spec : {M : Type 1} → statement M
 update-answer-spec =

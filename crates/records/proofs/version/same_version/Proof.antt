@@ -2,8 +2,8 @@ use mathlib.Core.Path.{sym, ap, _∙_}
 use mathlib.Core.Bool.{Bool, not, _||_}
 use Rattle.protocol.specs.Version.{below}
 use borrow.Author.Needs.{needs}
-use Rattle.client.proofs.reply.same_version.Statement.{statement}
-use Rattle.client.proofs.reply.same_version.Tie as tie
+use Rattle.records.proofs.version.same_version.Statement.{statement}
+use Rattle.records.proofs.version.same_version.Tie as tie
 
 below-requires : tie.Need-below-requires
 below-requires c κs = search needs

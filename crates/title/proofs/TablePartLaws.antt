@@ -1,0 +1,80 @@
+-- The directory's and a node's table in the memory: what an event at the party leaves.
+use mathlib.Core.Path.{_≡_, refl, ap, _∙_}
+use mathlib.Core.Bool.{true}
+use mathlib.Core.List.{List, _++_}
+use Prim.Native.Nat.{ℕ, _-_, _<_, _≤_}
+use native.Mathlib.Nat.{mul-le-mul}
+use native.Mathlib.Omega.{arith}
+use lib.ListN.{length, take, drop}
+use Rattle.protocol.specs.declared.measures.Measures.{Measures}
+use Rattle.protocol.specs.Measures.{passes, rowSize}
+use Rattle.protocol.specs.Answer.{Served, refuses}
+use Rattle.protocol.specs.DirectoryEvents.{DirectoryEnd, directorySize, directoryUpdate, directoryScan}
+use Rattle.protocol.specs.NodeEvents.{NodeEnd, tableSize, nodeMessage}
+use Rattle.title.specs.Memory.{directoryIn, tableAt, tableIn, Put}
+use Rattle.title.specs.Part.{Refuses, measures, short, Stands}
+use Rattle.title.proofs.MemoryLaws.{sizes, part-lacks, put-kept, part-lent, put-back}
+
+-- ---- an event that is refused by the memory alone
+
+module _ (s : Measures) (memory : List ℕ) where
+  directory-some : passes s ≡ true → 0 < directorySize s
+  directory-some h = let r : 1 ≤ rowSize s = omega arith in mul-le-mul (sizes s h .clients .0) r
+
+  pub update-refused : (c n : ℕ) → Refuses s (length memory) n → (fields : List ℕ) → let e = directoryUpdate s c (directoryIn s memory) fields in
+      (refuses n ≡ e .answer) × Put memory 0 (directoryIn s memory) (e .table) memory
+  unfolding directoryUpdate
+  update-refused c _ (measures h) fields = rw h (refl, put-kept s 0 (directorySize s) memory (directoryIn s memory) refl)
+  update-refused c _ (short h l) fields =
+      rw (h, part-lacks s 0 (directorySize s) memory l (directory-some h)) (refl, put-kept s 0 (directorySize s) memory (directoryIn s memory) refl)
+
+  pub scan-refused : (n : ℕ) → Refuses s (length memory) n → (room : List ℕ) → let e = directoryScan s (directoryIn s memory) room in
+      (refuses n ≡ e .answer) × (room ≡ e .room)
+  unfolding directoryScan
+  scan-refused _ (measures h) room = rw h (refl, refl)
+  scan-refused _ (short h l) room = rw (h, part-lacks s 0 (directorySize s) memory l (directory-some h)) (refl, refl)
+
+  pub node-refused : (i n : ℕ) → Refuses s (length memory) n → (message room : List ℕ) → let e = nodeMessage s i (tableIn s i memory) message room in
+      (refuses n ≡ e .answer) × Put memory (tableAt s i) (tableIn s i memory) (e .table) memory × (room ≡ e .room)
+  unfolding nodeMessage
+  node-refused i _ (measures h) message room = rw h (refl, put-kept s (tableAt s i) (tableSize s) memory (tableIn s i memory) refl, refl)
+  node-refused i _ (short h l) message room =
+      rw (h, part-lacks s (tableAt s i) (tableSize s) memory l (omega arith))
+      (refl, put-kept s (tableAt s i) (tableSize s) memory (tableIn s i memory) refl, refl)
+
+-- ---- an event that the party is handed: what it says of the part lent, said of the part in the memory
+
+module _ (s : Measures) (memory : List ℕ) (a b : ℕ) where
+  module _ (z : Stands s (length memory) 0 (directorySize s) a b) (f : List ℕ → DirectoryEnd) where
+    directory-same : f (take (b - a) (drop a memory)) ≡ f (directoryIn s memory)
+    directory-same = ap f (part-lent s 0 (directorySize s) memory a b z)
+
+    pub directory-updated : (x : Served) (lent : List ℕ) → length lent ≡ length (take (b - a) (drop a memory))
+        → (let e = f (take (b - a) (drop a memory)) in (x ≡ e .answer) × (lent ≡ e .table))
+        → (x ≡ f (directoryIn s memory) .answer)
+        × Put memory 0 (directoryIn s memory) (f (directoryIn s memory) .table) (take a memory ++ (lent ++ drop (b - a) (drop a memory)))
+    directory-updated x lent l h = (
+      h .0 ∙ ap (λ (e : DirectoryEnd). e .answer) directory-same,
+      put-back s 0 (directorySize s) memory a b z lent (f (directoryIn s memory) .table) l (h .1 ∙ ap (λ (e : DirectoryEnd). e .table) directory-same),
+    )
+
+    pub directory-scanned : (x : Served) (room : List ℕ)
+        → (let e = f (take (b - a) (drop a memory)) in (x ≡ e .answer) × (room ≡ e .room))
+        → (x ≡ f (directoryIn s memory) .answer) × (room ≡ f (directoryIn s memory) .room)
+    directory-scanned x room h = (
+      h .0 ∙ ap (λ (e : DirectoryEnd). e .answer) directory-same,
+      h .1 ∙ ap (λ (e : DirectoryEnd). e .room) directory-same,
+    )
+
+  pub node-told : (i : ℕ) → Stands s (length memory) (tableAt s i) (tableSize s) a b → (f : List ℕ → NodeEnd) (x : Served) (lent room : List ℕ)
+      → length lent ≡ length (take (b - a) (drop a memory))
+      → (let e = f (take (b - a) (drop a memory)) in (x ≡ e .answer) × (lent ≡ e .table) × (room ≡ e .room))
+      → (x ≡ f (tableIn s i memory) .answer)
+      × Put memory (tableAt s i) (tableIn s i memory) (f (tableIn s i memory) .table) (take a memory ++ (lent ++ drop (b - a) (drop a memory)))
+      × (room ≡ f (tableIn s i memory) .room)
+  node-told i z f x lent room l h =
+      let same : f (take (b - a) (drop a memory)) ≡ f (tableIn s i memory) = ap f (part-lent s (tableAt s i) (tableSize s) memory a b z) in (
+        h .0 ∙ ap (λ (e : NodeEnd). e .answer) same,
+        put-back s (tableAt s i) (tableSize s) memory a b z lent (f (tableIn s i memory) .table) l (h .1 ∙ ap (λ (e : NodeEnd). e .table) same),
+        h .2 ∙ ap (λ (e : NodeEnd). e .room) same,
+      )

@@ -1,0 +1,4 @@
+pub mod Memory
+pub mod Part
+pub mod Service
+pub mod ServiceClaim

@@ -1,0 +1,3 @@
+pub mod fresh;
+mod memory;
+pub mod title;

@@ -1,0 +1,168 @@
+// One page's tables and records in lent memory.
+use client::phase::Phase;
+use protocol::measures::Measures;
+use protocol::version::ReadingIndex;
+use records::answer::Refusal;
+use records::bytes::put_u32;
+use records::bytes::u32_at;
+use records::form::row_size;
+ghost use mathlib.Core.Path.{_≡_};
+ghost use mathlib.Core.Bool.{true};
+ghost use mathlib.Core.List.{[]};
+ghost use Prim.Native.Nat.{_+_, _*_, _≤_};
+ghost use lib.ListN.{length, drop};
+ghost use Rattle.protocol.specs.Measures.{passes};
+ghost use Rattle.protocol.specs.DirectoryEvents.{directorySize};
+ghost use Rattle.protocol.specs.NodeEvents.{tableSize};
+ghost use Rattle.protocol.specs.Client.{clientSize};
+ghost use Rattle.records.specs.Places.{splice};
+ghost use Rattle.client.specs.Record.{recordOf};
+ghost use Rattle.title.specs.Memory.{memorySize, tableAt, recordAt};
+ghost use Rattle.title.specs.Part.{Placed};
+
+// Where a part of the memory stands.
+pub enum Part {
+    // From the first place to the second.
+    Within(usize, usize),
+    Refused(Refusal),
+}
+
+fn directory_size(s: Measures) -> usize
+    requires { ⌜ passes s ≡ true ⌝ }
+    ensures { λ r. ⌜ r ≡ directorySize s ⌝ }
+{
+    let size = row_size(s);
+    s.m * size
+}
+
+pub fn table_size(s: Measures) -> usize
+    requires { ⌜ passes s ≡ true ⌝ }
+    ensures { λ r. ⌜ r ≡ tableSize s ⌝ }
+{
+    2 + 2 * (s.m * s.m) * (7 + s.f)
+}
+
+pub fn record_size(s: Measures) -> usize
+    requires { ⌜ passes s ≡ true ⌝ }
+    ensures { λ r. ⌜ r ≡ clientSize s ⌝ }
+{
+    let pointer = 7 + 32 * (s.t + s.k);
+    let work = pointer + 4 + s.n * (34 + s.f);
+    5 + ((s.m + 1) * pointer + 9 * s.m + work)
+}
+
+// Where the records begin.
+pub fn records_at(s: Measures) -> usize
+    requires { ⌜ passes s ≡ true ⌝ }
+    ensures { λ r. ⌜ r ≡ directorySize s + s .n * tableSize s ⌝ }
+{
+    let directory = directory_size(s);
+    let table = table_size(s);
+    directory + s.n * table
+}
+
+fn memory_size(s: Measures) -> usize
+    requires { ⌜ passes s ≡ true ⌝ }
+    ensures { λ r. ⌜ r ≡ memorySize s ⌝ }
+{
+    let tables = records_at(s);
+    let record = record_size(s);
+    tables + s.m * record
+}
+
+// Node i's table; of a number out of bounds the first one's place.
+fn table_at(s: Measures, i: usize) -> usize
+    requires { ⌜ passes s ≡ true ⌝ }
+    ensures { λ r. ⌜ r ≡ tableAt s i ⌝ }
+{
+    let directory = directory_size(s);
+    if i < 1 {
+        return directory;
+    }
+    if s.n < i {
+        return directory;
+    }
+    let table = table_size(s);
+    directory + (i - 1) * table
+}
+
+// Client c's record, likewise.
+fn record_at(s: Measures, c: usize) -> usize
+    requires { ⌜ passes s ≡ true ⌝ }
+    ensures { λ r. ⌜ r ≡ recordAt s c ⌝ }
+{
+    let tables = records_at(s);
+    if s.m <= c {
+        return tables;
+    }
+    let record = record_size(s);
+    tables + c * record
+}
+
+// The directory in a memory of so many bytes.
+pub fn directory_part(s: Measures, len: usize) -> Part
+    ensures { λ r. ⌜ Placed s len 0 (directorySize s) r ⌝ }
+{
+    if !s.pass() {
+        return Part::Refused(Refusal::Measures);
+    }
+    let size = memory_size(s);
+    if len < size {
+        return Part::Refused(Refusal::Short);
+    }
+    let directory = directory_size(s);
+    Part::Within(0, directory)
+}
+
+// Node i's table, likewise.
+pub fn table_part(s: Measures, i: usize, len: usize) -> Part
+    ensures { λ r. ⌜ Placed s len (tableAt s i) (tableSize s) r ⌝ }
+{
+    if !s.pass() {
+        return Part::Refused(Refusal::Measures);
+    }
+    let size = memory_size(s);
+    if len < size {
+        return Part::Refused(Refusal::Short);
+    }
+    let at = table_at(s, i);
+    let table = table_size(s);
+    Part::Within(at, at + table)
+}
+
+// Client c's record, likewise.
+pub fn record_part(s: Measures, c: usize, len: usize) -> Part
+    ensures { λ r. ⌜ Placed s len (recordAt s c) (clientSize s) r ⌝ }
+{
+    if !s.pass() {
+        return Part::Refused(Refusal::Measures);
+    }
+    let size = memory_size(s);
+    if len < size {
+        return Part::Refused(Refusal::Short);
+    }
+    let at = record_at(s, c);
+    let record = record_size(s);
+    Part::Within(at, at + record)
+}
+
+// The phase at the front of a record.
+pub fn phase_at(t: &[u8], at: usize) -> Phase
+    requires { ⌜ at + 5 ≤ length (now t) ⌝ }
+    ensures { λ r. ⌜ drop at (now (t .entry)) ≡ recordOf r (drop (at + 5) (now (t .entry))) ⌝ }
+{
+    let i = u32_at(t, at + 1);
+    Phase {
+        step: t[at],
+        reading: ReadingIndex(i),
+    }
+}
+
+pub fn put_phase(t: &mut [u8], at: usize, p: Phase)
+    requires { ⌜ at + 5 ≤ length (now t) ⌝ }
+    ensures { λ _. ⌜ now (t .exit) ≡ splice (now (t .entry)) at (recordOf p []) ⌝ }
+{
+    let i = p.reading;
+    t[at] = p.step;
+    put_u32(t, at + 1, i.0);
+}

@@ -1,0 +1,171 @@
+// The title service: each event is handed to the party that it is for.
+use crate::memory::Part;
+use crate::memory::directory_part;
+use crate::memory::phase_at;
+use crate::memory::put_phase;
+use crate::memory::record_part;
+use crate::memory::table_part;
+use client::answer::ClientAnswer;
+use client::turn::message as client_message;
+use client::turn::scan_answer;
+use client::turn::start_deposit;
+use client::turn::start_reading;
+use client::turn::update_answer;
+use parties::answer::Service;
+use parties::directory::scan as directory_scan;
+use parties::directory::update as directory_update;
+use parties::node::message as node_message;
+use protocol::measures::Measures;
+ghost use mathlib.Core.Path.{_≡_};
+ghost use Rattle.protocol.specs.ClientEvents.{startDeposit, startReading, updateAnswer, scanAnswer, clientMessage};
+ghost use Rattle.protocol.specs.DirectoryEvents.{directoryUpdate, directoryScan};
+ghost use Rattle.protocol.specs.NodeEvents.{nodeMessage};
+ghost use Rattle.parties.specs.Answer.{served};
+ghost use Rattle.client.specs.Answer.{answered};
+ghost use Rattle.title.specs.Memory.{Put, directoryIn, tableAt, tableIn, recordAt, recordIn};
+
+// The start of a deposit at client c.
+pub fn deposit(s: Measures, c: usize, memory: &mut [u8], page: &[u8]) -> ClientAnswer
+    ensures { λ r. ⌜ (answered r ≡ startDeposit s c (recordIn s c (now (memory .entry))) (now (page .entry)) .answer)
+        × Put (now (memory .entry)) (recordAt s c) (recordIn s c (now (memory .entry))) (startDeposit s c (recordIn s c (now (memory .entry))) (now (page .entry)) .client) (now (memory .exit)) ⌝ }
+{
+    let part = record_part(s, c, memory.len());
+    match part {
+        Part::Refused(r) => ClientAnswer::Refused(r),
+        Part::Within(at, to) => {
+            let p = phase_at(memory, at);
+            let from = at + 5;
+            let t = start_deposit(p, s, c, &mut memory[from..to], page);
+            put_phase(memory, at, t.phase);
+            t.answer
+        }
+    }
+}
+
+// The start of a reading at client c.
+pub fn read(s: Measures, c: usize, memory: &mut [u8], room: &mut [u8]) -> ClientAnswer
+    ensures { λ r. ⌜ (answered r ≡ startReading s c (recordIn s c (now (memory .entry))) (now (room .entry)) .answer)
+        × Put (now (memory .entry)) (recordAt s c) (recordIn s c (now (memory .entry))) (startReading s c (recordIn s c (now (memory .entry))) (now (room .entry)) .client) (now (memory .exit))
+        × (now (room .exit) ≡ startReading s c (recordIn s c (now (memory .entry))) (now (room .entry)) .room) ⌝ }
+{
+    let part = record_part(s, c, memory.len());
+    match part {
+        Part::Refused(r) => ClientAnswer::Refused(r),
+        Part::Within(at, to) => {
+            let p = phase_at(memory, at);
+            let from = at + 5;
+            let t = start_reading(p, s, c, &mut memory[from..to], room);
+            put_phase(memory, at, t.phase);
+            t.answer
+        }
+    }
+}
+
+// The directory's acknowledgement of client c's update, handed to the client.
+pub fn updated(s: Measures, c: usize, memory: &mut [u8], room: &mut [u8]) -> ClientAnswer
+    ensures { λ r. ⌜ (answered r ≡ updateAnswer s c (recordIn s c (now (memory .entry))) (now (room .entry)) .answer)
+        × Put (now (memory .entry)) (recordAt s c) (recordIn s c (now (memory .entry))) (updateAnswer s c (recordIn s c (now (memory .entry))) (now (room .entry)) .client) (now (memory .exit))
+        × (now (room .exit) ≡ updateAnswer s c (recordIn s c (now (memory .entry))) (now (room .entry)) .room) ⌝ }
+{
+    let part = record_part(s, c, memory.len());
+    match part {
+        Part::Refused(r) => ClientAnswer::Refused(r),
+        Part::Within(at, to) => {
+            let p = phase_at(memory, at);
+            let from = at + 5;
+            let t = update_answer(p, s, c, &mut memory[from..to], room);
+            put_phase(memory, at, t.phase);
+            t.answer
+        }
+    }
+}
+
+// The rows of client c's scan, handed to the client.
+pub fn scanned(
+    s: Measures,
+    c: usize,
+    memory: &mut [u8],
+    rows: &[u8],
+    room: &mut [u8],
+) -> ClientAnswer
+    ensures { λ r. ⌜ (answered r ≡ scanAnswer s c (recordIn s c (now (memory .entry))) (now (rows .entry)) (now (room .entry)) .answer)
+        × Put (now (memory .entry)) (recordAt s c) (recordIn s c (now (memory .entry))) (scanAnswer s c (recordIn s c (now (memory .entry))) (now (rows .entry)) (now (room .entry)) .client) (now (memory .exit))
+        × (now (room .exit) ≡ scanAnswer s c (recordIn s c (now (memory .entry))) (now (rows .entry)) (now (room .entry)) .room) ⌝ }
+{
+    let part = record_part(s, c, memory.len());
+    match part {
+        Part::Refused(r) => ClientAnswer::Refused(r),
+        Part::Within(at, to) => {
+            let p = phase_at(memory, at);
+            let from = at + 5;
+            let t = scan_answer(p, s, c, &mut memory[from..to], rows, room);
+            put_phase(memory, at, t.phase);
+            t.answer
+        }
+    }
+}
+
+// A message from node i to client c.
+pub fn to_client(
+    s: Measures,
+    c: usize,
+    i: usize,
+    memory: &mut [u8],
+    message: &[u8],
+    room: &mut [u8],
+    out: &mut [u8],
+) -> ClientAnswer
+    ensures { λ r. ⌜ (answered r ≡ clientMessage s c i (recordIn s c (now (memory .entry))) (now (message .entry)) (now (room .entry)) (now (out .entry)) .answer)
+        × Put (now (memory .entry)) (recordAt s c) (recordIn s c (now (memory .entry))) (clientMessage s c i (recordIn s c (now (memory .entry))) (now (message .entry)) (now (room .entry)) (now (out .entry)) .client) (now (memory .exit))
+        × (now (room .exit) ≡ clientMessage s c i (recordIn s c (now (memory .entry))) (now (message .entry)) (now (room .entry)) (now (out .entry)) .room)
+        × (now (out .exit) ≡ clientMessage s c i (recordIn s c (now (memory .entry))) (now (message .entry)) (now (room .entry)) (now (out .entry)) .out) ⌝ }
+{
+    let part = record_part(s, c, memory.len());
+    match part {
+        Part::Refused(r) => ClientAnswer::Refused(r),
+        Part::Within(at, to) => {
+            let p = phase_at(memory, at);
+            let from = at + 5;
+            let t = client_message(p, s, c, i, &mut memory[from..to], message, room, out);
+            put_phase(memory, at, t.phase);
+            t.answer
+        }
+    }
+}
+
+// Client c's update, carried out at the directory.
+pub fn update(s: Measures, c: usize, memory: &mut [u8], fields: &[u8]) -> Service
+    ensures { λ r. ⌜ (served r ≡ directoryUpdate s c (directoryIn s (now (memory .entry))) (now (fields .entry)) .answer)
+        × Put (now (memory .entry)) 0 (directoryIn s (now (memory .entry))) (directoryUpdate s c (directoryIn s (now (memory .entry))) (now (fields .entry)) .table) (now (memory .exit)) ⌝ }
+{
+    let part = directory_part(s, memory.len());
+    match part {
+        Part::Refused(r) => Service::Refused(r),
+        Part::Within(at, to) => directory_update(s, c, &mut memory[at..to], fields),
+    }
+}
+
+// A scan of the directory.
+pub fn scan(s: Measures, memory: &[u8], room: &mut [u8]) -> Service
+    ensures { λ r. ⌜ (served r ≡ directoryScan s (directoryIn s (now (memory .entry))) (now (room .entry)) .answer)
+        × (now (room .exit) ≡ directoryScan s (directoryIn s (now (memory .entry))) (now (room .entry)) .room) ⌝ }
+{
+    let part = directory_part(s, memory.len());
+    match part {
+        Part::Refused(r) => Service::Refused(r),
+        Part::Within(at, to) => directory_scan(s, &memory[at..to], room),
+    }
+}
+
+// A message to node i.
+pub fn to_node(s: Measures, i: usize, memory: &mut [u8], message: &[u8], room: &mut [u8]) -> Service
+    ensures { λ r. ⌜ (served r ≡ nodeMessage s i (tableIn s i (now (memory .entry))) (now (message .entry)) (now (room .entry)) .answer)
+        × Put (now (memory .entry)) (tableAt s i) (tableIn s i (now (memory .entry))) (nodeMessage s i (tableIn s i (now (memory .entry))) (now (message .entry)) (now (room .entry)) .table) (now (memory .exit))
+        × (now (room .exit) ≡ nodeMessage s i (tableIn s i (now (memory .entry))) (now (message .entry)) (now (room .entry)) .room) ⌝ }
+{
+    let part = table_part(s, i, memory.len());
+    match part {
+        Part::Refused(r) => Service::Refused(r),
+        Part::Within(at, to) => node_message(s, i, &mut memory[at..to], message, room),
+    }
+}
