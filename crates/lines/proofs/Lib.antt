@@ -1,0 +1,5 @@
+pub mod WordsLaws
+pub mod ReadLaws
+pub mod CommandLaws
+pub mod TextLaws
+pub mod SentencesLaws

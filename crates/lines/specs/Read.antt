@@ -1,0 +1,73 @@
+-- What the code keeps of the front of a line.
+use mathlib.Core.Path.{_≡_}
+use mathlib.Core.Bool.{true, cond, _&&_}
+use mathlib.Core.List.{List, [], _∷_, _++_}
+use Prim.Native.Nat.{ℕ, _+_, _-_, _*_, min}
+use lib.Dec.{ltb, eqb}
+use lib.ListN.{length, set}
+use Rattle.lines.specs.declared.read.Reading.{Reading}
+use Rattle.lines.specs.declared.read.Page.{Page}
+use Rattle.lines.specs.Words.{words, first, later, every, odd, limit, digit, decimal, hexValue, hexDigit, hexBytes, packed, between}
+use Rattle.lines.specs.Line.{numbersOf, Kept}
+
+-- ---- what each of its functions leaves
+
+abbrev pub counted : ℕ → ℕ
+counted n = cond (ltb n 8) (n + 1) 8
+
+abbrev pub packedWith : ℕ → ℕ → ℕ → ℕ
+packedWith word len b = cond (ltb len 7 && ltb word 72057594037927936) (word * 256 + b) 0
+
+abbrev pub capped : ℕ → ℕ
+capped n = cond (ltb n limit) n limit
+
+abbrev pub valueWith : ℕ → ℕ → ℕ
+valueWith v b = cond (digit b) (capped (v * 10 + (b - 48))) limit
+
+abbrev pub nameFrom : ℕ → ℕ → ℕ → ℕ
+nameFrom words name word = cond (eqb words 1) word name
+
+abbrev pub numberFrom : ℕ → ℕ → ℕ
+numberFrom len value = cond (eqb len 0) limit value
+
+-- the word of this place ended: the 2nd to the 7th are numbers
+abbrev pub numbersWith : ℕ → List ℕ → ℕ → List ℕ
+numbersWith words numbers n = cond (between 2 7 words) (set numbers (words - 2) n) numbers
+
+abbrev pub pageFrom : Reading → Page
+pageFrom r =
+    cond (eqb (r .word) 1535139411065) (Page.Bytes 0)
+    (cond (r .hex) (cond (r .odd) Page.Nothing (cond (eqb (r .len) 0) Page.Nothing (Page.Bytes (r .bytes)))) Page.Nothing)
+
+-- ---- the word under way
+
+-- its value so far
+unfoldable pub valueOf : List ℕ → ℕ
+valueOf w = cond (every digit w) (capped (decimal 0 w)) limit
+
+-- the value of its last hex digit
+unfoldable pub highFrom : ℕ → List ℕ → ℕ
+highFrom h [] = h
+highFrom h (b ∷ w) = highFrom (hexValue b) w
+
+-- its hex digits' bytes so far are in the page
+pub record Paired (w : List ℕ) (r : Reading) (page : List ℕ) : Type 0 where
+  pub half : r .odd ≡ odd w
+  pub high : r .high ≡ highFrom 0 w
+  pub kept : Kept (hexBytes w) (r .bytes) page
+
+-- ---- the front p of a line was read: some words ended, and one is under way
+pub record Read (p : List ℕ) (r : Reading) (page : List ℕ) : Type 0 where
+  pub ended : List (List ℕ)
+  pub under : List ℕ
+  pub whole : words p ≡ ended ++ (under ∷ [])
+  pub count : r .words ≡ min 8 (length ended + 1)
+  pub opened : every (λ b. ltb b 256) (first ended) ≡ true
+  pub called : r .name ≡ cond (eqb (length ended) 0) 0 (packed (first ended))
+  pub given : r .numbers ≡ numbersOf 6 (later ended)
+  pub bytes : every (λ b. ltb b 256) under ≡ true
+  pub word : r .word ≡ packed under
+  pub long : r .len ≡ min 8 (length under)
+  pub value : r .value ≡ valueOf under
+  pub hex : r .hex ≡ every hexDigit under
+  pub pairs : every hexDigit under ≡ true → Paired under r page

@@ -1,0 +1,3 @@
+pub mod command;
+pub mod read;
+pub mod text;

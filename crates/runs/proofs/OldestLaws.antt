@@ -1,0 +1,46 @@
+-- Handing over the oldest parcel is the next event of a run.
+use mathlib.Core.Path.{_≡_, refl, sym, subst, subst⁻¹, _∙_}
+use mathlib.Core.List.{List, [], _∷_, _++_}
+use Prim.Native.Nat.{ℕ}
+use Rattle.protocol.specs.declared.measures.Measures.{Measures}
+use Rattle.protocol.specs.Run.{Event}
+use Rattle.runs.specs.declared.answer.Turn.{Turn}
+use Rattle.runs.specs.UnderWay.{After}
+use Rattle.runs.specs.Happens.{Lent, Happens}
+use Rattle.runs.specs.Oldest.{honestAll, Oldest, Continues}
+
+append-none : (es : List Event) → es ++ [] ≡ es
+append-none [] = refl
+append-none (e ∷ es) = rw (append-none es) refl
+
+append-more : (a b c : List Event) → (a ++ b) ++ c ≡ a ++ (b ++ c)
+append-more [] b c = refl
+append-more (e ∷ a) b c = rw (append-more a b c) refl
+
+module _ (s : Measures) where
+  -- nothing happens
+  pub continues-same : (es : List Event) (memory post memory′ post′ : List ℕ) (used : ℕ) → memory′ ≡ memory → post′ ≡ post
+      → After s honestAll es memory post used → Continues s es memory′ post′ used
+  continues-same es memory post memory′ post′ used e g h =
+      record { more = []; after = rw (append-none es) (rw (e, g) h) }
+
+  -- one run after another
+  pub continues-more : (es : List Event) (memory post memory′ post′ : List ℕ) (used used′ : ℕ) (c : Continues s es memory post used)
+      → (After s honestAll (es ++ c .more) memory post used → Continues s (es ++ c .more) memory′ post′ used′) → Continues s es memory′ post′ used′
+  continues-more es memory post memory′ post′ used used′ c f =
+      let d = f (c .after) in
+      record { more = c .more ++ d .more; after = subst (λ (l : List Event). After s honestAll l memory′ post′ used′) (append-more es (c .more) (d .more)) (d .after) }
+
+  pub happens-continues : (e : Event) (c i room used : ℕ) (x y : Lent) (turn : Turn) → Happens s honestAll e c i room used x y turn
+      → (es : List Event) → After s honestAll es (x .memory) (x .post) used → Continues s es (y .memory) (y .post) (turn .used)
+  happens-continues e c i room used x y turn (Happens.unready r u m p o) es h = continues-same es (x .memory) (x .post) (y .memory) (y .post) used m p h
+  happens-continues e c i room used x y turn (Happens.happens t l f) es h = record { more = e ∷ []; after = f es h .after }
+
+  pub oldest-continues : (used : ℕ) (room : List ℕ) (x y : Lent) (turn : Turn) → Oldest s used room x y turn
+      → (es : List Event) → After s honestAll es (x .memory) (x .post) used → Continues s es (y .memory) (y .post) (turn .used)
+  oldest-continues used room x y turn (Oldest.none u e) es h = rw e (continues-same es (x .memory) (x .post) (x .memory) (x .post) used refl refl h)
+  oldest-continues used room x y turn (Oldest.beyond u e) es h = rw e (continues-same es (x .memory) (x .post) (x .memory) (x .post) used refl refl h)
+  oldest-continues used room x y turn (Oldest.call t k o p) es h = happens-continues _ _ _ _ used _ _ turn p es h
+  oldest-continues used room x y turn (Oldest.return t k o p) es h = happens-continues _ _ _ _ used _ _ turn p es h
+  oldest-continues used room x y turn (Oldest.toNode t k o p) es h = happens-continues _ _ _ _ used _ _ turn p es h
+  oldest-continues used room x y turn (Oldest.toClient t k p) es h = happens-continues _ _ _ _ used _ _ turn p es h

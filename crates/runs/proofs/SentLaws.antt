@@ -1,0 +1,245 @@
+-- What a client's answer sends, in parcels, is what the run puts under way: calls, and messages to the nodes.
+use mathlib.Core.Path.{_≡_, refl, sym, ap, _∙_}
+use mathlib.Core.Bool.{Bool, true, false, cond, _&&_, false≢true}
+use mathlib.Core.List.{List, [], _∷_, _++_, append-nil, map}
+use mathlib.Core.Option.{Option, some, none}
+use Prim.Native.Nat.{ℕ, zero, suc, _+_, _-_, _*_, _≤_, _<_}
+use native.Mathlib.Omega.{arith}
+use native.Mathlib.Decide.{ℕ-discrete}
+use borrow.Author.Tests.{leb-true, le-leb}
+use lib.Dec.{leb}
+use lib.ListN.{length, take, drop, length-append, length-take, length-drop}
+use Rattle.protocol.specs.declared.measures.Measures.{Measures}
+use Rattle.protocol.specs.Measures.{passes}
+use Rattle.protocol.specs.Nodes.{stands}
+use Rattle.protocol.specs.Answer.{ClientAnswer, refused, waits, scan, update, stores, requests, deposited, empty, page, spent, failed}
+use Rattle.protocol.specs.ClientEvents.{ClientEnd, messageTo}
+use Rattle.protocol.specs.Run.{Call, called, sentTo, sends}
+use Rattle.protocol.proofs.MeasureLaws.{passed}
+use Rattle.title.proofs.PartLaws.{both-true}
+use Rattle.runs.specs.Parcels.{Parcel, properAll, keyed, bodies}
+use Rattle.runs.specs.Sent.{call, toNode, callBy, messageIn, messagesBy, sent}
+use Rattle.runs.specs.UnderWay.{callOf}
+use Rattle.runs.proofs.ParcelLaws.{bodies-++, body-keyed, body-other, keyed-by, not-kind, not-client, not-node, proper-++, proper-by, proper-one}
+
+abbrev inList : Option (List ℕ) → List (List ℕ)
+inList none = []
+inList (some m) = m ∷ []
+
+-- ---- what has another key is not among them
+
+module _ (k c i : ℕ) where
+  one-none : (x : Parcel) → keyed k c i x ≡ false → bodies k c i (x ∷ []) ≡ []
+  unfolding bodies
+  one-none x e = body-other k c i x [] e
+
+  both-none : (p q : List Parcel) → bodies k c i p ≡ [] → bodies k c i q ≡ [] → bodies k c i (p ++ q) ≡ []
+  both-none p q e f = bodies-++ k c i p q ∙ (λ j. e j ++ f j)
+
+  nothing-none : bodies k c i [] ≡ []
+  unfolding bodies
+  nothing-none = refl
+
+  call-none : (b : ℕ) (a : ClientAnswer) (room : List ℕ) → ((x : List ℕ) → keyed k c i (call b x) ≡ false) → bodies k c i (callBy b a room) ≡ []
+  call-none b (refused n) room e = nothing-none
+  call-none b waits room e = nothing-none
+  call-none b scan room e = one-none _ (e (0 ∷ []))
+  call-none b (update len) room e = one-none _ (e (1 ∷ take len room))
+  call-none b (stores v len) room e = nothing-none
+  call-none b (requests v nodes) room e = nothing-none
+  call-none b (deposited v len) room e = nothing-none
+  call-none b empty room e = nothing-none
+  call-none b (page v len) room e = nothing-none
+  call-none b spent room e = nothing-none
+  call-none b failed room e = nothing-none
+
+  message-none : (b j : ℕ) (m : Option (List ℕ)) → ((x : List ℕ) → keyed k c i (toNode b j x) ≡ false) → bodies k c i (messageIn b j m) ≡ []
+  message-none b j none e = nothing-none
+  message-none b j (some m) e = one-none _ (e m)
+
+  messages-none : (s : Measures) (b : ℕ) (a : ClientAnswer) (room : List ℕ) (n : ℕ)
+      → ((j : ℕ) → 1 ≤ j → j ≤ n → (x : List ℕ) → keyed k c i (toNode b j x) ≡ false) → bodies k c i (messagesBy s b a room n) ≡ []
+  unfolding messagesBy
+  messages-none s b a room zero e = nothing-none
+  messages-none s b a room (suc n) e =
+      both-none (messagesBy s b a room n) (messageIn b (suc n) (messageTo s a room (suc n)))
+      (messages-none s b a room n (λ j lo up. e j lo (omega arith)))
+      (message-none b (suc n) (messageTo s a room (suc n)) (e (suc n) (omega arith) (omega arith)))
+
+  sent-none : (s : Measures) (b : ℕ) (a : ClientAnswer) (room : List ℕ) → ((x : List ℕ) → keyed k c i (call b x) ≡ false)
+      → ((j : ℕ) (x : List ℕ) → keyed k c i (toNode b j x) ≡ false) → bodies k c i (sent s b a room) ≡ []
+  sent-none s b a room e f =
+      both-none (callBy b a room) (messagesBy s b a room (s .n)) (call-none b a room e) (messages-none s b a room (s .n) (λ j lo up. f j))
+
+module _ (s : Measures) (c : ℕ) (a : ClientAnswer) (room : List ℕ) where
+  -- no answers of calls and no messages to clients
+  pub sent-returns : (d i : ℕ) → bodies 1 d i (sent s c a room) ≡ []
+  sent-returns d i =
+      sent-none 1 d i s c a room (λ x. not-kind 0 c 0 1 d i (call c x) (keyed-by 0 c 0 x) (λ z. omega arith))
+      (λ j x. not-kind 2 c j 1 d i (toNode c j x) (keyed-by 2 c j x) (λ z. omega arith))
+
+  pub sent-to-clients : (d i : ℕ) → bodies 3 d i (sent s c a room) ≡ []
+  sent-to-clients d i =
+      sent-none 3 d i s c a room (λ x. not-kind 0 c 0 3 d i (call c x) (keyed-by 0 c 0 x) (λ z. omega arith))
+      (λ j x. not-kind 2 c j 3 d i (toNode c j x) (keyed-by 2 c j x) (λ z. omega arith))
+
+  -- nothing of another client
+  pub sent-other : (k d i : ℕ) → (c ≡ d → ⊥) → bodies k d i (sent s c a room) ≡ []
+  sent-other k d i n =
+      sent-none k d i s c a room (λ x. not-client 0 c 0 k d i (call c x) (keyed-by 0 c 0 x) n)
+      (λ j x. not-client 2 c j k d i (toNode c j x) (keyed-by 2 c j x) n)
+
+-- ---- calls
+
+own-call : (c : ℕ) (x : List ℕ) → bodies 0 c 0 (call c x ∷ []) ≡ x ∷ []
+unfolding bodies
+own-call c x = body-keyed 0 c 0 (call c x) [] (keyed-by 0 c 0 x)
+
+called-by : (c : ℕ) (a : ClientAnswer) (room : List ℕ) (q : List Call) → called a room q ≡ q ++ map callOf (bodies 0 c 0 (callBy c a room))
+unfolding bodies
+called-by c (refused n) room q = sym (append-nil q)
+called-by c waits room q = sym (append-nil q)
+called-by c scan room q = ap (λ (l : List (List ℕ)). q ++ map callOf l) (sym (own-call c (0 ∷ [])))
+called-by c (update len) room q = ap (λ (l : List (List ℕ)). q ++ map callOf l) (sym (own-call c (1 ∷ take len room)))
+called-by c (stores v len) room q = sym (append-nil q)
+called-by c (requests v nodes) room q = sym (append-nil q)
+called-by c (deposited v len) room q = sym (append-nil q)
+called-by c empty room q = sym (append-nil q)
+called-by c (page v len) room q = sym (append-nil q)
+called-by c spent room q = sym (append-nil q)
+called-by c failed room q = sym (append-nil q)
+
+pub sent-calls : (s : Measures) (c : ℕ) (a : ClientAnswer) (room : List ℕ) (q : List Call)
+    → called a room q ≡ q ++ map callOf (bodies 0 c 0 (sent s c a room))
+sent-calls s c a room q =
+    called-by c a room q
+    ∙ ap (λ (l : List (List ℕ)). q ++ map callOf l)
+    (sym (append-nil (bodies 0 c 0 (callBy c a room)))
+    ∙ ap (λ (l : List (List ℕ)). bodies 0 c 0 (callBy c a room) ++ l)
+    (sym (messages-none 0 c 0 s c a room (s .n) (λ j lo up x. not-kind 2 c j 0 c 0 (toNode c j x) (keyed-by 2 c j x) (λ z. omega arith))))
+    ∙ sym (bodies-++ 0 c 0 (callBy c a room) (messagesBy s c a room (s .n))))
+
+-- ---- messages to the nodes
+
+module _ (s : Measures) (c : ℕ) (a : ClientAnswer) (room : List ℕ) (i : ℕ) where
+  own-message : (m : Option (List ℕ)) → bodies 2 c i (messageIn c i m) ≡ inList m
+  unfolding bodies
+  own-message none = refl
+  own-message (some m) = body-keyed 2 c i (toNode c i m) [] (keyed-by 2 c i m)
+
+  other-messages : (n : ℕ) → ((j : ℕ) → 1 ≤ j → j ≤ n → j ≡ i → ⊥) → bodies 2 c i (messagesBy s c a room n) ≡ []
+  other-messages n d = messages-none 2 c i s c a room n (λ j lo up x. not-node 2 c j 2 c i (toNode c j x) (keyed-by 2 c j x) (d j lo up))
+
+  own-messages : (n : ℕ) → 1 ≤ i → i ≤ n → bodies 2 c i (messagesBy s c a room n) ≡ inList (messageTo s a room i)
+  unfolding messagesBy
+  own-messages zero lo up = absurd (omega arith)
+  own-messages (suc n) lo up = go (own-messages n lo) (ℕ-discrete i (suc n))
+    where
+      go : (i ≤ n → bodies 2 c i (messagesBy s c a room n) ≡ inList (messageTo s a room i)) → Dec (i ≡ suc n)
+          → bodies 2 c i (messagesBy s c a room n ++ messageIn c (suc n) (messageTo s a room (suc n))) ≡ inList (messageTo s a room i)
+      go before (yes e) =
+          rw (← e)
+          (bodies-++ 2 c i (messagesBy s c a room n) (messageIn c i (messageTo s a room i))
+          ∙ (λ j. other-messages n (λ j lo up z. omega arith) j ++ own-message (messageTo s a room i) j))
+      go before (no e) =
+          let strange =
+          message-none 2 c i c (suc n) (messageTo s a room (suc n))
+          (λ x. not-node 2 c (suc n) 2 c i (toNode c (suc n) x) (keyed-by 2 c (suc n) x) (λ z. e (sym z))) in
+          bodies-++ 2 c i (messagesBy s c a room n) (messageIn c (suc n) (messageTo s a room (suc n)))
+          ∙ (λ j. before (omega arith) j ++ strange j)
+          ∙ append-nil (inList (messageTo s a room i))
+
+  sent-messages : bodies 2 c i (sent s c a room) ≡ bodies 2 c i (messagesBy s c a room (s .n))
+  sent-messages =
+      bodies-++ 2 c i (callBy c a room) (messagesBy s c a room (s .n))
+      ∙ ap (λ (l : List (List ℕ)). l ++ bodies 2 c i (messagesBy s c a room (s .n)))
+      (call-none 2 c i c a room (λ x. not-kind 0 c 0 2 c i (call c x) (keyed-by 0 c 0 x) (λ z. omega arith)))
+
+sent-in : (m : Option (List ℕ)) (q : List (List ℕ)) → sentTo m q ≡ q ++ inList m
+sent-in none q = sym (append-nil q)
+sent-in (some m) q = refl
+
+out-of-bounds : (i n : ℕ) → (leb 1 i && leb i n) ≡ false → 1 ≤ i → i ≤ n → ⊥
+out-of-bounds i n e lo up = false≢true (sym e ∙ simp (le-leb 1 i lo, le-leb i n up))
+
+pub sent-to-nodes : (s : Measures) (c : ℕ) (e : ClientEnd) (i : ℕ) (q : List (List ℕ))
+    → sentTo (sends s e i) q ≡ q ++ bodies 2 c i (sent s c (e .answer) (e .room))
+sent-to-nodes s c e i q = go (leb 1 i && leb i (s .n)) refl
+  where
+    go : (b : Bool) → (leb 1 i && leb i (s .n)) ≡ b
+        → sentTo (cond b (messageTo s (e .answer) (e .room) i) none) q ≡ q ++ bodies 2 c i (sent s c (e .answer) (e .room))
+    go true t =
+        let b = both-true (leb 1 i) (leb i (s .n)) t in
+        let m = own-messages s c (e .answer) (e .room) i (s .n) (leb-true 1 i (b .0)) (leb-true i (s .n) (b .1)) in
+        sent-in (messageTo s (e .answer) (e .room) i) q
+        ∙ ap (λ (l : List (List ℕ)). q ++ l) (sym (sent-messages s c (e .answer) (e .room) i ∙ m))
+    go false t =
+        let m = other-messages s c (e .answer) (e .room) i (s .n) (λ j lo up z. out-of-bounds i (s .n) t (omega arith) (omega arith)) in
+        sym (append-nil q) ∙ ap (λ (l : List (List ℕ)). q ++ l) (sym (sent-messages s c (e .answer) (e .room) i ∙ m))
+
+-- ---- they are proper
+
+Short : ℕ → Option (List ℕ) → Type 0
+Short l none = Unit {0}
+Short l (some m) = length m ≤ 6 + l
+
+take-short : (n : ℕ) (l : List ℕ) → length (take n l) ≤ length l
+take-short n l = omega (arith, length-take n l)
+
+message-short : (s : Measures) (a : ClientAnswer) (room : List ℕ) (i : ℕ) → Short (length room) (messageTo s a room i)
+unfolding Short
+message-short s (refused n) room i = tt
+message-short s waits room i = tt
+message-short s scan room i = tt
+message-short s (update len) room i = tt
+message-short s (stores v len) room i =
+    let at = 6 + (i - 1) * s .f in
+    omega (arith, length-append (take 6 room) (take len (drop at room)), length-take 6 room, take-short len (drop at room), length-drop at room)
+message-short s (requests v nodes) room i = go (stands nodes i)
+  where
+    go : (b : Bool) → Short (length room) (cond b (some (take 6 room)) none)
+    go true = omega (arith, take-short 6 room)
+    go false = tt
+message-short s (deposited v len) room i = omega (arith, take-short len room)
+message-short s empty room i = tt
+message-short s (page v len) room i = tt
+message-short s spent room i = tt
+message-short s failed room i = tt
+
+module _ (c : ℕ) (room : List ℕ) (small : c < 256) (fits : 16 + length room ≤ 4294967295) where
+  nothing-proper : properAll [] ≡ true
+  unfolding properAll
+  nothing-proper = refl
+
+  call-proper : (a : ClientAnswer) → properAll (callBy c a room) ≡ true
+  call-proper (refused n) = nothing-proper
+  call-proper waits = nothing-proper
+  call-proper scan = proper-one _ (proper-by 0 c 0 (0 ∷ []) small (omega arith) (omega arith))
+  call-proper (update len) = proper-one _ (proper-by 0 c 0 (1 ∷ take len room) small (omega arith) (omega (arith, take-short len room)))
+  call-proper (stores v len) = nothing-proper
+  call-proper (requests v nodes) = nothing-proper
+  call-proper (deposited v len) = nothing-proper
+  call-proper empty = nothing-proper
+  call-proper (page v len) = nothing-proper
+  call-proper spent = nothing-proper
+  call-proper failed = nothing-proper
+
+  message-proper : (i : ℕ) → i < 256 → (m : Option (List ℕ)) → Short (length room) m → properAll (messageIn c i m) ≡ true
+  unfolding Short
+  message-proper i l none h = nothing-proper
+  message-proper i l (some m) h = proper-one _ (proper-by 2 c i m small l (omega arith))
+
+  messages-proper : (s : Measures) (a : ClientAnswer) (n : ℕ) → n < 256 → properAll (messagesBy s c a room n) ≡ true
+  unfolding messagesBy
+  messages-proper s a zero l = nothing-proper
+  messages-proper s a (suc n) l =
+      proper-++ (messagesBy s c a room n) (messageIn c (suc n) (messageTo s a room (suc n))) (messages-proper s a n (omega arith))
+      (message-proper (suc n) l (messageTo s a room (suc n)) (message-short s a room (suc n)))
+
+pub sent-proper : (s : Measures) (c : ℕ) (a : ClientAnswer) (room : List ℕ) → passes s ≡ true → c < s .m → 16 + length room ≤ 4294967295
+    → properAll (sent s c a room) ≡ true
+sent-proper s c a room ok l fits =
+    let p = passed s ok in
+    let small : c < 256 = omega arith in
+    let nodes : s .n < 256 = omega arith in
+    proper-++ (callBy c a room) (messagesBy s c a room (s .n)) (call-proper c room small fits a) (messages-proper c room small fits s a (s .n) nodes)

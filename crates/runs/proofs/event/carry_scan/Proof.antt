@@ -1,0 +1,44 @@
+use borrow.Author.Needs.{needs}
+use Rattle.runs.proofs.GoesLaws.{carry-scan-goes}
+use Rattle.runs.proofs.event.carry_scan.Statement.{statement}
+use Rattle.runs.proofs.event.carry_scan.Tie as tie
+
+scan-requires : tie.Need-scan-requires
+scan-requires c κs = search needs
+
+slice-aggregate-serves : tie.Need-slice-aggregate-serves
+slice-aggregate-serves c = search needs
+
+serves-requires : tie.Need-serves-requires
+serves-requires c κs = search needs
+
+same-length : tie.Need-same-length
+same-length c = search needs
+
+same-length-2 : tie.Need-same-length-2
+same-length-2 c = search needs
+
+same-length-3 : tie.Need-same-length-3
+same-length-3 c = search needs
+
+returns : tie.Need-returns
+returns c =
+    let a = c .before .before .before .before .before .before .before .before .before .before .before .before .before .before .args in
+    let p = c .before .before .before .before .before .before .before .before .before .before .before .before .before .before .pre in
+    let d = c .before .before .before .before .before .before .before .before .scan in
+    let t = c .before .before .serves in (
+      t .ensures .0,
+      λ honest es h f. carry-scan-goes (a .s) (p .0 .measures) honest es (a .memory .now) (a .post .now) (a .used) h (a .c) (a .room .now) (d .last .1 .1 .0) (a .at) (a .end) (d .result) (t .last .1 .1 .1 .1 .1 .1 .0) (t .result) (p .0) f (p .3) (d .ensures .0) (d .ensures .1) (d .kept .1 .1 .0) (t .ensures .1),
+    )
+
+pub carry-scan-spec : {M : Type 1} → statement M
+carry-scan-spec =
+    tie.close
+    (tie.spec
+    scan-requires
+    slice-aggregate-serves
+    serves-requires
+    same-length
+    same-length-2
+    same-length-3
+    returns)

@@ -1,0 +1,69 @@
+use borrow.Author.Needs.{needs}
+use Rattle.runs.proofs.GoesLaws.{carry-update-goes}
+use Rattle.runs.proofs.EventLaws.{tagged-long}
+use Rattle.runs.proofs.event.carry_update.Statement.{statement}
+use Rattle.runs.proofs.event.carry_update.Tie as tie
+
+add-from : tie.Need-add-from
+add-from c = search needs
+
+sub-update : tie.Need-sub-update
+sub-update c = let p = c .before .before .before .before .pre in tagged-long (c .before .before .before .before .args .post .now) _ _ (p .3)
+
+part-update-start : tie.Need-part-update-start
+part-update-start c = let p = c .before .before .before .before .before .pre in tagged-long (c .before .before .before .before .before .args .post .now) _ _ (p .3)
+
+part-update-end : tie.Need-part-update-end
+part-update-end c = search needs
+
+update-requires : tie.Need-update-requires
+update-requires c κs = search needs
+
+slice-aggregate-serves : tie.Need-slice-aggregate-serves
+slice-aggregate-serves c = search needs
+
+slice-reshare-prefix-serves : tie.Need-slice-reshare-prefix-serves
+slice-reshare-prefix-serves c = search needs
+
+slice-aggregate-serves-2 : tie.Need-slice-aggregate-serves-2
+slice-aggregate-serves-2 c = search needs
+
+serves-requires : tie.Need-serves-requires
+serves-requires c κs = search needs
+
+same-length : tie.Need-same-length
+same-length c = search needs
+
+same-length-2 : tie.Need-same-length-2
+same-length-2 c = search needs
+
+same-length-3 : tie.Need-same-length-3
+same-length-3 c = search needs
+
+returns : tie.Need-returns
+returns c =
+    let a = c .before .before .before .before .before .before .before .before .before .before .before .before .before .before .before .args in
+    let p = c .before .before .before .before .before .before .before .before .before .before .before .before .before .before .before .pre in
+    let d = c .before .before .before .before .before .before .before .before .update in
+    let t = c .before .before .serves in (
+      t .ensures .0,
+      λ honest es h f. carry-update-goes (a .s) (p .0 .measures) honest es (a .memory .now) (a .post .now) (a .used) h (a .c) (a .room .now) (a .at) (a .end) (d .result) (d .last .1 .1 .0) (t .last .1 .1 .1 .1 .1 .1 .0) (t .result) (p .0) f (p .3) (d .ensures .0) (d .ensures .1) (t .ensures .1),
+    )
+
+pub carry-update-spec : {M : Type 1} → statement M
+carry-update-spec =
+    tie.close
+    (tie.spec
+    add-from
+    sub-update
+    part-update-start
+    part-update-end
+    update-requires
+    slice-aggregate-serves
+    slice-reshare-prefix-serves
+    slice-aggregate-serves-2
+    serves-requires
+    same-length
+    same-length-2
+    same-length-3
+    returns)

@@ -1,0 +1,93 @@
+use borrow.Author.Needs.{needs}
+use mathlib.Core.Path.{refl}
+use mathlib.Core.List.{List}
+use Prim.Native.Nat.{_+_, _≤_}
+use lib.ListN.{length}
+use Rattle.protocol.specs.Run.{deliver}
+use Rattle.runs.specs.Parcels.{Parcel, Listed, FindsAt}
+use Rattle.runs.specs.Event.{Capable}
+use Rattle.runs.specs.Happens.{Happens}
+use Rattle.runs.proofs.GoesLaws.{deliver-none}
+use Rattle.runs.proofs.EventLaws.{ready-yes, ready-no, found-none, found-at, found-within}
+use Rattle.runs.proofs.event.deliver.Statement.{statement}
+use Rattle.runs.proofs.event.deliver.Tie as tie
+
+able : (c : tie.After-enum-told) → let a = c .before .before .before .before .before .before .before .args in Capable (a .s) (a .c) (a .i) (length (a .post .now)) (a .used) (length (a .room .now))
+able c = let a = c .before .before .before .before .before .before .before .args in ready-yes (a .s) (a .c) (a .i) (length (a .post .now)) (a .used) (length (a .room .now)) (c .before .before .ready .result) (c .before .before .ready .ensures) (c .enum-told .given .1)
+
+within : (c : tie.After-at) → let e = c .at .given .0 in (e .0 + 7 ≤ e .1 .0) × (e .1 .0 ≤ c .before .before .before .before .before .before .before .before .before .before .before .args .used) × (c .before .before .before .before .before .before .before .before .before .before .before .args .used ≤ length (c .before .before .before .before .before .before .before .before .before .before .before .args .post .now))
+within c = found-within (c .before .before .before .before .before .before .before .before .before .before .before .args .used) (c .before .before .before .before .before .before .before .before .before .before .before .args .post .now) (c .before .before .find .result) (c .at .given .0 .0) (c .at .given .0 .1 .0) (c .before .before .find .ensures .0) (c .at .given .1)
+
+oldest : (c : tie.After-at) → (q : List Parcel) → Listed q (c .before .before .before .before .before .before .before .before .before .before .before .args .used) (c .before .before .before .before .before .before .before .before .before .before .before .args .post .now) → FindsAt 3 (c .before .before .before .before .before .before .before .before .before .before .before .args .c) (c .before .before .before .before .before .before .before .before .before .before .before .args .i) q (c .at .given .0 .0) (c .at .given .0 .1 .0)
+oldest c q l = found-at 3 (c .before .before .before .before .before .before .before .before .before .before .before .args .c) (c .before .before .before .before .before .before .before .before .before .before .before .args .i) q (c .before .before .find .result) (c .at .given .0 .0) (c .at .given .0 .1 .0) (c .before .before .find .ensures .1 q l) (c .at .given .1)
+
+ready-requires : tie.Need-ready-requires
+ready-requires c κs = search needs
+
+enum-known-x : tie.Need-enum-known-x
+enum-known-x c = search needs
+
+enum-told : tie.Need-enum-told
+enum-told c = search needs
+
+find-requires : tie.Need-find-requires
+find-requires c κs = search needs
+
+enum-told-2 : tie.Need-enum-told-2
+enum-told-2 c = search needs
+
+enum-known-at : tie.Need-enum-known-at
+enum-known-at c = search needs
+
+deliver-message-requires : tie.Need-deliver-message-requires
+deliver-message-requires c κs = let w = within (c .before .before .before .before .before) in (able (c .before .before .before .before .before .before .before .before .before), w .0, w .1)
+
+returns : tie.Need-returns
+returns c = λ honest. let a = c .before .before .before .before .before .before .before .before .args in ready-no (a .s) honest (deliver (a .i) (a .c) (a .room .now) (a .out .now)) (a .c) (a .i) (length (a .room .now)) (a .used) (a .memory .now) (a .post .now) (a .out .now) (c .before .before .before .ready .result) (c .before .before .before .ready .ensures) (c .before .x .given .0 .0) (c .before .x .given .1)
+
+same-length : tie.Need-same-length
+same-length c = search needs
+
+returns-2 : tie.Need-returns-2
+returns-2 c =
+    λ honest. let a = c .before .before .before .before .before .before .before .before .before .before .before .args in
+    let f = c .before .before .find in
+    Happens.happens _ refl
+    (λ es h. deliver-none (a .s) (able (c .before .before .before .before) .measures) honest es (a .memory .now) (a .post .now) (a .used) h (a .i) (a .c) (a .room .now) (a .out .now) (found-none 3 (a .c) (a .i) (h .parcels) (f .result) (f .ensures .1 (h .parcels) (h .listed)) (c .enum-told2 .given .1)))
+
+same-length-2 : tie.Need-same-length-2
+same-length-2 c = search needs
+
+same-length-3 : tie.Need-same-length-3
+same-length-3 c = search needs
+
+same-length-4 : tie.Need-same-length-4
+same-length-4 c = search needs
+
+same-length-5 : tie.Need-same-length-5
+same-length-5 c = search needs
+
+returns-3 : tie.Need-returns-3
+returns-3 c =
+    λ honest. let t = c .before .before .before .before .before .before .before .before .deliver-message in
+    Happens.happens (t .result) (t .ensures .0) (λ es h. t .ensures .1 honest es h (oldest (c .before .before .before .before .before .before .before .before .before .before .before .before .before .before) (h .parcels) (h .listed)))
+
+pub deliver-spec : {M : Type 1} → statement M
+deliver-spec =
+    tie.close
+    (tie.spec
+    ready-requires
+    enum-known-x
+    enum-told
+    find-requires
+    enum-told-2
+    enum-known-at
+    deliver-message-requires
+    returns
+    same-length
+    returns-2
+    same-length-2
+    same-length-3
+    same-length-4
+    same-length-5
+    returns-3)

@@ -1,0 +1,62 @@
+use borrow.Author.Needs.{needs}
+use lib.ListN.{length}
+use Rattle.runs.proofs.GoesLaws.{deliver-goes}
+use Rattle.runs.proofs.EventLaws.{capable-first}
+use Rattle.runs.proofs.event.deliver_message.Statement.{statement}
+use Rattle.runs.proofs.event.deliver_message.Tie as tie
+
+add-from : tie.Need-add-from
+add-from c = search needs
+
+sub-to-client : tie.Need-sub-to-client
+sub-to-client c = search needs
+
+part-to-client-start : tie.Need-part-to-client-start
+part-to-client-start c = search needs
+
+part-to-client-end : tie.Need-part-to-client-end
+part-to-client-end c = search needs
+
+to-client-requires : tie.Need-to-client-requires
+to-client-requires c κs = search needs
+
+takes-requires : tie.Need-takes-requires
+takes-requires c κs = let a = c .before .before .before .before .before .before .before .before .before .before .before .before .before .before .before .before .before .before .args in let p = c .before .before .before .before .before .before .before .before .before .before .before .before .before .before .before .before .before .before .pre in (capable-first (a .s) (a .c) (a .i) (length (a .post .now)) (a .used) (length (a .room .now)) _ (p .0) (c .before .before .before .before .before .before .before .before .to-client .kept .1 .1 .1 .1 .1 .0), p .1, p .2)
+
+same-length : tie.Need-same-length
+same-length c = search needs
+
+same-length-2 : tie.Need-same-length-2
+same-length-2 c = search needs
+
+same-length-3 : tie.Need-same-length-3
+same-length-3 c = search needs
+
+same-length-4 : tie.Need-same-length-4
+same-length-4 c = search needs
+
+returns : tie.Need-returns
+returns c =
+    let a = c .before .before .before .before .before .before .before .before .before .before .before .before .before .before .before .before .before .before .before .before .before .args in
+    let p = c .before .before .before .before .before .before .before .before .before .before .before .before .before .before .before .before .before .before .before .before .before .pre in
+    let d = c .before .before .before .before .before .before .before .before .before .before .before .to-client in
+    let t = c .before .before .takes in (
+      t .ensures .0,
+      λ honest es h f. deliver-goes (a .s) (p .0 .measures) honest es (a .memory .now) (a .post .now) (a .used) h (a .i) (a .c) (a .room .now) (a .out .now) (d .last .1 .1 .1 .1 .1 .0) (d .last .1 .1 .1 .1 .1 .1 .0) (a .at) (a .end) (d .result) (d .last .1 .1 .1 .0) (t .last .1 .1 .1 .1 .0) (t .result) (p .0) f (d .ensures .0) (d .ensures .1) (d .ensures .2) (d .ensures .3) (d .kept .1 .1 .1 .1 .1 .0) (t .ensures .1),
+    )
+
+pub deliver-message-spec : {M : Type 1} → statement M
+deliver-message-spec =
+    tie.close
+    (tie.spec
+    add-from
+    sub-to-client
+    part-to-client-start
+    part-to-client-end
+    to-client-requires
+    takes-requires
+    same-length
+    same-length-2
+    same-length-3
+    same-length-4
+    returns)

@@ -1,0 +1,36 @@
+use borrow.Author.Needs.{needs}
+use lib.ListN.{length}
+use Rattle.runs.proofs.GoesLaws.{hand-updated-goes}
+use Rattle.runs.proofs.EventLaws.{capable-first}
+use Rattle.runs.proofs.event.hand_updated.Statement.{statement}
+use Rattle.runs.proofs.event.hand_updated.Tie as tie
+
+updated-requires : tie.Need-updated-requires
+updated-requires c κs = search needs
+
+takes-requires : tie.Need-takes-requires
+takes-requires c κs = let a = c .before .before .before .before .before .before .before .before .before .before .before .before .args in let p = c .before .before .before .before .before .before .before .before .before .before .before .before .pre in (capable-first (a .s) (a .c) 1 (length (a .post .now)) (a .used) (length (a .room .now)) _ (p .0) (c .before .before .before .before .before .before .updated .kept .1 .1 .1 .0), p .1, p .2)
+
+same-length : tie.Need-same-length
+same-length c = search needs
+
+same-length-2 : tie.Need-same-length-2
+same-length-2 c = search needs
+
+same-length-3 : tie.Need-same-length-3
+same-length-3 c = search needs
+
+returns : tie.Need-returns
+returns c =
+    let a = c .before .before .before .before .before .before .before .before .before .before .before .before .before .before .before .args in
+    let p = c .before .before .before .before .before .before .before .before .before .before .before .before .before .before .before .pre in
+    let d = c .before .before .before .before .before .before .before .before .before .updated in
+    let t = c .before .before .takes in (
+      t .ensures .0,
+      λ honest es h f. hand-updated-goes (a .s) (p .0 .measures) honest es (a .memory .now) (a .post .now) (a .used) h (a .c) (a .room .now) (d .last .1 .1 .1 .0) (a .at) (a .end) (d .result) (d .last .1 .1 .0) (t .last .1 .1 .1 .1 .0) (t .result) (p .0) f (p .3) (d .ensures .0) (d .ensures .1) (d .ensures .2) (d .kept .1 .1 .1 .0) (t .ensures .1),
+    )
+
+pub hand-updated-spec : {M : Type 1} → statement M
+hand-updated-spec =
+    tie.close
+    (tie.spec updated-requires takes-requires same-length same-length-2 same-length-3 returns)

@@ -1,0 +1,27 @@
+use native.Mathlib.Omega.{arith}
+use borrow.Author.Needs.{needs}
+use Rattle.client.specs.Answer.{answered}
+use Rattle.runs.proofs.PostLaws.{appended-more}
+use Rattle.runs.proofs.SendLaws.{call-room}
+use Rattle.runs.proofs.send.send.Statement.{statement}
+use Rattle.runs.proofs.send.send.Tie as tie
+
+send-call-requires : tie.Need-send-call-requires
+send-call-requires c κs = search needs
+
+send-messages-requires : tie.Need-send-messages-requires
+send-messages-requires c κs =
+    let s = c .before .before .before .before .before .before .before in
+    let a = s .args in
+    let x = c .before .before .before .send-call .ensures in
+    (s .pre .0, call-room (a .s) (a .c) (answered (a .a)) (a .room .now) _ _ _ _ x (s .pre .1), omega (arith, x .long, s .pre .2))
+
+same-length : tie.Need-same-length
+same-length c = search needs
+
+returns : tie.Need-returns
+returns c =
+    appended-more _ _ _ _ _ _ _ _ (c .before .before .before .before .before .before .send-call .ensures) (c .before .before .send-messages .ensures)
+
+pub send-spec : {M : Type 1} → statement M
+send-spec = tie.close (tie.spec send-call-requires send-messages-requires same-length returns)

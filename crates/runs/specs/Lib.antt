@@ -1,0 +1,6 @@
+pub mod Parcels
+pub mod Sent
+pub mod UnderWay
+pub mod Happens
+pub mod Event
+pub mod Oldest

@@ -1,0 +1,45 @@
+-- The oldest parcel of all, where every node is honest.
+use mathlib.Core.Path.{_≡_}
+use mathlib.Core.Bool.{Bool, true}
+use mathlib.Core.List.{List, [], _++_}
+use Prim.Native.Nat.{ℕ, _<_}
+use lib.ListN.{length, getD}
+use Rattle.protocol.specs.declared.measures.Measures.{Measures}
+use Rattle.protocol.specs.Run.{Event, carry, hand, bring, deliver}
+use Rattle.runs.specs.declared.answer.Happened.{Happened}
+use Rattle.runs.specs.declared.answer.Turn.{Turn}
+use Rattle.runs.specs.UnderWay.{After}
+use Rattle.runs.specs.Happens.{Lent, Happens, honestIn}
+
+-- every node is honest
+abbrev pub honestAll : ℕ → Bool
+honestAll = honestIn 0
+
+-- the client and the node of the parcel in front
+abbrev pub clientIn : Lent → ℕ
+clientIn x = getD (x .post) 1 0
+
+abbrev pub nodeIn : Lent → ℕ
+nodeIn x = getD (x .post) 2 0
+
+-- where an event has no output, the one that is lent stays
+abbrev pub without : Lent → Lent
+without x = record { memory = x .memory; post = x .post; out = [] }
+
+pub data Oldest (s : Measures) (used : ℕ) (room : List ℕ) (x y : Lent) : Turn → Type 0 where
+  -- no parcel is under way
+  none : used < 7 → y ≡ x → Oldest s used room x y (record { used = used; what = Happened.Nothing })
+  beyond : length (x .post) < used → y ≡ x → Oldest s used room x y (record { used = used; what = Happened.Nothing })
+  call : (turn : Turn) → getD (x .post) 0 0 ≡ 0 → y .out ≡ x .out
+      → Happens s honestAll (carry (clientIn x) room) (clientIn x) 1 (length room) used (without x) (without y) turn → Oldest s used room x y turn
+  return : (turn : Turn) → getD (x .post) 0 0 ≡ 1 → y .out ≡ x .out
+      → Happens s honestAll (hand (clientIn x) room) (clientIn x) 1 (length room) used (without x) (without y) turn → Oldest s used room x y turn
+  toNode : (turn : Turn) → getD (x .post) 0 0 ≡ 2 → y .out ≡ x .out
+      → Happens s honestAll (bring (clientIn x) (nodeIn x) room) (clientIn x) (nodeIn x) (length room) used (without x) (without y) turn → Oldest s used room x y turn
+  toClient : (turn : Turn) → 2 < getD (x .post) 0 0
+      → Happens s honestAll (deliver (nodeIn x) (clientIn x) room (x .out)) (clientIn x) (nodeIn x) (length room) used x y turn → Oldest s used room x y turn
+
+-- a run goes on, with every node honest
+pub record Continues (s : Measures) (es : List Event) (memory post : List ℕ) (used : ℕ) : Type 0 where
+  pub more : List Event
+  pub after : After s honestAll (es ++ more) memory post used

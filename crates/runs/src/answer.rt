@@ -1,0 +1,21 @@
+// What an event of a run answers.
+use client::answer::ClientAnswer;
+use parties::answer::Service;
+use records::answer::Refusal;
+
+pub enum Happened {
+    // The event is not carried out.
+    Refused(Refusal),
+    // Nothing is under way there, or an honest node would have to lie.
+    Nothing,
+    // The message went to a dishonest node.
+    Taken,
+    ByClient(ClientAnswer),
+    ByServer(Service),
+}
+
+pub struct Turn {
+    // How many bytes of parcels are under way after it.
+    pub used: usize,
+    pub what: Happened,
+}

@@ -1,0 +1,5 @@
+pub mod answer;
+pub mod event;
+pub mod oldest;
+pub mod parcels;
+pub mod send;

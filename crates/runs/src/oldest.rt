@@ -1,0 +1,48 @@
+// Parcels in the order in which they were sent, where every node is honest.
+use crate::answer::Happened;
+use crate::answer::Turn;
+use crate::event::bring;
+use crate::event::carry;
+use crate::event::deliver;
+use crate::event::hand;
+use protocol::measures::Measures;
+ghost use lib.ListN.{length};
+ghost use Rattle.runs.specs.Oldest.{Oldest};
+
+// The oldest parcel of all is carried to where it goes.
+pub fn oldest(
+    s: Measures,
+    memory: &mut [u8],
+    room: &mut [u8],
+    out: &mut [u8],
+    post: &mut [u8],
+    used: usize,
+) -> Turn
+    ensures { λ r. ⌜ Oldest s used (now (room .entry))
+        (record { memory = now (memory .entry); post = now (post .entry); out = now (out .entry) })
+        (record { memory = now (memory .exit); post = now (post .exit); out = now (out .exit) }) r ⌝ }
+{
+    let nothing = Turn {
+        used,
+        what: Happened::Nothing,
+    };
+    if used < 7 {
+        return nothing;
+    }
+    if post.len() < used {
+        return nothing;
+    }
+    let kind = post[0];
+    let c = post[1] as usize;
+    let i = post[2] as usize;
+    if kind == 0 {
+        return carry(s, c, memory, room, post, used);
+    }
+    if kind == 1 {
+        return hand(s, c, memory, room, post, used);
+    }
+    if kind == 2 {
+        return bring(s, 0, c, i, memory, room, post, used);
+    }
+    deliver(s, i, c, memory, room, out, post, used)
+}

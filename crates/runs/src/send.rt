@@ -1,0 +1,108 @@
+// What a client's answer sends is put under way.
+use crate::parcels::append;
+use client::answer::ClientAnswer;
+use protocol::measures::Measures;
+use records::nodes::stands;
+ghost use mathlib.Core.Path.{_≡_};
+ghost use mathlib.Core.Bool.{true};
+ghost use Prim.Native.Nat.{_+_, _*_, _≤_, min};
+ghost use lib.ListN.{length};
+ghost use Rattle.protocol.specs.Measures.{passes};
+ghost use Rattle.protocol.specs.ClientEvents.{messageTo};
+ghost use Rattle.client.specs.Answer.{answered};
+ghost use Rattle.runs.specs.Parcels.{Appended};
+ghost use Rattle.runs.specs.Sent.{callBy, messageIn, messagesBy, sent};
+
+pub fn least(a: usize, b: usize) -> usize
+    ensures { λ r. ⌜ (r ≡ min a b) × (r ≤ a) × (r ≤ b) ⌝ }
+{
+    if a < b { a } else { b }
+}
+
+// A directory call, if the answer is one.
+fn send_call(c: usize, a: ClientAnswer, room: &[u8], post: &mut [u8], used: usize) -> usize
+    requires { ⌜ (used + (8 + length (now room)) ≤ length (now post)) × (length (now post) ≤ 4294967295) ⌝ }
+    ensures { λ r. ⌜ Appended (callBy c (answered a) (now (room .entry))) (now (post .entry)) used (now (post .exit)) r ⌝ }
+{
+    match a {
+        ClientAnswer::Scan => append(post, used, 0, c, 0, &[0u8], &room[..0]),
+        ClientAnswer::Update(len) => {
+            let to = least(len, room.len());
+            append(post, used, 0, c, 0, &[1u8], &room[..to])
+        }
+        _ => used,
+    }
+}
+
+// The message to node i, if there is one: parts of a room that is too short are as long as it is.
+fn send_message(
+    s: Measures,
+    c: usize,
+    i: usize,
+    a: ClientAnswer,
+    room: &[u8],
+    post: &mut [u8],
+    used: usize,
+) -> usize
+    requires { ⌜ (passes s ≡ true) × (1 ≤ i) × (i ≤ s .n) × (used + (13 + length (now room)) ≤ length (now post)) × (length (now post) ≤ 4294967295) ⌝ }
+    ensures { λ r. ⌜ Appended (messageIn c i (messageTo s (answered a) (now (room .entry)) i)) (now (post .entry)) used (now (post .exit)) r ⌝ }
+{
+    let front = least(6, room.len());
+    match a {
+        ClientAnswer::Stores(_, len) => {
+            let from = least(6 + (i - 1) * s.f, room.len());
+            let to = from + least(len, room.len() - from);
+            append(post, used, 2, c, i, &room[..front], &room[from..to])
+        }
+        ClientAnswer::Requests(_, nodes) => {
+            if stands(nodes, i) {
+                append(post, used, 2, c, i, &room[..front], &room[..0])
+            } else {
+                used
+            }
+        }
+        ClientAnswer::Deposited(_, len) => {
+            let to = least(len, room.len());
+            append(post, used, 2, c, i, &room[..to], &room[..0])
+        }
+        _ => used,
+    }
+}
+
+// The messages to all nodes.
+fn send_messages(
+    s: Measures,
+    c: usize,
+    a: ClientAnswer,
+    room: &[u8],
+    post: &mut [u8],
+    used: usize,
+) -> usize
+    requires { ⌜ (passes s ≡ true) × (used + s .n * (13 + length (now room)) ≤ length (now post)) × (length (now post) ≤ 4294967295) ⌝ }
+    ensures { λ r. ⌜ Appended (messagesBy s c (answered a) (now (room .entry)) (s .n)) (now (post .entry)) used (now (post .exit)) r ⌝ }
+{
+    let nodes = s.n;
+    let mut at = used;
+    let mut i = 0;
+    while i < nodes {
+        i += 1;
+        at = send_message(s, c, i, a, room, post, at);
+    }
+    at
+}
+
+// All that an answer sends.
+pub fn send(
+    s: Measures,
+    c: usize,
+    a: ClientAnswer,
+    room: &[u8],
+    post: &mut [u8],
+    used: usize,
+) -> usize
+    requires { ⌜ (passes s ≡ true) × (used + (s .n + 1) * (16 + length (now room)) ≤ length (now post)) × (length (now post) ≤ 4294967295) ⌝ }
+    ensures { λ r. ⌜ Appended (sent s c (answered a) (now (room .entry))) (now (post .entry)) used (now (post .exit)) r ⌝ }
+{
+    let at = send_call(c, a, room, post, used);
+    send_messages(s, c, a, room, post, at)
+}
