@@ -38,7 +38,8 @@ use Rattle.runs.specs.Sent.{sent}
 use Rattle.runs.specs.UnderWay.{callOf, returnOf, UnderWay, After}
 use Rattle.runs.specs.Happens.{answerOf, outDelivered, outAfter, Goes}
 use Rattle.runs.specs.Event.{Capable, body, tagged, Sends, Takes, Serves}
-use Rattle.runs.proofs.ParcelLaws.{bodies-++, body-keyed, body-other, found-bodies, other-bodies, keyed-by, not-kind, not-client, not-two}
+use Rattle.runs.proofs.PostLaws.{bodies-append}
+use Rattle.runs.proofs.ParcelLaws.{body-keyed, body-other, found-bodies, other-bodies, keyed-by, not-kind, not-client, not-two}
 use Rattle.runs.proofs.ParcelLaws.{proper-by, proper-one, listed-appended, listed-removed, found-body}
 use Rattle.runs.proofs.SentLaws.{sent-calls, sent-returns, sent-to-clients, sent-other, sent-to-nodes, sent-proper}
 
@@ -57,7 +58,7 @@ two-way f g i c a e o j d =
 -- ---- one parcel fewer, or some more
 
 more-bodies : (k c i : ℕ) (q p : List Parcel) → bodies k c i p ≡ [] → bodies k c i (q ++ p) ≡ bodies k c i q
-more-bodies k c i q p e = bodies-++ k c i q p ∙ ap (λ (l : List (List ℕ)). bodies k c i q ++ l) e ∙ append-nil (bodies k c i q)
+more-bodies k c i q p e = bodies-append k c i q p ∙ ap (λ (l : List (List ℕ)). bodies k c i q ++ l) e ∙ append-nil (bodies k c i q)
 
 nothing-in : (k c i : ℕ) → bodies k c i [] ≡ []
 unfolding bodies
@@ -65,7 +66,7 @@ nothing-in k c i = refl
 
 last-own : (k c i : ℕ) (q : List Parcel) (b : List ℕ) → bodies k c i (q ++ (record { kind = k; client = c; node = i; bytes = b } ∷ [])) ≡ bodies k c i q ++ (b ∷ [])
 last-own k c i q b =
-    bodies-++ k c i q _
+    bodies-append k c i q _
     ∙ ap (λ (l : List (List ℕ)). bodies k c i q ++ l)
     (body-keyed k c i (record { kind = k; client = c; node = i; bytes = b }) [] (keyed-by k c i b) ∙ ap (λ (l : List (List ℕ)). b ∷ l) (nothing-in k c i))
 
@@ -104,13 +105,13 @@ module _ (s : Measures) (c : ℕ) (e : ClientEnd) (q : List Parcel) (st : State)
             (sent-calls s c (e .answer) (e .room) (st .calls c)
             ∙ ap (λ (l : List Call). l ++ map callOf (bodies 0 c 0 p)) (ca c)
             ∙ sym (map-append callOf (bodies 0 c 0 q) (bodies 0 c 0 p))
-            ∙ ap (map callOf) (sym (bodies-++ 0 c 0 q p)))
+            ∙ ap (map callOf) (sym (bodies-append 0 c 0 q p)))
             (λ d n. ca d ∙ ap (map callOf) (sym (more-bodies 0 d 0 q p (sent-other s c (e .answer) (e .room) 0 d 0 (λ z. n (sym z))))));
         returns = λ d. re d ∙ ap (map returnOf) (sym (more-bodies 1 d 0 q p (sent-returns s c (e .answer) (e .room) d 0)));
         toNode = λ d i.
             by-eq d c
             (λ t z. rw t (rw z
-            (sent-to-nodes s c e i (st .toNode c i) ∙ ap (λ (l : List (List ℕ)). l ++ bodies 2 c i p) (nd c i) ∙ sym (bodies-++ 2 c i q p))))
+            (sent-to-nodes s c e i (st .toNode c i) ∙ ap (λ (l : List (List ℕ)). l ++ bodies 2 c i p) (nd c i) ∙ sym (bodies-append 2 c i q p))))
             (λ t n. rw t (nd d i ∙ sym (more-bodies 2 d i q p (sent-other s c (e .answer) (e .room) 2 d i (λ z. n (sym z))))));
         toClient = λ i d. cl i d ∙ sym (more-bodies 3 d i q p (sent-to-clients s c (e .answer) (e .room) d i));
       }

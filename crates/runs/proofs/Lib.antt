@@ -5,3 +5,4 @@ pub mod SentLaws
 pub mod GoesLaws
 pub mod EventLaws
 pub mod OldestLaws
+pub mod RunClaim

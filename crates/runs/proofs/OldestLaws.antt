@@ -3,7 +3,8 @@ use mathlib.Core.Path.{_≡_, refl, sym, subst, subst⁻¹, _∙_}
 use mathlib.Core.List.{List, [], _∷_, _++_}
 use Prim.Native.Nat.{ℕ}
 use Rattle.protocol.specs.declared.measures.Measures.{Measures}
-use Rattle.protocol.specs.Run.{Event}
+use Rattle.protocol.specs.Run.{Event, deliver}
+use Rattle.protocol.specs.Claim.{AllLent, Lent as Given}
 use Rattle.runs.specs.declared.answer.Turn.{Turn}
 use Rattle.runs.specs.UnderWay.{After}
 use Rattle.runs.specs.Happens.{Lent, Happens}
@@ -17,30 +18,41 @@ append-more : (a b c : List Event) → (a ++ b) ++ c ≡ a ++ (b ++ c)
 append-more [] b c = refl
 append-more (e ∷ a) b c = rw (append-more a b c) refl
 
+-- events with lent memory, one list after the other
+pub lent-more : (a b : List Event) → AllLent a → AllLent b → AllLent (a ++ b)
+lent-more [] b h k = k
+lent-more (e ∷ a) b h k = (h .0, lent-more a b (h .1) k)
+
 module _ (s : Measures) where
   -- nothing happens
   pub continues-same : (es : List Event) (memory post memory′ post′ : List ℕ) (used : ℕ) → memory′ ≡ memory → post′ ≡ post
       → After s honestAll es memory post used → Continues s es memory′ post′ used
-  continues-same es memory post memory′ post′ used e g h =
-      record { more = []; after = rw (append-none es) (rw (e, g) h) }
+  continues-same es memory post memory′ post′ used e g h = record { more = []; lent = tt; after = rw (append-none es) (rw (e, g) h) }
 
   -- one run after another
   pub continues-more : (es : List Event) (memory post memory′ post′ : List ℕ) (used used′ : ℕ) (c : Continues s es memory post used)
       → (After s honestAll (es ++ c .more) memory post used → Continues s (es ++ c .more) memory′ post′ used′) → Continues s es memory′ post′ used′
   continues-more es memory post memory′ post′ used used′ c f =
       let d = f (c .after) in
-      record { more = c .more ++ d .more; after = subst (λ (l : List Event). After s honestAll l memory′ post′ used′) (append-more es (c .more) (d .more)) (d .after) }
+      record {
+        more = c .more ++ d .more;
+        lent = lent-more (c .more) (d .more) (c .lent) (d .lent);
+        after = subst (λ (l : List Event). After s honestAll l memory′ post′ used′) (append-more es (c .more) (d .more)) (d .after);
+      }
 
-  pub happens-continues : (e : Event) (c i room used : ℕ) (x y : Lent) (turn : Turn) → Happens s honestAll e c i room used x y turn
+  pub happens-continues : (e : Event) (c i room used : ℕ) (x y : Lent) (turn : Turn) → Happens s honestAll e c i room used x y turn → Given e
       → (es : List Event) → After s honestAll es (x .memory) (x .post) used → Continues s es (y .memory) (y .post) (turn .used)
-  happens-continues e c i room used x y turn (Happens.unready r u m p o) es h = continues-same es (x .memory) (x .post) (y .memory) (y .post) used m p h
-  happens-continues e c i room used x y turn (Happens.happens t l f) es h = record { more = e ∷ []; after = f es h .after }
+  happens-continues e c i room used x y turn (Happens.unready r u m p o) g es h =
+      continues-same es (x .memory) (x .post) (y .memory) (y .post) used m p h
+  happens-continues e c i room used x y turn (Happens.happens t l f) g es h = record { more = e ∷ []; lent = (g, tt); after = f es h .after }
 
-  pub oldest-continues : (used : ℕ) (room : List ℕ) (x y : Lent) (turn : Turn) → Oldest s used room x y turn
+  -- the room and the output have bytes in them: so has each event's that the parcel in front may be for
+  pub oldest-continues : (used : ℕ) (room : List ℕ) (x y : Lent) (turn : Turn) → Oldest s used room x y turn → Given (deliver 0 0 room (x .out))
       → (es : List Event) → After s honestAll es (x .memory) (x .post) used → Continues s es (y .memory) (y .post) (turn .used)
-  oldest-continues used room x y turn (Oldest.none u e) es h = rw e (continues-same es (x .memory) (x .post) (x .memory) (x .post) used refl refl h)
-  oldest-continues used room x y turn (Oldest.beyond u e) es h = rw e (continues-same es (x .memory) (x .post) (x .memory) (x .post) used refl refl h)
-  oldest-continues used room x y turn (Oldest.call t k o p) es h = happens-continues _ _ _ _ used _ _ turn p es h
-  oldest-continues used room x y turn (Oldest.return t k o p) es h = happens-continues _ _ _ _ used _ _ turn p es h
-  oldest-continues used room x y turn (Oldest.toNode t k o p) es h = happens-continues _ _ _ _ used _ _ turn p es h
-  oldest-continues used room x y turn (Oldest.toClient t k p) es h = happens-continues _ _ _ _ used _ _ turn p es h
+  oldest-continues used room x y turn (Oldest.measures u e) g es h = rw e (continues-same es (x .memory) (x .post) (x .memory) (x .post) used refl refl h)
+  oldest-continues used room x y turn (Oldest.short o u e) g es h = rw e (continues-same es (x .memory) (x .post) (x .memory) (x .post) used refl refl h)
+  oldest-continues used room x y turn (Oldest.none o w u e) g es h = rw e (continues-same es (x .memory) (x .post) (x .memory) (x .post) used refl refl h)
+  oldest-continues used room x y turn (Oldest.call t k o p) g es h = happens-continues _ _ _ _ used _ _ turn p (g .0) es h
+  oldest-continues used room x y turn (Oldest.return t k o p) g es h = happens-continues _ _ _ _ used _ _ turn p (g .0) es h
+  oldest-continues used room x y turn (Oldest.toNode t k o p) g es h = happens-continues _ _ _ _ used _ _ turn p (g .0) es h
+  oldest-continues used room x y turn (Oldest.toClient t k p) g es h = happens-continues _ _ _ _ used _ _ turn p g es h

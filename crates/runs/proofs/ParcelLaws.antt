@@ -15,18 +15,9 @@ use Rattle.protocol.proofs.PointerLaws.{length-number}
 use Rattle.records.proofs.SpliceLaws.{many-append}
 use Rattle.runs.specs.Parcels.{Parcel, writeParcel, writeParcels, proper, properAll, Listed, keyed, bodies, FindsAt, Appended, Removed}
 use Rattle.runs.specs.Event.{body}
+use Rattle.runs.proofs.PostLaws.{bodies-append, length-parcel}
 
 -- ---- what is under way of a kind between a client and a node
-
-pub bodies-++ : (k c i : ℕ) (p q : List Parcel) → bodies k c i (p ++ q) ≡ bodies k c i p ++ bodies k c i q
-unfolding bodies
-bodies-++ k c i [] q = refl
-bodies-++ k c i (x ∷ p) q = go (keyed k c i x) (bodies-++ k c i p q)
-  where
-    go : (b : Bool) → bodies k c i (p ++ q) ≡ bodies k c i p ++ bodies k c i q
-        → cond b (x .bytes ∷ bodies k c i (p ++ q)) (bodies k c i (p ++ q)) ≡ cond b (x .bytes ∷ bodies k c i p) (bodies k c i p) ++ bodies k c i q
-    go true e = ap (λ (l : List (List ℕ)). x .bytes ∷ l) e
-    go false e = e
 
 -- one parcel, with its key or with another
 pub body-keyed : (k c i : ℕ) (x : Parcel) (q : List Parcel) → keyed k c i x ≡ true → bodies k c i (x ∷ q) ≡ x .bytes ∷ bodies k c i q
@@ -41,15 +32,15 @@ body-other k c i x q e = ap (λ (b : Bool). cond b (x .bytes ∷ bodies k c i q)
 pub found-bodies : (k c i : ℕ) (x : Parcel) (before rest : List Parcel) → keyed k c i x ≡ true → bodies k c i before ≡ []
     → bodies k c i (before ++ (x ∷ rest)) ≡ x .bytes ∷ bodies k c i (before ++ rest)
 found-bodies k c i x before rest e n =
-    bodies-++ k c i before (x ∷ rest)
+    bodies-append k c i before (x ∷ rest)
     ∙ ap (λ (l : List (List ℕ)). l ++ bodies k c i (x ∷ rest)) n
     ∙ body-keyed k c i x rest e
-    ∙ ap (λ (l : List (List ℕ)). x .bytes ∷ l) (sym (bodies-++ k c i before rest ∙ ap (λ (l : List (List ℕ)). l ++ bodies k c i rest) n))
+    ∙ ap (λ (l : List (List ℕ)). x .bytes ∷ l) (sym (bodies-append k c i before rest ∙ ap (λ (l : List (List ℕ)). l ++ bodies k c i rest) n))
 
 pub other-bodies : (k c i : ℕ) (x : Parcel) (before rest : List Parcel) → keyed k c i x ≡ false
     → bodies k c i (before ++ (x ∷ rest)) ≡ bodies k c i (before ++ rest)
 other-bodies k c i x before rest e =
-    bodies-++ k c i before (x ∷ rest) ∙ ap (λ (l : List (List ℕ)). bodies k c i before ++ l) (body-other k c i x rest e) ∙ sym (bodies-++ k c i before rest)
+    bodies-append k c i before (x ∷ rest) ∙ ap (λ (l : List (List ℕ)). bodies k c i before ++ l) (body-other k c i x rest e) ∙ sym (bodies-append k c i before rest)
 
 -- a parcel's key
 pub record Key (k c i : ℕ) (x : Parcel) : Type 0 where
@@ -140,9 +131,6 @@ header-first : (p : Parcel) → writeParcel p ≡ header p ++ p .bytes
 unfolding header
 header-first p = simp append-assoc
 
-pub parcel-long : (p : Parcel) → length (writeParcel p) ≡ 7 + length (p .bytes)
-parcel-long p = ap length (header-first p) ∙ omega (arith, length-append (header p) (p .bytes), header-long p)
-
 -- the parcels with one between them
 pub parcels-parts : (p : List Parcel) (x : Parcel) (q : List Parcel) → writeParcels (p ++ (x ∷ q)) ≡ writeParcels p ++ (writeParcel x ++ writeParcels q)
 unfolding writeMany
@@ -182,7 +170,7 @@ module _ (k c i : ℕ) (q : List Parcel) (used : ℕ) (post : List ℕ) (at end 
       let x = writeParcel (f .parcel) ++ writeParcels (f .rest) in
       let a = length-append (writeParcels (f .before)) x in
       let b = length-append (writeParcel (f .parcel)) (writeParcels (f .rest)) in
-      omega (arith, sym (length-take-le used post (l .within)) ∙ ap length parts, a, b, parcel-long (f .parcel), f .first)
+      omega (arith, sym (length-take-le used post (l .within)) ∙ ap length parts, a, b, length-parcel (f .parcel), f .first)
 
   pub found-within : (at + 7 ≤ end) × (end ≤ used)
   found-within = (omega (arith, f .last), omega (arith, f .last, parts-long))
@@ -219,5 +207,5 @@ module _ (k c i : ℕ) (q : List Parcel) (used : ℕ) (post : List ℕ) (at end 
       behind =
           let u = writeParcels (f .before) in
           let v = writeParcel (f .parcel) in
-          let n : length (u ++ v) ≡ end = omega (arith, length-append u v, parcel-long (f .parcel), f .first, f .last) in
+          let n : length (u ++ v) ≡ end = omega (arith, length-append u v, length-parcel (f .parcel), f .first, f .last) in
           ap (drop end) (parts ∙ sym (append-assoc u v (writeParcels (f .rest)))) ∙ drop-at (u ++ v) (writeParcels (f .rest)) end n

@@ -1,6 +1,6 @@
 -- Laws of parcels in a lent slice: their bytes, one more, one less, and the search for the oldest.
 use mathlib.Core.Path.{_≡_, refl, sym, ap, _∙_}
-use mathlib.Core.Bool.{Bool, true, false, cond, _&&_, false≢true}
+use mathlib.Core.Bool.{Bool, true, false, cond, _&&_}
 use mathlib.Core.List.{List, [], _∷_, _++_, append-assoc, append-nil}
 use mathlib.Core.Option.{some}
 use Prim.Native.Nat.{ℕ, suc, _+_, _-_, _*_, _/_, _%_, _<_, _≤_}
@@ -13,6 +13,7 @@ use Rattle.protocol.specs.Format.{readNumber, writeNumber, writeMany}
 use Rattle.protocol.proofs.PointerLaws.{length-number}
 use Rattle.records.proofs.BytesLaws.{four-read}
 use Rattle.records.proofs.SpliceLaws.{many-append}
+use Rattle.title.proofs.PartLaws.{both-true}
 use Rattle.runs.specs.Parcels.{Parcel, writeParcel, writeParcels, proper, properAll, Listed, keyed, bodies, FindsAt, Appended, Removed}
 
 -- ---- bytes put after others
@@ -69,10 +70,6 @@ module _ (post : List ℕ) (used : ℕ) (t b : List ℕ) (p : Put post used t b)
   put-all at s u e h g = rw take-length at (put-bytes at s (length s) u e h (omega arith) g)
 
 -- ---- one parcel
-
-pub both : (a b : Bool) → (a && b) ≡ true → (a ≡ true) × (b ≡ true)
-both true b h = (refl, h)
-both false b h = absurd (false≢true h)
 
 -- its first seven bytes
 abbrev pub heading : ℕ → ℕ → ℕ → ℕ → List ℕ
@@ -233,13 +230,13 @@ module _ (used : ℕ) (post : List ℕ) (at : ℕ) (h : used ≤ length post) (p
       sym (getD-take used post (at + k) 0 (omega arith)) ∙ sym (getD-drop at (take used post) k 0) ∙ ap (λ (x : List ℕ). getD x k 0) e
 
   client-small : p .client < 256
-  client-small = ltb-true (p .client) 256 (both (ltb (p .client) 256) _ g .0)
+  client-small = ltb-true (p .client) 256 (both-true (ltb (p .client) 256) _ g .0)
 
   node-small : p .node < 256
-  node-small = ltb-true (p .node) 256 (both (ltb (p .node) 256) _ (both (ltb (p .client) 256) _ g .1) .0)
+  node-small = ltb-true (p .node) 256 (both-true (ltb (p .node) 256) _ (both-true (ltb (p .client) 256) _ g .1) .0)
 
   length-small : length (p .bytes) < 4294967296
-  length-small = ltb-true (length (p .bytes)) 4294967296 (both (ltb (p .node) 256) _ (both (ltb (p .client) 256) _ g .1) .1)
+  length-small = ltb-true (length (p .bytes)) 4294967296 (both-true (ltb (p .node) 256) _ (both-true (ltb (p .client) 256) _ g .1) .1)
 
   pub parcel-fits : at + (7 + length (p .bytes)) ≤ used
   parcel-fits =
@@ -314,8 +311,8 @@ module _ (kind c i : ℕ) (q : List Parcel) (used : ℕ) (post : List ℕ) (at :
             tail = rest;
             made = e;
             bytes = w;
-            one = both (proper p) (properAll rest) g .0;
-            all = both (proper p) (properAll rest) g .1;
+            one = both-true (proper p) (properAll rest) g .0;
+            all = both-true (proper p) (properAll rest) g .1;
           }
 
   module _ (l : at + 7 ≤ used) (n : ℕ) (r : List ℕ) (x : readNumber 4 (drop (at + 3) post) ≡ some (record { value = n; rest = r })) where

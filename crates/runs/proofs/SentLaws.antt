@@ -20,7 +20,8 @@ use Rattle.title.proofs.PartLaws.{both-true}
 use Rattle.runs.specs.Parcels.{Parcel, properAll, keyed, bodies}
 use Rattle.runs.specs.Sent.{call, toNode, callBy, messageIn, messagesBy, sent}
 use Rattle.runs.specs.UnderWay.{callOf}
-use Rattle.runs.proofs.ParcelLaws.{bodies-++, body-keyed, body-other, keyed-by, not-kind, not-client, not-node, proper-++, proper-by, proper-one}
+use Rattle.runs.proofs.PostLaws.{bodies-append}
+use Rattle.runs.proofs.ParcelLaws.{body-keyed, body-other, keyed-by, not-kind, not-client, not-node, proper-++, proper-by, proper-one}
 
 abbrev inList : Option (List ℕ) → List (List ℕ)
 inList none = []
@@ -34,7 +35,7 @@ module _ (k c i : ℕ) where
   one-none x e = body-other k c i x [] e
 
   both-none : (p q : List Parcel) → bodies k c i p ≡ [] → bodies k c i q ≡ [] → bodies k c i (p ++ q) ≡ []
-  both-none p q e f = bodies-++ k c i p q ∙ (λ j. e j ++ f j)
+  both-none p q e f = bodies-append k c i p q ∙ (λ j. e j ++ f j)
 
   nothing-none : bodies k c i [] ≡ []
   unfolding bodies
@@ -117,7 +118,7 @@ sent-calls s c a room q =
     (sym (append-nil (bodies 0 c 0 (callBy c a room)))
     ∙ ap (λ (l : List (List ℕ)). bodies 0 c 0 (callBy c a room) ++ l)
     (sym (messages-none 0 c 0 s c a room (s .n) (λ j lo up x. not-kind 2 c j 0 c 0 (toNode c j x) (keyed-by 2 c j x) (λ z. omega arith))))
-    ∙ sym (bodies-++ 0 c 0 (callBy c a room) (messagesBy s c a room (s .n))))
+    ∙ sym (bodies-append 0 c 0 (callBy c a room) (messagesBy s c a room (s .n))))
 
 -- ---- messages to the nodes
 
@@ -139,19 +140,19 @@ module _ (s : Measures) (c : ℕ) (a : ClientAnswer) (room : List ℕ) (i : ℕ)
           → bodies 2 c i (messagesBy s c a room n ++ messageIn c (suc n) (messageTo s a room (suc n))) ≡ inList (messageTo s a room i)
       go before (yes e) =
           rw (← e)
-          (bodies-++ 2 c i (messagesBy s c a room n) (messageIn c i (messageTo s a room i))
+          (bodies-append 2 c i (messagesBy s c a room n) (messageIn c i (messageTo s a room i))
           ∙ (λ j. other-messages n (λ j lo up z. omega arith) j ++ own-message (messageTo s a room i) j))
       go before (no e) =
           let strange =
           message-none 2 c i c (suc n) (messageTo s a room (suc n))
           (λ x. not-node 2 c (suc n) 2 c i (toNode c (suc n) x) (keyed-by 2 c (suc n) x) (λ z. e (sym z))) in
-          bodies-++ 2 c i (messagesBy s c a room n) (messageIn c (suc n) (messageTo s a room (suc n)))
+          bodies-append 2 c i (messagesBy s c a room n) (messageIn c (suc n) (messageTo s a room (suc n)))
           ∙ (λ j. before (omega arith) j ++ strange j)
           ∙ append-nil (inList (messageTo s a room i))
 
   sent-messages : bodies 2 c i (sent s c a room) ≡ bodies 2 c i (messagesBy s c a room (s .n))
   sent-messages =
-      bodies-++ 2 c i (callBy c a room) (messagesBy s c a room (s .n))
+      bodies-append 2 c i (callBy c a room) (messagesBy s c a room (s .n))
       ∙ ap (λ (l : List (List ℕ)). l ++ bodies 2 c i (messagesBy s c a room (s .n)))
       (call-none 2 c i c a room (λ x. not-kind 0 c 0 2 c i (call c x) (keyed-by 0 c 0 x) (λ z. omega arith)))
 

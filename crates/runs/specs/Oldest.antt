@@ -1,13 +1,16 @@
 -- The oldest parcel of all, where every node is honest.
 use mathlib.Core.Path.{_≡_}
-use mathlib.Core.Bool.{Bool, true}
+use mathlib.Core.Bool.{Bool, true, false}
 use mathlib.Core.List.{List, [], _++_}
-use Prim.Native.Nat.{ℕ, _<_}
+use Prim.Native.Nat.{ℕ, _≤_, _<_}
 use lib.ListN.{length, getD}
 use Rattle.protocol.specs.declared.measures.Measures.{Measures}
+use Rattle.protocol.specs.Measures.{passes}
 use Rattle.protocol.specs.Run.{Event, carry, hand, bring, deliver}
+use Rattle.records.specs.declared.answer.Refusal.{Refusal}
 use Rattle.runs.specs.declared.answer.Happened.{Happened}
 use Rattle.runs.specs.declared.answer.Turn.{Turn}
+use Rattle.protocol.specs.Claim.{AllLent}
 use Rattle.runs.specs.UnderWay.{After}
 use Rattle.runs.specs.Happens.{Lent, Happens, honestIn}
 
@@ -27,9 +30,10 @@ abbrev pub without : Lent → Lent
 without x = record { memory = x .memory; post = x .post; out = [] }
 
 pub data Oldest (s : Measures) (used : ℕ) (room : List ℕ) (x y : Lent) : Turn → Type 0 where
+  measures : passes s ≡ false → y ≡ x → Oldest s used room x y (record { used = used; what = Happened.Refused Refusal.Measures })
+  short : passes s ≡ true → length (x .post) < used → y ≡ x → Oldest s used room x y (record { used = used; what = Happened.Refused Refusal.Short })
   -- no parcel is under way
-  none : used < 7 → y ≡ x → Oldest s used room x y (record { used = used; what = Happened.Nothing })
-  beyond : length (x .post) < used → y ≡ x → Oldest s used room x y (record { used = used; what = Happened.Nothing })
+  none : passes s ≡ true → used ≤ length (x .post) → used < 7 → y ≡ x → Oldest s used room x y (record { used = used; what = Happened.Nothing })
   call : (turn : Turn) → getD (x .post) 0 0 ≡ 0 → y .out ≡ x .out
       → Happens s honestAll (carry (clientIn x) room) (clientIn x) 1 (length room) used (without x) (without y) turn → Oldest s used room x y turn
   return : (turn : Turn) → getD (x .post) 0 0 ≡ 1 → y .out ≡ x .out
@@ -42,4 +46,5 @@ pub data Oldest (s : Measures) (used : ℕ) (room : List ℕ) (x y : Lent) : Tur
 -- a run goes on, with every node honest
 pub record Continues (s : Measures) (es : List Event) (memory post : List ℕ) (used : ℕ) : Type 0 where
   pub more : List Event
+  pub lent : AllLent more
   pub after : After s honestAll (es ++ more) memory post used

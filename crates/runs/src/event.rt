@@ -1,11 +1,11 @@
 // The events of a run, each on one page's memory and the parcels under way.
 use crate::answer::Happened;
 use crate::answer::Turn;
+use crate::least::least;
 use crate::parcels::Found;
 use crate::parcels::append;
 use crate::parcels::find;
 use crate::parcels::remove;
-use crate::send::least;
 use crate::send::send;
 use client::answer::ClientAnswer;
 use parties::answer::Service;

@@ -1,5 +1,6 @@
 pub mod answer;
 pub mod event;
+pub mod least;
 pub mod oldest;
-pub mod parcels;
-pub mod send;
+mod parcels;
+mod send;

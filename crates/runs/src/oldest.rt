@@ -6,6 +6,7 @@ use crate::event::carry;
 use crate::event::deliver;
 use crate::event::hand;
 use protocol::measures::Measures;
+use records::answer::Refusal;
 ghost use lib.ListN.{length};
 ghost use Rattle.runs.specs.Oldest.{Oldest};
 
@@ -22,16 +23,25 @@ pub fn oldest(
         (record { memory = now (memory .entry); post = now (post .entry); out = now (out .entry) })
         (record { memory = now (memory .exit); post = now (post .exit); out = now (out .exit) }) r ⌝ }
 {
-    let nothing = Turn {
-        used,
-        what: Happened::Nothing,
-    };
-    if used < 7 {
-        return nothing;
+    if !s.pass() {
+        return Turn {
+            used,
+            what: Happened::Refused(Refusal::Measures),
+        };
     }
     if post.len() < used {
-        return nothing;
+        return Turn {
+            used,
+            what: Happened::Refused(Refusal::Short),
+        };
     }
+    if used < 7 {
+        return Turn {
+            used,
+            what: Happened::Nothing,
+        };
+    }
+    // 0 a call, 1 the answer of one, 2 a message to a node, else one to a client
     let kind = post[0];
     let c = post[1] as usize;
     let i = post[2] as usize;

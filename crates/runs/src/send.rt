@@ -1,23 +1,18 @@
 // What a client's answer sends is put under way.
+use crate::least::least;
 use crate::parcels::append;
 use client::answer::ClientAnswer;
 use protocol::measures::Measures;
 use records::nodes::stands;
 ghost use mathlib.Core.Path.{_≡_};
 ghost use mathlib.Core.Bool.{true};
-ghost use Prim.Native.Nat.{_+_, _*_, _≤_, min};
+ghost use Prim.Native.Nat.{_+_, _*_, _≤_};
 ghost use lib.ListN.{length};
 ghost use Rattle.protocol.specs.Measures.{passes};
 ghost use Rattle.protocol.specs.ClientEvents.{messageTo};
 ghost use Rattle.client.specs.Answer.{answered};
 ghost use Rattle.runs.specs.Parcels.{Appended};
 ghost use Rattle.runs.specs.Sent.{callBy, messageIn, messagesBy, sent};
-
-pub fn least(a: usize, b: usize) -> usize
-    ensures { λ r. ⌜ (r ≡ min a b) × (r ≤ a) × (r ≤ b) ⌝ }
-{
-    if a < b { a } else { b }
-}
 
 // A directory call, if the answer is one.
 fn send_call(c: usize, a: ClientAnswer, room: &[u8], post: &mut [u8], used: usize) -> usize

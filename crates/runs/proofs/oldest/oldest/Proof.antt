@@ -1,16 +1,28 @@
 -- The parcel in front says which event it is.
 use borrow.Author.Needs.{needs}
-use mathlib.Core.Path.{refl}
+use mathlib.Core.Path.{_≡_, refl, sym, _∙_}
+use mathlib.Core.Bool.{true}
+use borrow.Author.Tests.{not-true, not-false}
+use Rattle.protocol.specs.Measures.{passes}
 use native.Mathlib.Omega.{arith}
 use Rattle.runs.specs.Oldest.{honestAll, Oldest}
 use Rattle.runs.proofs.oldest.oldest.Statement.{statement}
 use Rattle.runs.proofs.oldest.oldest.Tie as tie
 
+pass-requires : tie.Need-pass-requires
+pass-requires c κs = search needs
+
+passing : (c : tie.Else1) → passes (c .before .before .before .before .before .before .args .s) ≡ true
+passing c = sym (c .before .pass .ensures) ∙ not-false (c .before .pass .result) (c .if1 .left)
+
 returns : tie.Need-returns
-returns c = Oldest.none (omega arith) refl
+returns c = Oldest.measures (sym (c .before .pass .ensures) ∙ not-true (c .before .pass .result) (c .if1 .taken)) refl
 
 returns-2 : tie.Need-returns-2
-returns-2 c = Oldest.beyond (omega arith) refl
+returns-2 c = Oldest.short (passing (c .before)) (omega arith) refl
+
+returns-3 : tie.Need-returns-3
+returns-3 c = Oldest.none (passing (c .before .before)) (omega arith) (omega arith) refl
 
 slice-read-kind : tie.Need-slice-read-kind
 slice-read-kind c = search needs
@@ -39,8 +51,8 @@ same-length-2 c = search needs
 same-length-3 : tie.Need-same-length-3
 same-length-3 c = search needs
 
-returns-3 : tie.Need-returns-3
-returns-3 c = Oldest.call _ (omega arith) refl (c .before .before .before .before .before .before .carry .ensures honestAll)
+returns-4 : tie.Need-returns-4
+returns-4 c = Oldest.call _ (omega arith) refl (c .before .before .before .before .before .before .carry .ensures honestAll)
 
 hand-requires : tie.Need-hand-requires
 hand-requires c κs = search needs
@@ -54,8 +66,8 @@ same-length-5 c = search needs
 same-length-6 : tie.Need-same-length-6
 same-length-6 c = search needs
 
-returns-4 : tie.Need-returns-4
-returns-4 c = Oldest.return _ (omega arith) refl (c .before .before .before .before .before .before .hand .ensures honestAll)
+returns-5 : tie.Need-returns-5
+returns-5 c = Oldest.return _ (omega arith) refl (c .before .before .before .before .before .before .hand .ensures honestAll)
 
 bring-requires : tie.Need-bring-requires
 bring-requires c κs = search needs
@@ -69,8 +81,8 @@ same-length-8 c = search needs
 same-length-9 : tie.Need-same-length-9
 same-length-9 c = search needs
 
-returns-5 : tie.Need-returns-5
-returns-5 c = Oldest.toNode _ (omega arith) refl (c .before .before .before .before .before .before .bring .ensures)
+returns-6 : tie.Need-returns-6
+returns-6 c = Oldest.toNode _ (omega arith) refl (c .before .before .before .before .before .before .bring .ensures)
 
 deliver-requires : tie.Need-deliver-requires
 deliver-requires c κs = search needs
@@ -87,15 +99,17 @@ same-length-12 c = search needs
 same-length-13 : tie.Need-same-length-13
 same-length-13 c = search needs
 
-returns-6 : tie.Need-returns-6
-returns-6 c = Oldest.toClient _ (omega arith) (c .before .before .before .before .before .before .before .before .deliver .ensures honestAll)
+returns-7 : tie.Need-returns-7
+returns-7 c = Oldest.toClient _ (omega arith) (c .before .before .before .before .before .before .before .before .deliver .ensures honestAll)
 
 pub oldest-spec : {M : Type 1} → statement M
 oldest-spec =
     tie.close
     (tie.spec
+    pass-requires
     returns
     returns-2
+    returns-3
     slice-read-kind
     slice-read-c
     cast-c
@@ -105,20 +119,20 @@ oldest-spec =
     same-length
     same-length-2
     same-length-3
-    returns-3
+    returns-4
     hand-requires
     same-length-4
     same-length-5
     same-length-6
-    returns-4
+    returns-5
     bring-requires
     same-length-7
     same-length-8
     same-length-9
-    returns-5
+    returns-6
     deliver-requires
     same-length-10
     same-length-11
     same-length-12
     same-length-13
-    returns-6)
+    returns-7)

@@ -1,0 +1,4 @@
+pub mod SayLaws
+pub mod SettleLaws
+pub mod SessionLaws
+pub mod SessionClaim

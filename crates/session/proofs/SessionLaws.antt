@@ -1,0 +1,97 @@
+-- Laws of a session: fresh memory begins a run, and each operation goes on with it.
+use mathlib.Core.Path.{_≡_, refl}
+use mathlib.Core.Bool.{Bool, true, false}
+use mathlib.Core.List.{List, [], _∷_, _++_}
+use Prim.Native.Nat.{ℕ, zero, suc, _+_, _≤_, _<_}
+use native.Mathlib.Omega.{arith}
+use borrow.Author.Tests.{leb-true}
+use lib.Dec.{leb}
+use lib.ListN.{length, take, getD}
+use Rattle.protocol.specs.declared.measures.Measures.{Measures}
+use Rattle.protocol.specs.Measures.{passes}
+use Rattle.protocol.specs.Answer.{Served, refuses, serves}
+use Rattle.protocol.specs.Format.{writeMany}
+use Rattle.protocol.specs.Run.{Event, fresh, run}
+use Rattle.protocol.specs.Claim.{Lent as Given}
+use Rattle.parties.specs.declared.answer.Service.{Service}
+use Rattle.parties.specs.Answer.{served}
+use Rattle.title.specs.Memory.{memorySize, memoryFresh}
+use Rattle.title.proofs.Service.{fresh-serves}
+use Rattle.runs.specs.declared.answer.Turn.{Turn}
+use Rattle.runs.specs.Parcels.{Listed, properAll, bodies}
+use Rattle.runs.specs.UnderWay.{UnderWay, After}
+use Rattle.runs.specs.Happens.{Lent, Happens}
+use Rattle.runs.specs.Oldest.{honestAll}
+use Rattle.runs.proofs.OldestLaws.{continues-more, happens-continues, lent-more}
+use Rattle.session.specs.declared.session.Session.{Session}
+use Rattle.session.specs.declared.settle.Settled.{Settled}
+use Rattle.session.specs.Settle.{Settles}
+use Rattle.session.specs.Session.{Runs, Live}
+use Rattle.session.proofs.SettleLaws.{settles-continue}
+
+-- ---- a run begins
+
+none-listed : (post : List ℕ) → Listed [] 0 post
+unfolding writeMany properAll
+none-listed post = record { within = omega arith; written = refl; allProper = refl }
+
+none-under-way : (s : Measures) (honest : ℕ → Bool) → UnderWay [] (run s honest [] (fresh s))
+unfolding run bodies
+none-under-way s honest = record { calls = λ c. refl; returns = λ c. refl; toNode = λ c i. refl; toClient = λ i c. refl }
+
+-- memory that was made fresh is long enough
+fresh-long : (s : Measures) (memory : List ℕ) (a : Service) (k : ℕ) → passes s ≡ true → a ≡ Service.Served k → served a ≡ memoryFresh s memory .answer
+    → memorySize s ≤ length memory
+unfolding memoryFresh
+fresh-long s memory a k ok e f = go (leb (memorySize s) (length memory)) refl
+  where
+    go : (b : Bool) → leb (memorySize s) (length memory) ≡ b → memorySize s ≤ length memory
+    go true g = leb-true (memorySize s) (length memory) g
+    go false g =
+        let h : serves k ≡ refuses 2 = rw (e, ok, g) at f in
+        let z : _≡_ {A = ℕ} 0 1 = cc in absurd (omega arith)
+
+pub fresh-runs : (x : Session) (s : Measures) (memory after post : List ℕ) (a : Service) (k : ℕ) → x .measures ≡ s → x .used ≡ 0 → passes s ≡ true
+    → a ≡ Service.Served k → served a ≡ memoryFresh s memory .answer → after ≡ memoryFresh s memory .memory → Runs x after post
+fresh-runs x s memory after post a k m u ok e f g =
+    record {
+      events = [];
+      lent = tt;
+      measures = rw m ok;
+      after =
+          rw (m, u, g)
+          (record {
+            serves = fresh-serves s ok honestAll memory (fresh-long s memory a k ok e f);
+            parcels = [];
+            listed = none-listed post;
+            underWay = none-under-way s honestAll;
+          });
+    }
+
+-- ---- it goes on
+
+pub runs-same : (x y : Session) (memory post : List ℕ) → y .measures ≡ x .measures → y .used ≡ x .used → Runs x memory post → Runs y memory post
+runs-same x y memory post m u r = record { events = r .events; lent = r .lent; measures = rw m (r .measures); after = rw (m, u) (r .after) }
+
+pub live-as : (x y : Session) (memory post page : List ℕ) → y ≡ x → Live x memory post page → Live y memory post page
+live-as x y memory post page e l = rw e l
+
+-- a part of a slice has bytes in it, as the slice has
+pub front-bytes : (n : ℕ) (b : List ℕ) → ((i : ℕ) → getD b i 0 < 256) → (i : ℕ) → getD (take n b) i 0 < 256
+front-bytes zero b h i = omega arith
+front-bytes (suc n) [] h i = omega arith
+front-bytes (suc n) (a ∷ b) h zero = h 0
+front-bytes (suc n) (a ∷ b) h (suc i) = front-bytes n b (λ j. h (suc j)) i
+
+-- an operation: its start is an event of the run, and so is each parcel that is handed over
+pub operation-runs : (x y : Session) (s : Measures) (used c i room : ℕ) (e : Event) (before after end : Lent) (turn : Turn) (text text′ : List ℕ) (r : Settled) (out : List ℕ)
+    → x .measures ≡ s → x .used ≡ used → Runs x (before .memory) (before .post) → y .measures ≡ s → y .used ≡ r .used
+    → ((honest : ℕ → Bool) → Happens s honest e c i room used before after turn) → Given e
+    → Settles s c turn (record { memory = after .memory; post = after .post; out = out }) text end text′ r → Runs y (end .memory) (end .post)
+operation-runs x y s used c i room e before after end turn text text′ r out m u h n v o g p =
+    let a : After s honestAll (h .events) (before .memory) (before .post) used = rw (m, u) at (h .after) in
+    let d = happens-continues s e c i room used before after turn (o honestAll) g (h .events) a in
+    let f =
+    continues-more s (h .events) (after .memory) (after .post) (end .memory) (end .post) (turn .used) (r .used) d
+    (settles-continue s c turn (record { memory = after .memory; post = after .post; out = out }) text end text′ r p (h .events ++ d .more)) in
+    record { events = h .events ++ f .more; lent = lent-more (h .events) (f .more) (h .lent) (f .lent); measures = rw (n, ← m) (h .measures); after = rw (n, v) (f .after) }

@@ -1,0 +1,14 @@
+use mathlib.Core.Path.{refl}
+use mathlib.Core.List.{[]}
+use borrow.Author.Needs.{needs}
+use Rattle.session.proofs.session.at_stage.Statement.{statement}
+use Rattle.session.proofs.session.at_stage.Tie as tie
+
+begin-requires : tie.Need-begin-requires
+begin-requires c κs = search needs
+
+returns : tie.Need-returns
+returns c = (refl, refl, refl, refl, λ memory post page f. record { runs = f; line = []; read = c .begin .ensures page })
+
+pub at-stage-spec : {M : Type 1} → statement M
+at-stage-spec = tie.close (tie.spec begin-requires returns)

@@ -1,0 +1,114 @@
+use mathlib.Core.Path.{sym, _∙_}
+use native.Mathlib.Omega.{arith}
+use borrow.Author.Tests.{not-false}
+use borrow.Author.Needs.{needs}
+use Rattle.session.proofs.SessionLaws.{fresh-runs}
+use Rattle.session.proofs.session.config.Statement.{statement}
+use Rattle.session.proofs.session.config.Tie as tie
+
+pass-requires : tie.Need-pass-requires
+pass-requires c κs = search needs
+
+refused-requires : tie.Need-refused-requires
+refused-requires c κs = search needs
+
+at-stage-requires : tie.Need-at-stage-requires
+at-stage-requires c κs = search needs
+
+same-length : tie.Need-same-length
+same-length c = search needs
+
+returns : tie.Need-returns
+returns c = λ post page. c .at-stage .ensures .4 _ post page (λ e. absurd (omega arith))
+
+small-requires : tie.Need-small-requires
+small-requires c κs = search needs
+
+refused-requires-2 : tie.Need-refused-requires-2
+refused-requires-2 c κs = search needs
+
+at-stage-requires-2 : tie.Need-at-stage-requires-2
+at-stage-requires-2 c κs = search needs
+
+same-length-2 : tie.Need-same-length-2
+same-length-2 c = search needs
+
+returns-2 : tie.Need-returns-2
+returns-2 c = λ post page. c .at-stage2 .ensures .4 _ post page (λ e. absurd (omega arith))
+
+fresh-requires : tie.Need-fresh-requires
+fresh-requires c κs = search needs
+
+enum-known-x : tie.Need-enum-known-x
+enum-known-x c = search needs
+
+number-requires : tie.Need-number-requires
+number-requires c κs = search needs
+
+refused-requires-3 : tie.Need-refused-requires-3
+refused-requires-3 c κs = search needs
+
+at-stage-requires-3 : tie.Need-at-stage-requires-3
+at-stage-requires-3 c κs = search needs
+
+enum-told : tie.Need-enum-told
+enum-told c = search needs
+
+header-requires : tie.Need-header-requires
+header-requires c κs = search needs
+
+at-stage-requires-4 : tie.Need-at-stage-requires-4
+at-stage-requires-4 c κs = search needs
+
+same-length-3 : tie.Need-same-length-3
+same-length-3 c = search needs
+
+same-length-4 : tie.Need-same-length-4
+same-length-4 c = search needs
+
+returns-3 : tie.Need-returns-3
+returns-3 c = λ post page. c .at-stage3 .ensures .4 _ post page (λ e. absurd (omega arith))
+
+same-length-5 : tie.Need-same-length-5
+same-length-5 c = search needs
+
+same-length-6 : tie.Need-same-length-6
+same-length-6 c = search needs
+
+returns-4 : tie.Need-returns-4
+returns-4 c =
+    let f = c .before .before .before .before .before .before .before .before .before .fresh in
+    let ok = sym (c .before .before .before .before .before .before .before .before .before .before .before .before .before .before .pass .ensures) ∙ not-false (c .before .before .before .before .before .before .before .before .before .before .before .before .before .before .pass .result) (c .before .before .before .before .before .before .before .before .before .before .before .before .before .if1 .left) in
+    let a = c .at-stage4 .ensures in
+    λ post page.
+    a .4 _ post page
+    (λ e. fresh-runs _ _ (c .before .before .before .before .before .before .before .before .before .before .before .before .before .before .before .before .before .args .memory .now) _ post (f .result) _ (a .2) (a .3) ok (c .before .before .before .before .before .enum-told .given .1) (f .ensures .0) (f .ensures .1))
+
+pub config-spec : {M : Type 1} → statement M
+config-spec =
+    tie.close
+    (tie.spec
+    pass-requires
+    refused-requires
+    at-stage-requires
+    same-length
+    returns
+    small-requires
+    refused-requires-2
+    at-stage-requires-2
+    same-length-2
+    returns-2
+    fresh-requires
+    enum-known-x
+    number-requires
+    refused-requires-3
+    at-stage-requires-3
+    enum-told
+    header-requires
+    at-stage-requires-4
+    same-length-3
+    same-length-4
+    returns-3
+    same-length-5
+    same-length-6
+    returns-4)

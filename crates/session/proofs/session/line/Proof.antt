@@ -1,0 +1,56 @@
+use borrow.Author.Needs.{needs}
+use Rattle.session.proofs.session.line.Statement.{statement}
+use Rattle.session.proofs.session.line.Tie as tie
+
+first-requires : tie.Need-first-requires
+first-requires c κs = search needs
+
+same-length : tie.Need-same-length
+same-length c = search needs
+
+same-length-2 : tie.Need-same-length-2
+same-length-2 c = search needs
+
+returns : tie.Need-returns
+returns c = λ l. c .before .before .before .before .first .ensures _ _
+
+later-requires : tie.Need-later-requires
+later-requires c κs = search needs
+
+same-length-3 : tie.Need-same-length-3
+same-length-3 c = search needs
+
+same-length-4 : tie.Need-same-length-4
+same-length-4 c = search needs
+
+same-length-5 : tie.Need-same-length-5
+same-length-5 c = search needs
+
+same-length-6 : tie.Need-same-length-6
+same-length-6 c = search needs
+
+same-length-7 : tie.Need-same-length-7
+same-length-7 c = search needs
+
+returns-2 : tie.Need-returns-2
+returns-2 c = λ l. c .before .before .before .before .before .before .before .before .before .before .later .ensures (c .before .before .before .before .before .before .before .before .before .before .before .before .before .before .before .before .if2 .taken) l
+
+returns-3 : tie.Need-returns-3
+returns-3 c = search needs
+
+pub line-spec : {M : Type 1} → statement M
+line-spec =
+    tie.close
+    (tie.spec
+    first-requires
+    same-length
+    same-length-2
+    returns
+    later-requires
+    same-length-3
+    same-length-4
+    same-length-5
+    same-length-6
+    same-length-7
+    returns-2
+    returns-3)

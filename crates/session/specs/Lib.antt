@@ -1,0 +1,3 @@
+pub mod Say
+pub mod Settle
+pub mod Session

@@ -1,0 +1,36 @@
+-- The line that tells how an operation ended.
+use mathlib.Core.Path.{_≡_}
+use mathlib.Core.List.{List}
+use mathlib.Core.Option.{Option, some, none}
+use Prim.Native.Nat.{ℕ}
+use lib.ListN.{take}
+use Rattle.lines.specs.Sentences.{refusedLine, depositedLine, nothingLine, pageLine, Line}
+use Rattle.records.specs.Answer.{number}
+use Rattle.client.specs.declared.answer.ClientAnswer.{ClientAnswer}
+use Rattle.runs.specs.declared.answer.Happened.{Happened}
+
+-- of client c, with what stands in the output
+abbrev pub clientLine : ℕ → ClientAnswer → List ℕ → Option (List ℕ)
+clientLine c (ClientAnswer.Refused r) out = some (refusedLine (number r))
+clientLine c ClientAnswer.Waits out = none
+clientLine c ClientAnswer.Scan out = none
+clientLine c (ClientAnswer.Update n) out = none
+clientLine c (ClientAnswer.Stores v n) out = none
+clientLine c (ClientAnswer.Requests v nodes) out = none
+clientLine c (ClientAnswer.Deposited v n) out = some (depositedLine c (v .sequence .0))
+clientLine c ClientAnswer.Empty out = some (nothingLine c)
+clientLine c (ClientAnswer.Page v n) out = some (pageLine c (v .sequence .0) (v .client) (take n out))
+clientLine c ClientAnswer.Spent out = some (refusedLine 7)
+clientLine c ClientAnswer.Failed out = some (refusedLine 9)
+
+abbrev pub happenedLine : ℕ → Happened → List ℕ → Option (List ℕ)
+happenedLine c (Happened.Refused r) out = some (refusedLine (number r))
+happenedLine c Happened.Nothing out = none
+happenedLine c Happened.Taken out = none
+happenedLine c (Happened.ByClient a) out = clientLine c a out
+happenedLine c (Happened.ByServer a) out = none
+
+-- it stands at the front of the text; if there is none, the text is as it was
+abbrev pub Says : Option (List ℕ) → List ℕ → List ℕ → ℕ → Type 0
+Says none text after r = (r ≡ 0) × (after ≡ text)
+Says (some l) text after r = Line text l after r

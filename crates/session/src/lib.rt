@@ -1,0 +1,5 @@
+pub mod say;
+pub mod session;
+pub mod settle;
+pub mod space;
+pub mod stream;

@@ -1,0 +1,41 @@
+// The line that tells how an operation ended.
+use client::answer::ClientAnswer;
+use lines::text::deposited;
+use lines::text::read_nothing;
+use lines::text::read_page;
+use lines::text::refused;
+use runs::answer::Happened;
+use runs::least::least;
+ghost use Rattle.session.specs.Say.{clientLine, happenedLine, Says};
+
+fn client(c: usize, a: ClientAnswer, out: &[u8], text: &mut [u8]) -> usize
+    ensures { λ r. ⌜ Says (clientLine c a (now (out .entry))) (now (text .entry)) (now (text .exit)) r ⌝ }
+{
+    match a {
+        ClientAnswer::Refused(r) => refused(text, r.number()),
+        ClientAnswer::Deposited(v, _) => {
+            let q = v.sequence;
+            deposited(text, c, q.0)
+        }
+        ClientAnswer::Empty => read_nothing(text, c),
+        ClientAnswer::Page(v, n) => {
+            let q = v.sequence;
+            let to = least(n, out.len());
+            read_page(text, c, q.0, v.client, &out[..to])
+        }
+        ClientAnswer::Spent => refused(text, 7),
+        ClientAnswer::Failed => refused(text, 9),
+        _ => 0,
+    }
+}
+
+// The line's length, or 0 if client c's operation goes on.
+pub fn say(c: usize, what: Happened, out: &[u8], text: &mut [u8]) -> usize
+    ensures { λ r. ⌜ Says (happenedLine c what (now (out .entry))) (now (text .entry)) (now (text .exit)) r ⌝ }
+{
+    match what {
+        Happened::Refused(r) => refused(text, r.number()),
+        Happened::ByClient(a) => client(c, a, out, text),
+        _ => 0,
+    }
+}

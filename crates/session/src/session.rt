@@ -1,0 +1,254 @@
+// A session of `stand`, byte by byte.
+use crate::settle::settle;
+use lines::command::Command;
+use lines::command::asked;
+use lines::read::Reading;
+use lines::read::begin;
+use lines::read::ended;
+use lines::read::next;
+use lines::text::header;
+use lines::text::refused;
+use parties::answer::Service;
+use protocol::measures::Measures;
+use runs::event::deposit;
+use runs::event::reading;
+use runs::least::least;
+use title::fresh::fresh;
+ghost use mathlib.Core.Path.{_≡_};
+ghost use mathlib.Core.Bool.{true};
+ghost use mathlib.Core.List.{List};
+ghost use Prim.Native.Nat.{ℕ};
+ghost use Rattle.protocol.specs.Measures.{passes};
+ghost use Rattle.session.specs.Session.{Runs, Live};
+
+pub struct Session {
+    // 0 before the first line, 1 after a `config`, 2 after a first line that was refused.
+    pub stage: u8,
+    pub measures: Measures,
+    // How many bytes of parcels are under way.
+    pub used: usize,
+    // The line that is being read has a byte.
+    pub open: bool,
+    pub reading: Reading,
+}
+
+pub struct Answer {
+    pub session: Session,
+    // The length of the line that answers, or 0.
+    pub len: usize,
+}
+
+pub fn start() -> Session
+    ensures { λ r. ⌜ ((memory post page : List ℕ) → Live r memory post page) ⌝ }
+{
+    Session {
+        stage: 0,
+        measures: Measures {
+            m: 0,
+            n: 0,
+            k: 0,
+            t: 0,
+            f: 0,
+        },
+        used: 0,
+        open: false,
+        reading: begin(),
+    }
+}
+
+// A new line is read.
+fn at_stage(stage: u8, measures: Measures, used: usize, len: usize) -> Answer
+    ensures { λ r. ⌜ (r .len ≡ len) × (r .session .stage ≡ stage) × (r .session .measures ≡ measures) × (r .session .used ≡ used)
+        × ((memory post page : List ℕ) → (stage ≡ 1 → Runs (r .session) memory post) → Live (r .session) memory post page) ⌝ }
+{
+    Answer {
+        session: Session {
+            stage,
+            measures,
+            used,
+            open: false,
+            reading: begin(),
+        },
+        len,
+    }
+}
+
+// Whether the program has memory for such measures.
+fn small(s: Measures) -> bool {
+    if 3 < s.m {
+        return false;
+    }
+    s.f <= 64
+}
+
+// Measures out of bounds come before those that are too big.
+fn config(s: Measures, memory: &mut [u8], text: &mut [u8]) -> Answer
+    ensures { λ r. ⌜ ((post page : List ℕ) → Live (r .session) (now (memory .exit)) post page) ⌝ }
+{
+    if !s.pass() {
+        let n = refused(text, 1);
+        return at_stage(2, s, 0, n);
+    }
+    if !small(s) {
+        let n = refused(text, 2);
+        return at_stage(2, s, 0, n);
+    }
+    match fresh(s, memory) {
+        Service::Refused(x) => {
+            let n = refused(text, x.number());
+            at_stage(2, s, 0, n)
+        }
+        Service::Served(_) => {
+            let n = header(text, s.m, s.n, s.k, s.t, s.f);
+            at_stage(1, s, 0, n)
+        }
+    }
+}
+
+// The first line.
+fn first(x: Session, memory: &mut [u8], text: &mut [u8]) -> Answer
+    ensures { λ r. ⌜ ((post page : List ℕ) → Live (r .session) (now (memory .exit)) post page) ⌝ }
+{
+    let r = x.reading;
+    match asked(ended(r)) {
+        Command::Config(m, n, k, t, f) => config(Measures { m, n, k, t, f }, memory, text),
+        _ => {
+            let s = x.measures;
+            let n = refused(text, 4);
+            at_stage(2, s, 0, n)
+        }
+    }
+}
+
+fn read(
+    s: Measures,
+    used: usize,
+    c: usize,
+    memory: &mut [u8],
+    room: &mut [u8],
+    out: &mut [u8],
+    post: &mut [u8],
+    text: &mut [u8],
+) -> Answer
+    ensures { λ r. ⌜ ((page : List ℕ) (x : Session) → x .measures ≡ s → x .used ≡ used → Runs x (now (memory .entry)) (now (post .entry)) → Live (r .session) (now (memory .exit)) (now (post .exit)) page) ⌝ }
+{
+    let turn = reading(s, c, memory, room, post, used);
+    let e = settle(s, c, turn, memory, room, out, post, text);
+    at_stage(1, s, e.used, e.len)
+}
+
+fn put(
+    s: Measures,
+    used: usize,
+    c: usize,
+    bytes: usize,
+    memory: &mut [u8],
+    room: &mut [u8],
+    out: &mut [u8],
+    post: &mut [u8],
+    page: &[u8],
+    text: &mut [u8],
+) -> Answer
+    ensures { λ r. ⌜ ((sheet : List ℕ) (x : Session) → x .measures ≡ s → x .used ≡ used → Runs x (now (memory .entry)) (now (post .entry)) → Live (r .session) (now (memory .exit)) (now (post .exit)) sheet) ⌝ }
+{
+    let n = least(bytes, page.len());
+    let turn = deposit(s, c, memory, &page[..n], post, used);
+    let e = settle(s, c, turn, memory, room, out, post, text);
+    at_stage(1, s, e.used, e.len)
+}
+
+// A later line.
+fn later(
+    x: Session,
+    memory: &mut [u8],
+    room: &mut [u8],
+    out: &mut [u8],
+    post: &mut [u8],
+    page: &[u8],
+    text: &mut [u8],
+) -> Answer
+    ensures { λ r. ⌜ (x .stage ≡ 1 → Live x (now (memory .entry)) (now (post .entry)) (now (page .entry)) → Live (r .session) (now (memory .exit)) (now (post .exit)) (now (page .entry))) ⌝ }
+{
+    let r = x.reading;
+    let s = x.measures;
+    match asked(ended(r)) {
+        Command::Read(c) => read(s, x.used, c, memory, room, out, post, text),
+        Command::Deposit(c, bytes) => {
+            put(s, x.used, c, bytes, memory, room, out, post, page, text)
+        }
+        _ => {
+            let n = refused(text, 4);
+            at_stage(1, s, x.used, n)
+        }
+    }
+}
+
+// A line ended.
+fn line(
+    x: Session,
+    memory: &mut [u8],
+    room: &mut [u8],
+    out: &mut [u8],
+    post: &mut [u8],
+    page: &[u8],
+    text: &mut [u8],
+) -> Answer
+    ensures { λ r. ⌜ (Live x (now (memory .entry)) (now (post .entry)) (now (page .entry)) → Live (r .session) (now (memory .exit)) (now (post .exit)) (now (page .entry))) ⌝ }
+{
+    if x.stage == 0 {
+        return first(x, memory, text);
+    }
+    if x.stage == 1 {
+        return later(x, memory, room, out, post, page, text);
+    }
+    Answer { session: x, len: 0 }
+}
+
+// A byte of the input.
+pub fn feed(
+    x: Session,
+    b: u8,
+    memory: &mut [u8],
+    room: &mut [u8],
+    out: &mut [u8],
+    post: &mut [u8],
+    page: &mut [u8],
+    text: &mut [u8],
+) -> Answer
+    ensures { λ r. ⌜ (Live x (now (memory .entry)) (now (post .entry)) (now (page .entry)) → Live (r .session) (now (memory .exit)) (now (post .exit)) (now (page .exit))) ⌝ }
+{
+    if b == 10 {
+        return line(x, memory, room, out, post, page, text);
+    }
+    let r = x.reading;
+    let s = x.measures;
+    let more = next(r, b, page);
+    Answer {
+        session: Session {
+            stage: x.stage,
+            measures: s,
+            used: x.used,
+            open: true,
+            reading: more,
+        },
+        len: 0,
+    }
+}
+
+// The end of the input: a last line may lack its line feed.
+pub fn close(
+    x: Session,
+    memory: &mut [u8],
+    room: &mut [u8],
+    out: &mut [u8],
+    post: &mut [u8],
+    page: &[u8],
+    text: &mut [u8],
+) -> Answer
+    ensures { λ r. ⌜ (Live x (now (memory .entry)) (now (post .entry)) (now (page .entry)) → Live (r .session) (now (memory .exit)) (now (post .exit)) (now (page .entry))) ⌝ }
+{
+    if x.open {
+        return line(x, memory, room, out, post, page, text);
+    }
+    Answer { session: x, len: 0 }
+}

@@ -1,0 +1,55 @@
+// A session from bytes to standard output.
+use crate::session::Answer;
+use crate::session::Session;
+use crate::session::close;
+use crate::session::feed;
+use libc::STDOUT_FILENO;
+ghost use mathlib.Core.Path.{_≡_};
+ghost use Rattle.session.specs.Session.{Live};
+
+// The answer's line is written.
+fn put(a: Answer, text: &[u8]) -> Session
+    ensures { λ r. ⌜ r ≡ a .session ⌝ }
+{
+    if a.len <= text.len() {
+        io::write_all(STDOUT_FILENO, &text[..a.len]);
+    }
+    a.session
+}
+
+// Bytes of the input, one after the other.
+pub fn feed_all(
+    x: Session,
+    input: &[u8],
+    memory: &mut [u8],
+    room: &mut [u8],
+    out: &mut [u8],
+    post: &mut [u8],
+    page: &mut [u8],
+    text: &mut [u8],
+) -> Session
+    ensures { λ r. ⌜ (Live x (now (memory .entry)) (now (post .entry)) (now (page .entry)) → Live r (now (memory .exit)) (now (post .exit)) (now (page .exit))) ⌝ }
+{
+    let mut y = x;
+    for i in 0..input.len() {
+        let a = feed(y, input[i], memory, room, out, post, page, text);
+        y = put(a, text);
+    }
+    y
+}
+
+// The end of the input.
+pub fn end(
+    x: Session,
+    memory: &mut [u8],
+    room: &mut [u8],
+    out: &mut [u8],
+    post: &mut [u8],
+    page: &[u8],
+    text: &mut [u8],
+) -> Session
+    ensures { λ r. ⌜ (Live x (now (memory .entry)) (now (post .entry)) (now (page .entry)) → Live r (now (memory .exit)) (now (post .exit)) (now (page .entry))) ⌝ }
+{
+    let a = close(x, memory, room, out, post, page, text);
+    put(a, text)
+}
