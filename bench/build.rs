@@ -1,4 +1,5 @@
-// Links the proved archives. CODING_LIB and PARTIES_LIB name another folder with an archive of that name, to measure a trial.
+// Links the proved archives that the features ask for. CODING_LIB, PARTIES_LIB and CLIENT_LIB name another folder with an archive of
+// that name, to measure a trial.
 use std::env;
 use std::path::PathBuf;
 
@@ -18,6 +19,13 @@ fn link(variable: &str, archive: &str) {
 }
 
 fn main() {
-    link("CODING_LIB", "coding_export");
-    link("PARTIES_LIB", "parties_export");
+    // Without an archive nothing but this file decides.
+    println!("cargo:rerun-if-changed=build.rs");
+    if env::var_os("CARGO_FEATURE_ARCHIVES").is_some() {
+        link("CODING_LIB", "coding_export");
+        link("PARTIES_LIB", "parties_export");
+    }
+    if env::var_os("CARGO_FEATURE_CLIENT").is_some() {
+        link("CLIENT_LIB", "client_export");
+    }
 }

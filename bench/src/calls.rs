@@ -1,41 +1,18 @@
 //! Calls without order to the directory and a node, valid and damaged: the archive and plain Rust must answer and leave the same.
 
 use crate::parties::{self, put_version, Measures, Pointer, Record, Version};
-use crate::proved::{self, Answer};
-use crate::Numbers;
-use std::collections::{BTreeMap, BTreeSet};
+use crate::plain::Answer;
+use crate::proved;
+use crate::random::{
+    measures, number, other_measures, rare, spoil, spoil_byte, spoil_directory, version, who,
+    Numbers,
+};
+use crate::tally::Tally;
+use std::collections::BTreeSet;
 
-/// How often each call was answered in each way.
-#[derive(Default)]
-struct Tally(BTreeMap<&'static str, BTreeMap<u32, usize>>);
-
-impl Tally {
-    // 0 is no refusal's number, and stands for served.
-    fn note(&mut self, name: &'static str, answer: Answer) {
-        let number = answer.err().unwrap_or(0);
-        *self.0.entry(name).or_default().entry(number).or_default() += 1;
-    }
-
-    fn met(&self, name: &str) -> BTreeSet<u32> {
-        self.0
-            .get(name)
-            .into_iter()
-            .flat_map(|counts| counts.keys().copied())
-            .collect()
-    }
-
-    fn print(&self) {
-        for (name, counts) in &self.0 {
-            let served = counts.get(&0).copied().unwrap_or(0);
-            let refused: Vec<String> = counts
-                .iter()
-                .filter(|(number, _)| **number > 0)
-                .map(|(number, count)| format!("{number}: {count}"))
-                .collect();
-            let line = format!("{name:<28} {served:>10}   {}", refused.join(", "));
-            println!("{}", line.trim_end());
-        }
-    }
+/// The refusal's number, or 0 for served.
+fn refused(answer: Answer) -> u32 {
+    answer.err().unwrap_or(0)
 }
 
 pub fn same_directory_fresh(s: Measures, table: &[u8]) -> (Vec<u8>, Answer) {
@@ -94,53 +71,6 @@ pub fn same_message(
         "message {s:?} {i} {message:?}: the bytes differ"
     );
     (ours, our_room, answer)
-}
-
-/// Measures that pass; most tables are small, a few as large as can be.
-fn measures(numbers: &mut Numbers) -> Measures {
-    let n = 1 + numbers.below(16);
-    let t = numbers.below((n - 1) / 2 + 1);
-    let k = 1 + numbers.below(n - 2 * t);
-    let most = [2, 3, 8][numbers.below(3)];
-    let m = 1 + numbers.below(most);
-    let f = match numbers.below(40) {
-        0 => 4096,
-        1..=6 => 4usize.div_ceil(k),
-        7..=9 => 200 + numbers.below(900),
-        _ => 1 + numbers.below(40),
-    };
-    let f = f.max(4usize.div_ceil(k));
-    Measures { m, n, k, t, f }
-}
-
-/// One of the five is another number.
-fn other_measures(numbers: &mut Numbers, s: Measures) -> Measures {
-    let other = match numbers.below(4) {
-        0 => numbers.below(20),
-        1 => 4090 + numbers.below(10),
-        2 => usize::MAX - numbers.below(2),
-        _ => 1 << (60 + numbers.below(4)),
-    };
-    let mut s = s;
-    *[&mut s.m, &mut s.n, &mut s.k, &mut s.t, &mut s.f][numbers.below(5)] = other;
-    s
-}
-
-/// Now and then.
-fn rare(numbers: &mut Numbers) -> bool {
-    numbers.below(14) == 0
-}
-
-fn number(numbers: &mut Numbers) -> u32 {
-    [numbers.below(4) as u32, numbers.next() as u32, u32::MAX][numbers.below(3)]
-}
-
-/// Few enough versions that most are met again, at steps that reach every byte of a sequence.
-fn version(numbers: &mut Numbers, s: Measures, step: u32) -> Version {
-    (
-        1 + step * numbers.below(3 * s.m + 2) as u32,
-        numbers.below(s.m) as u8,
-    )
 }
 
 fn pointer(numbers: &mut Numbers, s: Measures, step: u32) -> Pointer {
@@ -203,45 +133,6 @@ fn message(numbers: &mut Numbers, s: Measures, step: u32) -> Vec<u8> {
     out
 }
 
-fn spoil_byte(numbers: &mut Numbers, bytes: &mut [u8], at: usize) {
-    if let Some(b) = bytes.get_mut(at) {
-        *b = match numbers.below(3) {
-            0 => *b ^ 1 << numbers.below(8),
-            1 => numbers.below(3) as u8,
-            _ => numbers.next() as u8,
-        };
-    }
-}
-
-/// Other bytes: one changed, some fewer, one more, the last five again.
-fn spoil(numbers: &mut Numbers, bytes: &mut Vec<u8>) {
-    let len = bytes.len();
-    match numbers.below(5) {
-        0 => bytes.truncate(len - numbers.below(len + 1).min(1 + numbers.below(6))),
-        1 => bytes.push(numbers.below(2) as u8),
-        2 => bytes.extend_from_within(len.saturating_sub(5)..),
-        3 => {
-            let at = numbers.below(len.max(1));
-            spoil_byte(numbers, bytes, at);
-        }
-        _ => {
-            let at = numbers.below(12);
-            spoil_byte(numbers, bytes, at);
-        }
-    }
-}
-
-fn spoil_directory(numbers: &mut Numbers, s: Measures, table: &mut [u8]) {
-    let row = numbers.below(s.m) * s.row();
-    let at = match numbers.below(4) {
-        0 => row,
-        1 => row + s.row() - 1 - numbers.below(3),
-        2 => row + numbers.below(s.row().min(50)),
-        _ => row + numbers.below(s.row()),
-    };
-    spoil_byte(numbers, table, at);
-}
-
 fn spoil_table(numbers: &mut Numbers, s: Measures, table: &mut [u8]) {
     let count = u16::from_be_bytes([table[0], table[1]]) as usize;
     let place = 2 + numbers.below((count + 1).min(s.places())) * s.place();
@@ -285,15 +176,6 @@ fn cut(numbers: &mut Numbers, bytes: &[u8], need: usize) -> Vec<u8> {
     bytes
 }
 
-/// The number of a client or node, now and then out of bounds.
-fn who(numbers: &mut Numbers, from: usize, count: usize) -> usize {
-    if rare(numbers) {
-        [0, count, count + 1, usize::MAX][numbers.below(4)]
-    } else {
-        from + numbers.below(count)
-    }
-}
-
 /// One page's tables under one set of measures.
 struct Session {
     s: Measures,
@@ -308,9 +190,9 @@ impl Session {
         let step = [1, 255, 65_537, 16_777_259][numbers.below(4)];
         let spare = numbers.below(4);
         let (directory, answer) = same_directory_fresh(s, &numbers.bytes(s.directory() + spare));
-        tally.note("directory, fresh", answer);
+        tally.note("directory, fresh", refused(answer));
         let (table, answer) = same_node_fresh(s, &numbers.bytes(s.table() + spare));
-        tally.note("node, fresh", answer);
+        tally.note("node, fresh", refused(answer));
         Session {
             s,
             step,
@@ -327,11 +209,11 @@ impl Session {
         };
         let table = cut(numbers, &self.directory, self.s.directory());
         let (end, answer) = same_directory_fresh(s, &table);
-        tally.note("directory, fresh", answer);
+        tally.note("directory, fresh", refused(answer));
         assert!(answer.is_ok() || end == table);
         let table = cut(numbers, &self.table, self.s.table());
         let (end, answer) = same_node_fresh(s, &table);
-        tally.note("node, fresh", answer);
+        tally.note("node, fresh", refused(answer));
         assert!(answer.is_ok() || end == table);
     }
 
@@ -370,7 +252,7 @@ impl Session {
             spoil(numbers, &mut fields);
         }
         let (end, answer) = same_update(s, own, &table, &fields);
-        tally.note("directory, update", answer);
+        tally.note("directory, update", refused(answer));
         assert!(answer.is_ok() || end == table);
         if whole && answer.is_ok() {
             self.directory = end;
@@ -384,7 +266,7 @@ impl Session {
         let room = numbers.bytes(need + spare);
         let room = cut(numbers, &room, need);
         let (end, answer) = same_scan(s, &table, &room);
-        tally.note("directory, scan", answer);
+        tally.note("directory, scan", refused(answer));
         assert!(answer.is_ok() || end == room);
     }
 
@@ -405,7 +287,7 @@ impl Session {
             Some(3) => "node, free",
             _ => "node, no message",
         };
-        tally.note(kind, answer);
+        tally.note(kind, refused(answer));
         assert!(answer.is_ok() || (end == table && reply == room));
         if answer.is_ok() {
             let case = match (message[0], table[..2] == end[..2]) {
@@ -416,7 +298,7 @@ impl Session {
                 (_, true) => "node, free: none held",
                 (_, false) => "node, free: some held",
             };
-            tally.note(case, answer);
+            tally.note(case, refused(answer));
         }
         if whole && answer.is_ok() {
             self.table = end;
@@ -447,7 +329,6 @@ pub fn calls(numbers: &mut Numbers, total: usize) {
         }
     }
     println!("{done} calls to the directory and the node: the same answers and bytes, every refusal among them");
-    println!("{:<28} {:>10}   refused", "", "served");
     tally.print();
     for (name, met) in [
         ("directory, fresh", vec![0, 1, 2]),

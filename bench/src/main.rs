@@ -1,38 +1,31 @@
 //! The proved archives beside plain Rust: first that both give the same, then how long each takes.
 
 mod calls;
+mod client;
+mod client_calls;
 mod clock;
 mod parties;
 mod plain;
 mod proved;
+mod random;
+mod runs;
+mod sides;
 mod tables;
+mod tally;
+mod wrong;
 
 use clock::Task;
+use random::Numbers;
+use sides::Plain;
 use std::collections::BTreeSet;
 use std::hint::black_box;
 
 const F: usize = 4096;
+const CALLS: usize = 100_000;
+const RUNS: usize = 2000;
 const SHAPES: [(usize, usize); 3] = [(2, 4), (4, 8), (8, 16)];
 
-/// Numbers without order, the same in each run.
-struct Numbers(u64);
-
 impl Numbers {
-    fn next(&mut self) -> u64 {
-        self.0 ^= self.0 << 13;
-        self.0 ^= self.0 >> 7;
-        self.0 ^= self.0 << 17;
-        self.0 >> 16
-    }
-
-    fn below(&mut self, n: usize) -> usize {
-        self.next() as usize % n
-    }
-
-    fn bytes(&mut self, n: usize) -> Vec<u8> {
-        (0..n).map(|_| self.next() as u8).collect()
-    }
-
     /// About n bytes, now and then too few.
     fn near(&mut self, n: usize) -> Vec<u8> {
         let less = self.below(7);
@@ -41,7 +34,7 @@ impl Numbers {
 }
 
 /// Splits on both sides into rooms with the same bytes, and hands back the room and the answer.
-fn same_split(n: usize, k: usize, f: usize, page: &[u8], room: &[u8]) -> (Vec<u8>, proved::Answer) {
+fn same_split(n: usize, k: usize, f: usize, page: &[u8], room: &[u8]) -> (Vec<u8>, plain::Answer) {
     let (mut ours, mut theirs) = (room.to_vec(), room.to_vec());
     let answer = proved::split(n, k, f, page, &mut ours);
     assert_eq!(
@@ -66,7 +59,7 @@ fn same_join(
     room: &[u8],
     lens: &[u16],
     out: &[u8],
-) -> (Vec<u8>, proved::Answer) {
+) -> (Vec<u8>, plain::Answer) {
     let (mut ours, mut theirs) = (out.to_vec(), out.to_vec());
     let answer = proved::join(n, k, f, present, room, lens, &mut ours);
     assert_eq!(
@@ -81,7 +74,7 @@ fn same_join(
     (ours, answer)
 }
 
-fn same_digest(s: &[u8], out: usize) -> proved::Answer {
+fn same_digest(s: &[u8], out: usize) -> plain::Answer {
     let (mut ours, mut theirs) = (vec![7; out], vec![7; out]);
     let answer = proved::digest(s, &mut ours);
     assert_eq!(
@@ -285,6 +278,35 @@ fn growth(numbers: &mut Numbers) -> Vec<Task> {
     tasks
 }
 
+/// Random calls to clients and whole runs of plain Rust, and what is wrong and must be caught.
+fn clients(numbers: &mut Numbers) -> (u64, u64) {
+    println!();
+    client_calls::calls("plain Rust", &mut Plain, &mut Plain, numbers, CALLS);
+    println!();
+    let seed = numbers.next();
+    let sum = runs::runs("plain Rust", &mut Plain, seed, RUNS);
+    println!();
+    wrong::wrong(numbers, 3000);
+    (seed, sum)
+}
+
+/// The same of the archives: calls on both sides, and the same runs.
+#[cfg(feature = "client")]
+fn proved_clients(numbers: &mut Numbers, (seed, sum): (u64, u64)) {
+    println!();
+    let names = "the archive and of plain Rust";
+    client_calls::calls(names, &mut proved::Proved, &mut Plain, numbers, CALLS);
+    println!();
+    let ours = runs::runs("the archives", &mut proved::Proved, seed, RUNS);
+    assert_eq!(ours, sum, "the same runs leave other bytes");
+}
+
+#[cfg(not(feature = "client"))]
+fn proved_clients(_: &mut Numbers, _: (u64, u64)) {
+    println!();
+    println!("no archive of the client is linked: that takes the feature `client`");
+}
+
 fn head(plain: &str) {
     println!();
     println!(
@@ -309,7 +331,9 @@ fn print(tasks: &[Task]) {
 fn main() {
     let mut numbers = Numbers(88172645463325252);
     small(&mut numbers);
-    calls::calls(&mut numbers, 100_000);
+    calls::calls(&mut numbers, CALLS);
+    let made = clients(&mut numbers);
+    proved_clients(&mut numbers, made);
     let mut tasks = whole(&mut numbers);
     let grow = tasks.len();
     tasks.append(&mut growth(&mut numbers));

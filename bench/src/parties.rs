@@ -1,7 +1,7 @@
 //! The directory and the data node in plain Rust, from document 01: a table is read into values, and what the step makes of them is
 //! written back whole.
 
-use crate::proved::Answer;
+use crate::plain::Answer;
 use std::collections::BTreeMap;
 
 #[derive(Clone, Copy, Debug)]
@@ -54,17 +54,17 @@ impl Measures {
 /// Sequence and client; pairs are ordered as versions are.
 pub type Version = (u32, u8);
 
-const NONE: Version = (0, 255);
+pub const NONE: Version = (0, 255);
 
-fn proper(s: Measures, v: Version) -> bool {
+pub fn proper(s: Measures, v: Version) -> bool {
     v.0 >= 1 && (v.1 as usize) < s.m
 }
 
 /// What is left to read.
-struct Bytes<'a>(&'a [u8]);
+pub struct Bytes<'a>(pub &'a [u8]);
 
 impl<'a> Bytes<'a> {
-    fn take(&mut self, n: usize) -> Option<&'a [u8]> {
+    pub fn take(&mut self, n: usize) -> Option<&'a [u8]> {
         if self.0.len() < n {
             return None;
         }
@@ -73,23 +73,23 @@ impl<'a> Bytes<'a> {
         Some(front)
     }
 
-    fn u8(&mut self) -> Option<u8> {
+    pub fn u8(&mut self) -> Option<u8> {
         Some(self.take(1)?[0])
     }
 
-    fn u16(&mut self) -> Option<u16> {
+    pub fn u16(&mut self) -> Option<u16> {
         Some(u16::from_be_bytes(self.take(2)?.try_into().ok()?))
     }
 
-    fn u32(&mut self) -> Option<u32> {
+    pub fn u32(&mut self) -> Option<u32> {
         Some(u32::from_be_bytes(self.take(4)?.try_into().ok()?))
     }
 
-    fn version(&mut self) -> Option<Version> {
+    pub fn version(&mut self) -> Option<Version> {
         Some((self.u32()?, self.u8()?))
     }
 
-    fn zeros(&self) -> bool {
+    pub fn zeros(&self) -> bool {
         self.0.iter().all(|b| *b == 0)
     }
 }
@@ -99,7 +99,7 @@ pub fn put_version(out: &mut Vec<u8>, v: Version) {
     out.push(v.1);
 }
 
-#[derive(Clone)]
+#[derive(Clone, Debug, PartialEq)]
 pub struct Pointer {
     pub version: Version,
     pub nodes: u16,
@@ -115,7 +115,7 @@ impl Pointer {
         }
     }
 
-    fn read(s: Measures, b: &mut Bytes) -> Option<Self> {
+    pub fn read(s: Measures, b: &mut Bytes) -> Option<Self> {
         let (version, nodes) = (b.version()?, b.u16()?);
         let count = nodes.count_ones() as usize;
         let known = (nodes as u32) < 1 << s.n;
@@ -132,7 +132,7 @@ impl Pointer {
         })
     }
 
-    fn write(&self, out: &mut Vec<u8>) {
+    pub fn write(&self, out: &mut Vec<u8>) {
         put_version(out, self.version);
         out.extend(self.nodes.to_be_bytes());
         out.extend(&self.digests);
@@ -149,7 +149,7 @@ pub struct Record {
 }
 
 impl Record {
-    fn read(s: Measures, b: &mut Bytes) -> Option<Self> {
+    pub fn read(s: Measures, b: &mut Bytes) -> Option<Self> {
         let map = b.u8()?;
         if map > 15 {
             return None;
@@ -215,14 +215,14 @@ fn read_row(s: Measures, area: &[u8]) -> Option<Record> {
     (row.map() == 15 && b.zeros()).then_some(row)
 }
 
-fn read_rows(s: Measures, table: &[u8]) -> Option<Vec<Record>> {
+pub fn read_rows(s: Measures, table: &[u8]) -> Option<Vec<Record>> {
     table[..s.directory()]
         .chunks(s.row())
         .map(|area| read_row(s, area))
         .collect()
 }
 
-fn write_rows(s: Measures, rows: &[Record], table: &mut [u8]) {
+pub fn write_rows(s: Measures, rows: &[Record], table: &mut [u8]) {
     for (row, area) in rows.iter().zip(table.chunks_mut(s.row())) {
         let bytes = row.write();
         area.fill(0);
@@ -275,9 +275,9 @@ pub fn directory_scan(s: Measures, table: &[u8], room: &mut [u8]) -> Answer {
     Ok(size)
 }
 
-type Held = BTreeMap<Version, Vec<u8>>;
+pub type Held = BTreeMap<Version, Vec<u8>>;
 
-fn read_table(s: Measures, table: &[u8]) -> Option<Held> {
+pub fn read_table(s: Measures, table: &[u8]) -> Option<Held> {
     let mut b = Bytes(&table[..s.table()]);
     let count = b.u16()? as usize;
     if count > s.places() {

@@ -1,6 +1,7 @@
 //! The same work in plain Rust, from the definitions: one product by the two tables for each byte of the frame.
 
-use crate::proved::Answer;
+/// A length, or the number of the refusal.
+pub type Answer = Result<usize, u32>;
 
 const fn exp_table() -> [u8; 255] {
     let mut exp = [0; 255];

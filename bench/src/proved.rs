@@ -1,6 +1,9 @@
 //! The proved functions, behind safe wrappers. None of them requires anything of its caller but that a slice is one.
 
+#[cfg(feature = "client")]
+use crate::client;
 use crate::parties::Measures;
+use crate::plain::Answer;
 
 mod archive {
     extern "C" {
@@ -83,9 +86,6 @@ mod archive {
         ) -> u64;
     }
 }
-
-/// A length, or the number of the refusal.
-pub type Answer = Result<usize, u32>;
 
 // The bit above a length says that the rest is a refusal's number.
 fn answer(code: u64) -> Answer {
@@ -213,4 +213,338 @@ pub fn node_message(
             room.len(),
         )
     })
+}
+
+#[cfg(feature = "client")]
+mod client_archive {
+    extern "C" {
+        pub fn client_fresh(
+            m: usize,
+            n: usize,
+            k: usize,
+            t: usize,
+            f: usize,
+            record: *mut u8,
+            record_len: usize,
+        ) -> u64;
+        pub fn client_deposit(
+            m: usize,
+            n: usize,
+            k: usize,
+            t: usize,
+            f: usize,
+            own: usize,
+            record: *mut u8,
+            record_len: usize,
+            page: *const u8,
+            page_len: usize,
+        ) -> u64;
+        pub fn client_read(
+            m: usize,
+            n: usize,
+            k: usize,
+            t: usize,
+            f: usize,
+            own: usize,
+            record: *mut u8,
+            record_len: usize,
+            room: *mut u8,
+            room_len: usize,
+        ) -> u64;
+        pub fn client_updated(
+            m: usize,
+            n: usize,
+            k: usize,
+            t: usize,
+            f: usize,
+            own: usize,
+            record: *mut u8,
+            record_len: usize,
+            room: *mut u8,
+            room_len: usize,
+        ) -> u64;
+        pub fn client_scanned(
+            m: usize,
+            n: usize,
+            k: usize,
+            t: usize,
+            f: usize,
+            own: usize,
+            record: *mut u8,
+            record_len: usize,
+            rows: *const u8,
+            rows_len: usize,
+            room: *mut u8,
+            room_len: usize,
+        ) -> u64;
+        pub fn client_receive(
+            m: usize,
+            n: usize,
+            k: usize,
+            t: usize,
+            f: usize,
+            own: usize,
+            node: usize,
+            record: *mut u8,
+            record_len: usize,
+            message: *const u8,
+            message_len: usize,
+            room: *mut u8,
+            room_len: usize,
+            out: *mut u8,
+            out_len: usize,
+        ) -> u64;
+    }
+}
+
+// The highest bit says that the rest is a refusal's number; else the kind, a version's client and sequence, and a length or a node map.
+#[cfg(feature = "client")]
+fn client_answer(code: u64) -> client::Answer {
+    use client::Answer;
+    if code >> 63 == 1 {
+        return Answer::Refused((code - (1 << 63)) as u32);
+    }
+    let version = ((code >> 17) as u32, (code >> 49) as u8);
+    let len = (code & 0x1ffff) as usize;
+    let bare = version == (0, 0) && len == 0;
+    match code >> 57 {
+        0 if bare => Answer::Waits,
+        1 if bare => Answer::Scan,
+        2 if version == (0, 0) => Answer::Update(len),
+        3 => Answer::Stores(version, len),
+        4 if len < 1 << 16 => Answer::Requests(version, len as u16),
+        5 => Answer::Deposited(version, len),
+        6 if bare => Answer::Empty,
+        7 => Answer::Page(version, len),
+        8 if bare => Answer::Spent,
+        9 if bare => Answer::Failed,
+        _ => panic!("{code:#x} is no answer of a client"),
+    }
+}
+
+#[cfg(feature = "client")]
+pub fn client_fresh(s: Measures, record: &mut [u8]) -> client::Answer {
+    // SAFETY: as above, for the record.
+    client_answer(unsafe {
+        client_archive::client_fresh(s.m, s.n, s.k, s.t, s.f, record.as_mut_ptr(), record.len())
+    })
+}
+
+#[cfg(feature = "client")]
+pub fn client_deposit(s: Measures, own: usize, record: &mut [u8], page: &[u8]) -> client::Answer {
+    // SAFETY: as above, for the record.
+    client_answer(unsafe {
+        client_archive::client_deposit(
+            s.m,
+            s.n,
+            s.k,
+            s.t,
+            s.f,
+            own,
+            record.as_mut_ptr(),
+            record.len(),
+            page.as_ptr(),
+            page.len(),
+        )
+    })
+}
+
+#[cfg(feature = "client")]
+pub fn client_read(s: Measures, own: usize, record: &mut [u8], room: &mut [u8]) -> client::Answer {
+    // SAFETY: as above, for the record and the room.
+    client_answer(unsafe {
+        client_archive::client_read(
+            s.m,
+            s.n,
+            s.k,
+            s.t,
+            s.f,
+            own,
+            record.as_mut_ptr(),
+            record.len(),
+            room.as_mut_ptr(),
+            room.len(),
+        )
+    })
+}
+
+#[cfg(feature = "client")]
+pub fn client_updated(
+    s: Measures,
+    own: usize,
+    record: &mut [u8],
+    room: &mut [u8],
+) -> client::Answer {
+    // SAFETY: as above, for the record and the room.
+    client_answer(unsafe {
+        client_archive::client_updated(
+            s.m,
+            s.n,
+            s.k,
+            s.t,
+            s.f,
+            own,
+            record.as_mut_ptr(),
+            record.len(),
+            room.as_mut_ptr(),
+            room.len(),
+        )
+    })
+}
+
+#[cfg(feature = "client")]
+pub fn client_scanned(
+    s: Measures,
+    own: usize,
+    record: &mut [u8],
+    rows: &[u8],
+    room: &mut [u8],
+) -> client::Answer {
+    // SAFETY: as above, for the record and the room.
+    client_answer(unsafe {
+        client_archive::client_scanned(
+            s.m,
+            s.n,
+            s.k,
+            s.t,
+            s.f,
+            own,
+            record.as_mut_ptr(),
+            record.len(),
+            rows.as_ptr(),
+            rows.len(),
+            room.as_mut_ptr(),
+            room.len(),
+        )
+    })
+}
+
+#[cfg(feature = "client")]
+pub fn client_receive(
+    s: Measures,
+    own: usize,
+    node: usize,
+    record: &mut [u8],
+    message: &[u8],
+    room: &mut [u8],
+    out: &mut [u8],
+) -> client::Answer {
+    // SAFETY: as above, for the record, the room and the output.
+    client_answer(unsafe {
+        client_archive::client_receive(
+            s.m,
+            s.n,
+            s.k,
+            s.t,
+            s.f,
+            own,
+            node,
+            record.as_mut_ptr(),
+            record.len(),
+            message.as_ptr(),
+            message.len(),
+            room.as_mut_ptr(),
+            room.len(),
+            out.as_mut_ptr(),
+            out.len(),
+        )
+    })
+}
+
+/// The archives as parties.
+#[cfg(feature = "client")]
+pub struct Proved;
+
+#[cfg(feature = "client")]
+impl crate::sides::Parties for Proved {
+    fn directory_fresh(&mut self, s: Measures, table: &mut [u8]) -> Answer {
+        directory_fresh(s, table)
+    }
+
+    fn directory_update(
+        &mut self,
+        s: Measures,
+        own: usize,
+        table: &mut [u8],
+        fields: &[u8],
+    ) -> Answer {
+        directory_update(s, own, table, fields)
+    }
+
+    fn directory_scan(&mut self, s: Measures, table: &[u8], room: &mut [u8]) -> Answer {
+        directory_scan(s, table, room)
+    }
+
+    fn node_fresh(&mut self, s: Measures, table: &mut [u8]) -> Answer {
+        node_fresh(s, table)
+    }
+
+    fn node_message(
+        &mut self,
+        s: Measures,
+        i: usize,
+        table: &mut [u8],
+        message: &[u8],
+        room: &mut [u8],
+    ) -> Answer {
+        node_message(s, i, table, message, room)
+    }
+
+    fn fresh(&mut self, s: Measures, record: &mut [u8]) -> client::Answer {
+        client_fresh(s, record)
+    }
+
+    fn deposit(
+        &mut self,
+        s: Measures,
+        own: usize,
+        record: &mut [u8],
+        page: &[u8],
+    ) -> client::Answer {
+        client_deposit(s, own, record, page)
+    }
+
+    fn read(
+        &mut self,
+        s: Measures,
+        own: usize,
+        record: &mut [u8],
+        room: &mut [u8],
+    ) -> client::Answer {
+        client_read(s, own, record, room)
+    }
+
+    fn updated(
+        &mut self,
+        s: Measures,
+        own: usize,
+        record: &mut [u8],
+        room: &mut [u8],
+    ) -> client::Answer {
+        client_updated(s, own, record, room)
+    }
+
+    fn scanned(
+        &mut self,
+        s: Measures,
+        own: usize,
+        record: &mut [u8],
+        rows: &[u8],
+        room: &mut [u8],
+    ) -> client::Answer {
+        client_scanned(s, own, record, rows, room)
+    }
+
+    fn receive(
+        &mut self,
+        s: Measures,
+        own: usize,
+        node: usize,
+        record: &mut [u8],
+        message: &[u8],
+        room: &mut [u8],
+        out: &mut [u8],
+    ) -> client::Answer {
+        client_receive(s, own, node, record, message, room, out)
+    }
 }

@@ -4,7 +4,7 @@ use crate::calls::{same_directory_fresh, same_message, same_scan, same_update};
 use crate::clock::Task;
 use crate::parties::{put_version, write_table, Measures, Pointer, Record, Version};
 use crate::proved;
-use crate::Numbers;
+use crate::random::Numbers;
 use std::hint::black_box;
 
 const S: Measures = Measures {

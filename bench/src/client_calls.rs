@@ -1,0 +1,533 @@
+//! Calls without order to a client's events, valid and damaged: two implementations must answer and leave the same.
+
+use crate::client::{digest, map_of, read_message, Answer, Client, Nodes, Step};
+use crate::parties::{put_version, write_rows, Measures, Pointer, Record, Version, NONE};
+use crate::plain;
+use crate::random::{
+    measures, number, other_measures, rare, spoil, spoil_byte, spoil_directory, version, who,
+    Numbers,
+};
+use crate::sides::Parties;
+use crate::tally::Tally;
+use std::collections::BTreeSet;
+
+/// So many nodes of 1 to n.
+fn some_nodes(numbers: &mut Numbers, s: Measures, count: usize) -> Nodes {
+    let mut nodes = Nodes::new();
+    while nodes.len() < count {
+        nodes.insert(1 + numbers.below(s.n));
+    }
+    nodes
+}
+
+/// A pointer that is none or proper.
+fn pointer(numbers: &mut Numbers, s: Measures, step: u32) -> Pointer {
+    if numbers.below(4) == 0 {
+        return Pointer::none();
+    }
+    some_pointer(numbers, s, step)
+}
+
+fn some_pointer(numbers: &mut Numbers, s: Measures, step: u32) -> Pointer {
+    Pointer {
+        version: version(numbers, s, step),
+        nodes: map_of(&some_nodes(numbers, s, s.t + s.k)),
+        digests: numbers.bytes(32 * (s.t + s.k)),
+    }
+}
+
+fn reserved(numbers: &mut Numbers, s: Measures, step: u32) -> Version {
+    if numbers.below(4) == 0 {
+        return NONE;
+    }
+    version(numbers, s, step)
+}
+
+/// Rows of all kinds; now and then the last sequence is written in one.
+fn rows(numbers: &mut Numbers, s: Measures, step: u32) -> Vec<u8> {
+    let last = numbers.below(12) == 0;
+    let rows: Vec<Record> = (0..s.m)
+        .map(|_| {
+            let mut written = pointer(numbers, s, step);
+            if last && written.version != NONE {
+                written.version.0 = u32::MAX;
+            }
+            Record {
+                written: Some(written),
+                frozen: Some((0..s.m).map(|_| pointer(numbers, s, step)).collect()),
+                frozen_indices: Some((0..s.m).map(|_| number(numbers)).collect()),
+                reading: Some(number(numbers)),
+            }
+        })
+        .collect();
+    let spare = numbers.below(3);
+    let mut table = numbers.bytes(s.directory() + spare);
+    if numbers.below(8) == 0 {
+        table.fill(0);
+        let rows = vec![fresh_row(s); s.m];
+        write_rows(s, &rows, &mut table);
+    } else {
+        write_rows(s, &rows, &mut table);
+    }
+    table
+}
+
+fn fresh_row(s: Measures) -> Record {
+    Record {
+        written: Some(Pointer::none()),
+        frozen: Some(vec![Pointer::none(); s.m]),
+        frozen_indices: Some(vec![0; s.m]),
+        reading: Some(0),
+    }
+}
+
+/// The n pieces of a page; or pieces of one length that are no page's, or of any lengths.
+fn pieces(numbers: &mut Numbers, s: Measures) -> Vec<Vec<u8>> {
+    let page = numbers.below(s.page() + 1);
+    let page = numbers.bytes(page);
+    let mut room = vec![0; s.n * s.f];
+    let len = plain::split(s.n, s.k, s.f, &page, &mut room).expect("the page fits");
+    let mut pieces: Vec<Vec<u8>> = room.chunks(s.f).map(|area| area[..len].to_vec()).collect();
+    let kind = numbers.below(8);
+    let short = 1 + numbers.below(s.f);
+    for piece in &mut pieces {
+        match kind {
+            0 => *piece = numbers.bytes(short),
+            1 => {
+                let len = 1 + numbers.below(s.f);
+                *piece = numbers.bytes(len);
+            }
+            _ => {}
+        }
+    }
+    pieces
+}
+
+/// The page of a client, its record, and the pieces that it reads.
+struct Session<'a> {
+    sides: [&'a mut dyn Parties; 2],
+    tally: &'a mut Tally,
+    s: Measures,
+    step: u32,
+    own: usize,
+    record: Vec<u8>,
+    pieces: Vec<Vec<u8>>,
+    /// The version that the made record waits for.
+    version: Version,
+}
+
+/// What is lent to a call beside the record.
+struct Lent {
+    s: Measures,
+    record: Vec<u8>,
+    room: Vec<u8>,
+    out: Vec<u8>,
+    /// Nothing is damaged but what a liar may send.
+    whole: bool,
+}
+
+type Outcome = Result<Answer, String>;
+
+impl<'a> Session<'a> {
+    fn new(sides: [&'a mut dyn Parties; 2], tally: &'a mut Tally, numbers: &mut Numbers) -> Self {
+        let s = measures(numbers);
+        let step = [1, 255, 65_537, 16_777_259][numbers.below(4)];
+        let own = numbers.below(s.m);
+        Session {
+            sides,
+            tally,
+            s,
+            step,
+            own,
+            record: vec![0; s.record()],
+            pieces: Vec::new(),
+            version: (1, 0),
+        }
+    }
+
+    // ---- records
+
+    /// A proper record at any step.
+    fn make(&mut self, numbers: &mut Numbers) {
+        let (s, step) = (self.s, self.step);
+        self.pieces = pieces(numbers, s);
+        self.version = version(numbers, s, step);
+        let client = Client {
+            step: self.make_step(numbers),
+            index: number(numbers),
+            written: pointer(numbers, s, step),
+            frozen: (0..s.m).map(|_| pointer(numbers, s, step)).collect(),
+            reserved: (0..s.m).map(|_| reserved(numbers, s, step)).collect(),
+            kept: (0..s.m).map(|_| number(numbers)).collect(),
+        };
+        let spare = numbers.below(3);
+        self.record = numbers.bytes(s.record() + spare);
+        client.write(s, &mut self.record);
+    }
+
+    fn make_step(&self, numbers: &mut Numbers) -> Step {
+        let s = self.s;
+        match numbers.below(10) {
+            0 => Step::Idle,
+            1 => {
+                let len = numbers.below(s.page() + 1);
+                let page = numbers.bytes(len);
+                Step::Scanning { page }
+            }
+            2 | 3 => {
+                let count = numbers.below(s.t + s.k);
+                Step::Storing {
+                    version: self.version,
+                    stored: some_nodes(numbers, s, count),
+                    digests: self.pieces.iter().map(|piece| digest(piece)).collect(),
+                }
+            }
+            4 => Step::Updating(some_pointer(numbers, s, self.step)),
+            5 => Step::Freezing(some_pointer(numbers, s, self.step)),
+            6 => Step::Raising,
+            7 => Step::Picking,
+            _ => self.make_fetching(numbers),
+        }
+    }
+
+    /// Few more nodes have to reply, as often as not. Some that are not named may stand among the counted, and have pieces.
+    fn make_fetching(&self, numbers: &mut Numbers) -> Step {
+        let s = self.s;
+        let named = some_nodes(numbers, s, s.t + s.k);
+        let matching = if numbers.below(2) == 0 {
+            s.k - 1
+        } else {
+            numbers.below(s.k)
+        };
+        let matching: Nodes = named.iter().copied().take(matching).collect();
+        let mut counted = matching.clone();
+        if numbers.below(2) == 0 {
+            let one = numbers.below(s.t + s.k);
+            counted.extend(
+                named
+                    .iter()
+                    .enumerate()
+                    .filter(|(at, _)| *at != one)
+                    .map(|(_, i)| i),
+            );
+        }
+        if rare(numbers) {
+            counted.insert(1 + numbers.below(16));
+        }
+        let mut kept = matching.clone();
+        if rare(numbers) {
+            kept.insert(1 + numbers.below(s.n));
+        }
+        let digests = named.iter().flat_map(|i| digest(&self.pieces[i - 1]));
+        Step::Fetching {
+            pointer: Pointer {
+                version: self.version,
+                nodes: map_of(&named),
+                digests: digests.collect(),
+            },
+            counted,
+            matching,
+            pieces: kept
+                .iter()
+                .map(|i| (*i, self.pieces[i - 1].clone()))
+                .collect(),
+        }
+    }
+
+    fn spoil_record(&self, numbers: &mut Numbers, record: &mut [u8]) {
+        let s = self.s;
+        let (pointers, work) = ((s.m + 1) * s.pointer(), s.record() - s.work());
+        let at = match numbers.below(8) {
+            0 => 0,
+            1 => 1 + numbers.below(4),
+            2 => 5 + numbers.below(s.m + 1) * s.pointer() + numbers.below(8),
+            3 => 5 + numbers.below(pointers),
+            4 => 5 + pointers + numbers.below(5 * s.m),
+            5 => work + numbers.below(s.work().min(16)),
+            6 => work + numbers.below(s.work()),
+            _ => s.record() - 1,
+        };
+        spoil_byte(numbers, record, at);
+    }
+
+    // ---- one call
+
+    /// What is lent, now and then damaged: another measure, a slice that is too short, a broken record.
+    fn lend(&mut self, numbers: &mut Numbers) -> Lent {
+        let own = self.s;
+        if numbers.below(3) == 0 {
+            self.make(numbers);
+        }
+        let mut record = self.record.clone();
+        let (other, spoilt) = (rare(numbers), rare(numbers));
+        if spoilt {
+            self.spoil_record(numbers, &mut record);
+        }
+        let spare = numbers.below(3);
+        let mut room = numbers.bytes(own.room() + spare);
+        let mut out = numbers.bytes(own.page() + spare);
+        for (slice, need) in [
+            (&mut record, own.record()),
+            (&mut room, own.room()),
+            (&mut out, own.page()),
+        ] {
+            // One byte too few, or many.
+            if numbers.below(30) == 0 {
+                let less = 1 + numbers.below(2) * numbers.below(need.max(1));
+                slice.truncate(need.saturating_sub(less));
+            }
+        }
+        let s = if other {
+            other_measures(numbers, own)
+        } else {
+            own
+        };
+        let whole = !other && !spoilt;
+        Lent {
+            s,
+            record,
+            room,
+            out,
+            whole,
+        }
+    }
+
+    /// The call on both sides, with the same bytes.
+    fn same(
+        &mut self,
+        name: &'static str,
+        lent: Lent,
+        call: impl Fn(&mut dyn Parties, Measures, &mut [u8], &mut [u8], &mut [u8]) -> Answer,
+    ) -> Outcome {
+        let s = lent.s;
+        let mut ends = Vec::new();
+        for side in &mut self.sides {
+            let (mut record, mut room) = (lent.record.clone(), lent.room.clone());
+            let mut out = lent.out.clone();
+            let answer = call(*side, s, &mut record, &mut room, &mut out);
+            ends.push((answer, record, room, out));
+        }
+        let (theirs, ours) = (ends.pop().unwrap(), ends.pop().unwrap());
+        let answer = ours.0;
+        if answer != theirs.0 {
+            return Err(format!("{name} {s:?}: {answer:?} and {:?}", theirs.0));
+        }
+        if ours != theirs {
+            return Err(format!("{name} {s:?}: {answer:?}, the bytes differ"));
+        }
+        let same = ours.1 == lent.record && ours.2 == lent.room && ours.3 == lent.out;
+        if let (Answer::Refused(_), false) = (answer, same) {
+            return Err(format!("{name} {s:?}: {answer:?}, but the bytes changed"));
+        }
+        self.tally.note(name, answer.number());
+        if lent.whole && lent.record.len() >= s.record() {
+            self.record = ours.1;
+        }
+        Ok(answer)
+    }
+
+    fn fresh(&mut self, numbers: &mut Numbers) -> Outcome {
+        let lent = self.lend(numbers);
+        self.same("client, fresh", lent, |side, s, record, _, _| {
+            side.fresh(s, record)
+        })
+    }
+
+    fn deposit(&mut self, numbers: &mut Numbers) -> Outcome {
+        let lent = self.lend(numbers);
+        let own = self.who(numbers);
+        let most = self.s.page() + 1 + 4 * rare(numbers) as usize;
+        let len = numbers.below(most) + 5 * rare(numbers) as usize;
+        let page = numbers.bytes(len);
+        self.same("client, deposit", lent, |side, s, record, _, _| {
+            side.deposit(s, own, record, &page)
+        })
+    }
+
+    fn read(&mut self, numbers: &mut Numbers) -> Outcome {
+        let lent = self.lend(numbers);
+        let own = self.who(numbers);
+        self.same("client, read", lent, |side, s, record, room, _| {
+            side.read(s, own, record, room)
+        })
+    }
+
+    fn updated(&mut self, numbers: &mut Numbers) -> Outcome {
+        let lent = self.lend(numbers);
+        let own = self.who(numbers);
+        self.same("client, updated", lent, |side, s, record, room, _| {
+            side.updated(s, own, record, room)
+        })
+    }
+
+    fn scanned(&mut self, numbers: &mut Numbers) -> Outcome {
+        let lent = self.lend(numbers);
+        let own = self.who(numbers);
+        let mut rows = rows(numbers, self.s, self.step);
+        if rare(numbers) {
+            spoil_directory(numbers, self.s, &mut rows);
+        }
+        if rare(numbers) {
+            rows.truncate(self.s.directory() - 1 - numbers.below(3));
+        }
+        let answer = self.same("client, scanned", lent, |side, s, record, room, _| {
+            side.scanned(s, own, record, &rows, room)
+        })?;
+        match answer {
+            Answer::Stores(..) => self.tally.note("client, scanned: stores", 0),
+            Answer::Deposited(_, 1) => self.tally.note("client, scanned: frees none", 0),
+            Answer::Deposited(..) => self.tally.note("client, scanned: frees some", 0),
+            Answer::Requests(..) => self.tally.note("client, scanned: requests", 0),
+            Answer::Empty => self.tally.note("client, scanned: empty", 0),
+            _ => {}
+        }
+        Ok(answer)
+    }
+
+    /// An acknowledgement or a reply, most times of the version that is waited for.
+    fn message(&self, numbers: &mut Numbers, node: usize) -> Vec<u8> {
+        let s = self.s;
+        let tag = [4, 4, 4, 6, 6, 6, 6, 6, 6, 5][numbers.below(10)];
+        let mut out = vec![tag];
+        if tag == 5 {
+            return out;
+        }
+        let of = if numbers.below(6) == 0 {
+            version(numbers, s, self.step)
+        } else {
+            self.version
+        };
+        put_version(&mut out, of);
+        if tag == 6 {
+            let true_piece = self.pieces.get(node.wrapping_sub(1));
+            match (numbers.below(12), true_piece) {
+                (0, _) => out.push(0),
+                (1, _) => out.push(1),
+                (2, _) => {
+                    let len = s.f + 1 + numbers.below(3);
+                    out.push(1);
+                    out.extend(numbers.bytes(len));
+                }
+                (3, _) | (_, None) => {
+                    let len = 1 + numbers.below(s.f);
+                    out.push(1);
+                    out.extend(numbers.bytes(len));
+                }
+                (_, Some(piece)) => {
+                    out.push(1);
+                    out.extend(piece);
+                }
+            }
+        }
+        match numbers.below(28) {
+            0 | 1 => spoil(numbers, &mut out),
+            2 => out[0] = numbers.below(9) as u8,
+            3 => out.clear(),
+            _ => {}
+        }
+        out
+    }
+
+    fn receive(&mut self, numbers: &mut Numbers) -> Outcome {
+        let lent = self.lend(numbers);
+        let own = self.who(numbers);
+        let node = who(numbers, 1, self.s.n);
+        let message = self.message(numbers, node);
+        let sound = lent.whole && read_message(self.s, &message).is_some();
+        let name = match message.first() {
+            Some(4) => "client, stored",
+            Some(5) => "client, freed",
+            Some(6) => "client, reply",
+            _ => "client, no message",
+        };
+        let answer = self.same(name, lent, |side, s, record, room, out| {
+            side.receive(s, own, node, record, &message, room, out)
+        })?;
+        match answer {
+            Answer::Update(_) => self.tally.note("client, stored: published", 0),
+            Answer::Page(..) => self.tally.note("client, reply: page", 0),
+            Answer::Refused(4) if sound => self.tally.note("client, reply: no frame", 4),
+            _ => {}
+        }
+        Ok(answer)
+    }
+
+    fn who(&self, numbers: &mut Numbers) -> usize {
+        if numbers.below(3) == 0 {
+            return who(numbers, 0, self.s.m);
+        }
+        self.own
+    }
+
+    fn turn(&mut self, numbers: &mut Numbers) -> Outcome {
+        match numbers.below(20) {
+            0 => self.fresh(numbers),
+            1..=2 => self.deposit(numbers),
+            3..=4 => self.read(numbers),
+            5..=6 => self.updated(numbers),
+            7..=11 => self.scanned(numbers),
+            _ => self.receive(numbers),
+        }
+    }
+}
+
+/// So many calls on both sides; gives their tally, or the first call at which they differ.
+pub fn compare(
+    ours: &mut dyn Parties,
+    theirs: &mut dyn Parties,
+    numbers: &mut Numbers,
+    total: usize,
+) -> Result<Tally, (usize, String)> {
+    let mut tally = Tally::default();
+    let mut done = 0;
+    while done < total {
+        let mut session = Session::new([&mut *ours, &mut *theirs], &mut tally, numbers);
+        // Large records take as long as a hundred small ones.
+        let turns = if session.s.room() > 20_000 { 20 } else { 200 };
+        session.make(numbers);
+        for _ in 0..turns {
+            done += 1;
+            session.turn(numbers).map_err(|detail| (done, detail))?;
+        }
+    }
+    Ok(tally)
+}
+
+/// So many calls; each refusal that there is must have been met, and each way to end.
+pub fn calls(
+    names: &str,
+    ours: &mut dyn Parties,
+    theirs: &mut dyn Parties,
+    numbers: &mut Numbers,
+    total: usize,
+) {
+    let tally = match compare(ours, theirs, numbers, total) {
+        Ok(tally) => tally,
+        Err((at, detail)) => panic!("{names}, call {at}: {detail}"),
+    };
+    println!(
+        "{total} calls to a client of {names}: the same answers and bytes, every refusal among them"
+    );
+    tally.print();
+    for (name, met) in [
+        ("client, fresh", vec![0, 1, 2]),
+        ("client, deposit", vec![0, 1, 2, 3, 4, 5, 6]),
+        ("client, read", vec![0, 1, 2, 3, 4, 5, 7]),
+        ("client, updated", vec![0, 1, 2, 3, 4, 5]),
+        ("client, scanned", vec![0, 1, 2, 3, 4, 5, 7]),
+        ("client, scanned: stores", vec![0]),
+        ("client, scanned: frees none", vec![0]),
+        ("client, scanned: frees some", vec![0]),
+        ("client, scanned: requests", vec![0]),
+        ("client, scanned: empty", vec![0]),
+        ("client, stored", vec![0, 1, 2, 3, 4]),
+        ("client, stored: published", vec![0]),
+        ("client, freed", vec![0, 1, 2, 3, 4]),
+        ("client, reply", vec![0, 1, 2, 3, 4, 9]),
+        ("client, reply: page", vec![0]),
+        ("client, reply: no frame", vec![4]),
+        ("client, no message", vec![1, 2, 3, 4]),
+    ] {
+        assert_eq!(tally.met(name), BTreeSet::from_iter(met), "{name}");
+    }
+}

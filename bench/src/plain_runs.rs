@@ -1,0 +1,29 @@
+//! Plain Rust alone, without an archive: random calls and runs, and the wrong parties that these must catch.
+
+mod client;
+mod client_calls;
+mod parties;
+mod plain;
+mod random;
+mod runs;
+mod sides;
+mod tally;
+mod wrong;
+
+use random::Numbers;
+use sides::Plain;
+use std::env;
+
+/// Takes the number of runs and a number to start from, if others than these are wanted.
+fn main() {
+    let mut given = env::args().skip(1).map(|word| word.parse::<u64>());
+    let mut next = |other| given.next().map_or(other, |word| word.expect("a number"));
+    let (runs, first) = (next(2000) as usize, next(88172645463325252));
+    let mut numbers = Numbers(first.max(1));
+    client_calls::calls("plain Rust", &mut Plain, &mut Plain, &mut numbers, 100_000);
+    println!();
+    let seed = numbers.next();
+    runs::runs("plain Rust", &mut Plain, seed, runs);
+    println!();
+    wrong::wrong(&mut numbers, 3000);
+}

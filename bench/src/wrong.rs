@@ -1,0 +1,615 @@
+//! Parties that do something else than document 01 says. Each must be caught by the clauses of random runs.
+
+use crate::client::{digest, nodes_of, read_message, Answer, Client, Message, Step};
+use crate::client_calls;
+use crate::parties::{put_version, read_rows, write_rows, Bytes, Measures, Pointer, Record};
+use crate::parties::{Version, NONE};
+use crate::plain;
+use crate::random::Numbers;
+use crate::runs::{run, Counts, Fault};
+use crate::sides::{Parties, Plain};
+use std::collections::{BTreeMap, BTreeSet};
+
+/// The record's values, where there are any.
+fn shown(s: Measures, record: &[u8]) -> Option<Client> {
+    (s.pass() && record.len() >= s.record()).then(|| Client::read(s, record))?
+}
+
+/// Rows of a scan, altered.
+fn altered(s: Measures, rows: &[u8], change: impl Fn(usize, &mut Record)) -> Vec<u8> {
+    let mut out = rows.to_vec();
+    if rows.len() < s.directory() {
+        return out;
+    }
+    if let Some(mut values) = read_rows(s, rows) {
+        for (p, row) in values.iter_mut().enumerate() {
+            change(p, row);
+        }
+        write_rows(s, &values, &mut out);
+    }
+    out
+}
+
+/// A list to drop.
+fn freeing(list: BTreeSet<Version>) -> Vec<u8> {
+    let mut message = vec![3];
+    for version in list {
+        put_version(&mut message, version);
+    }
+    message
+}
+
+/// The previous version is freed when the update is acknowledged, before the second scan.
+#[derive(Default)]
+struct FreesEarly(Option<Vec<u8>>);
+
+impl Parties for FreesEarly {
+    fn updated(&mut self, s: Measures, own: usize, record: &mut [u8], room: &mut [u8]) -> Answer {
+        let before = shown(s, record);
+        let answer = Plain.updated(s, own, record, room);
+        if let (Answer::Scan, Some(client)) = (answer, before) {
+            if let Step::Updating(_) = client.step {
+                let mut list = BTreeSet::from([client.written.version]);
+                for version in client.frozen.iter().map(|p| p.version) {
+                    list.remove(&version);
+                }
+                for version in client.reserved.iter().chain([&NONE]) {
+                    list.remove(version);
+                }
+                self.0 = Some(freeing(list));
+            }
+        }
+        answer
+    }
+
+    fn aside(&mut self) -> Option<Vec<u8>> {
+        self.0.take()
+    }
+}
+
+/// A reading takes the written pointer of each row, whatever is frozen for it.
+struct SkipsFrozen;
+
+impl Parties for SkipsFrozen {
+    fn scanned(
+        &mut self,
+        s: Measures,
+        own: usize,
+        record: &mut [u8],
+        rows: &[u8],
+        room: &mut [u8],
+    ) -> Answer {
+        let rows = match shown(s, record).map(|client| client.step) {
+            Some(Step::Picking) => altered(s, rows, |_, row| {
+                if let Some(index) = row.frozen_indices.iter_mut().flatten().nth(own) {
+                    *index = 0;
+                }
+            }),
+            _ => rows.to_vec(),
+        };
+        Plain.scanned(s, own, record, &rows, room)
+    }
+}
+
+/// A second acknowledgement of one node stands for another node's.
+struct CountsTwice;
+
+impl Parties for CountsTwice {
+    fn receive(
+        &mut self,
+        s: Measures,
+        own: usize,
+        node: usize,
+        record: &mut [u8],
+        message: &[u8],
+        room: &mut [u8],
+        out: &mut [u8],
+    ) -> Answer {
+        let mut node = node;
+        if let (Some(client), Some(Message::Stored(of))) =
+            (shown(s, record), read_message(s, message))
+        {
+            match client.step {
+                Step::Storing {
+                    version, stored, ..
+                } if of == version && stored.contains(&node) => {
+                    node = (1..=s.n).find(|i| !stored.contains(i)).unwrap_or(node);
+                }
+                _ => {}
+            }
+        }
+        Plain.receive(s, own, node, record, message, room, out)
+    }
+}
+
+/// The list to drop is always empty.
+struct NeverDrops;
+
+impl Parties for NeverDrops {
+    fn scanned(
+        &mut self,
+        s: Measures,
+        own: usize,
+        record: &mut [u8],
+        rows: &[u8],
+        room: &mut [u8],
+    ) -> Answer {
+        match Plain.scanned(s, own, record, rows, room) {
+            Answer::Deposited(version, _) => Answer::Deposited(version, 1),
+            answer => answer,
+        }
+    }
+}
+
+/// The first deposit of a client is right; after it nothing is dropped.
+struct RightOnce;
+
+impl Parties for RightOnce {
+    fn scanned(
+        &mut self,
+        s: Measures,
+        own: usize,
+        record: &mut [u8],
+        rows: &[u8],
+        room: &mut [u8],
+    ) -> Answer {
+        let first = shown(s, record).is_none_or(|client| client.written.version == NONE);
+        match Plain.scanned(s, own, record, rows, room) {
+            Answer::Deposited(version, _) if !first => Answer::Deposited(version, 1),
+            answer => answer,
+        }
+    }
+}
+
+/// A deposit freezes for the readings that its first scan shows, and its own update publishes that; later readings wait for the next deposit.
+#[derive(Default)]
+struct PublishesAtOnce {
+    /// The reading indices of the first scan, by client.
+    indices: BTreeMap<usize, Vec<u32>>,
+    /// What the freeze set free.
+    free: BTreeMap<usize, BTreeSet<Version>>,
+}
+
+impl PublishesAtOnce {
+    fn freeze(&mut self, own: usize, client: &mut Client, written: &Pointer) {
+        let free = self.free.entry(own).or_default();
+        let indices = self.indices.get(&own).into_iter().flatten();
+        for (p, index) in indices.enumerate().take(client.kept.len()) {
+            if p != own && *index > client.kept[p] {
+                free.extend([client.frozen[p].version, client.reserved[p]]);
+                client.frozen[p] = written.clone();
+                client.reserved[p] = client.written.version;
+                client.kept[p] = *index;
+            }
+        }
+    }
+
+    /// The list, with what the freeze set free before.
+    fn list(&mut self, own: usize, client: &Client, listed: &[u8]) -> Vec<u8> {
+        let mut list = self.free.remove(&own).unwrap_or_default();
+        let mut b = Bytes(listed);
+        list.extend(std::iter::from_fn(|| b.version()));
+        list.retain(|v| {
+            *v != NONE
+                && !client.reserved.contains(v)
+                && client.frozen.iter().all(|p| p.version != *v)
+        });
+        freeing(list)
+    }
+}
+
+impl Parties for PublishesAtOnce {
+    fn scanned(
+        &mut self,
+        s: Measures,
+        own: usize,
+        record: &mut [u8],
+        rows: &[u8],
+        room: &mut [u8],
+    ) -> Answer {
+        let rows = match shown(s, record).map(|client| client.step) {
+            Some(Step::Freezing(_)) => altered(s, rows, |_, row| row.reading = Some(0)),
+            _ => rows.to_vec(),
+        };
+        let answer = Plain.scanned(s, own, record, &rows, room);
+        match (answer, shown(s, record)) {
+            (Answer::Stores(..), _) => {
+                let rows = read_rows(s, &rows).into_iter().flatten();
+                let indices = rows.map(|row| row.reading.unwrap_or(0)).collect();
+                self.indices.insert(own, indices);
+                self.free.remove(&own);
+                answer
+            }
+            (Answer::Deposited(version, len), Some(client)) => {
+                let message = self.list(own, &client, &room[1..len]);
+                room[..message.len()].copy_from_slice(&message);
+                Answer::Deposited(version, message.len())
+            }
+            _ => answer,
+        }
+    }
+
+    fn receive(
+        &mut self,
+        s: Measures,
+        own: usize,
+        node: usize,
+        record: &mut [u8],
+        message: &[u8],
+        room: &mut [u8],
+        out: &mut [u8],
+    ) -> Answer {
+        let answer = Plain.receive(s, own, node, record, message, room, out);
+        let (Answer::Update(_), Some(mut client)) = (answer, shown(s, record)) else {
+            return answer;
+        };
+        let Step::Updating(pointer) = client.step.clone() else {
+            return answer;
+        };
+        self.freeze(own, &mut client, &pointer);
+        client.write(s, record);
+        let fields = Record {
+            written: Some(pointer),
+            frozen: Some(client.frozen),
+            frozen_indices: Some(client.kept),
+            reading: None,
+        };
+        let bytes = fields.write();
+        room[..bytes.len()].copy_from_slice(&bytes);
+        Answer::Update(bytes.len())
+    }
+}
+
+/// Nothing is kept as reserved.
+struct ReservesNothing;
+
+impl Parties for ReservesNothing {
+    fn scanned(
+        &mut self,
+        s: Measures,
+        own: usize,
+        record: &mut [u8],
+        rows: &[u8],
+        room: &mut [u8],
+    ) -> Answer {
+        let previous = shown(s, record).map(|client| client.written.version);
+        let answer = Plain.scanned(s, own, record, rows, room);
+        if let (Answer::Deposited(version, _), Some(mut client), Some(previous)) =
+            (answer, shown(s, record), previous)
+        {
+            client.reserved = vec![NONE; s.m];
+            client.write(s, record);
+            let list = [previous].into_iter().filter(|v| *v != NONE);
+            let message = freeing(list.collect());
+            room[..message.len()].copy_from_slice(&message);
+            return Answer::Deposited(version, message.len());
+        }
+        answer
+    }
+}
+
+/// The sequence is one above the client's own last one.
+struct OwnSequence;
+
+impl Parties for OwnSequence {
+    fn scanned(
+        &mut self,
+        s: Measures,
+        own: usize,
+        record: &mut [u8],
+        rows: &[u8],
+        room: &mut [u8],
+    ) -> Answer {
+        let rows = match shown(s, record).map(|client| client.step) {
+            Some(Step::Scanning { .. }) => altered(s, rows, |p, row| {
+                if p != own {
+                    row.written = Some(Pointer::none());
+                }
+            }),
+            _ => rows.to_vec(),
+        };
+        Plain.scanned(s, own, record, &rows, room)
+    }
+}
+
+/// Every client draws versions as client 0.
+struct OneName;
+
+impl Parties for OneName {
+    fn scanned(
+        &mut self,
+        s: Measures,
+        own: usize,
+        record: &mut [u8],
+        rows: &[u8],
+        room: &mut [u8],
+    ) -> Answer {
+        let own = match shown(s, record).map(|client| client.step) {
+            Some(Step::Scanning { .. }) if own < s.m => 0,
+            _ => own,
+        };
+        Plain.scanned(s, own, record, rows, room)
+    }
+}
+
+/// A reading finds nothing.
+struct AlwaysEmpty;
+
+impl Parties for AlwaysEmpty {
+    fn scanned(
+        &mut self,
+        s: Measures,
+        own: usize,
+        record: &mut [u8],
+        rows: &[u8],
+        room: &mut [u8],
+    ) -> Answer {
+        let rows = match shown(s, record).map(|client| client.step) {
+            Some(Step::Picking) => altered(s, rows, |_, row| {
+                row.written = Some(Pointer::none());
+                row.frozen = Some(vec![Pointer::none(); s.m]);
+            }),
+            _ => rows.to_vec(),
+        };
+        Plain.scanned(s, own, record, &rows, room)
+    }
+}
+
+/// A reply's piece is taken without a look at its digest.
+struct TrustsPieces;
+
+impl Parties for TrustsPieces {
+    fn receive(
+        &mut self,
+        s: Measures,
+        own: usize,
+        node: usize,
+        record: &mut [u8],
+        message: &[u8],
+        room: &mut [u8],
+        out: &mut [u8],
+    ) -> Answer {
+        let before = record.to_vec();
+        if let (Some(mut client), Some(Message::Reply(_, Some(piece)))) =
+            (shown(s, record), read_message(s, message))
+        {
+            if let Step::Fetching { pointer, .. } = &mut client.step {
+                let at = nodes_of(pointer.nodes).iter().position(|i| *i == node);
+                if let Some(at) = at {
+                    pointer.digests[32 * at..][..32].copy_from_slice(&digest(piece));
+                    client.write(s, record);
+                }
+            }
+        }
+        let answer = Plain.receive(s, own, node, record, message, room, out);
+        if answer.number() > 0 {
+            record.copy_from_slice(&before);
+        }
+        answer
+    }
+}
+
+/// A node that acknowledges and keeps nothing.
+struct KeepsNothing;
+
+impl Parties for KeepsNothing {
+    fn node_message(
+        &mut self,
+        s: Measures,
+        i: usize,
+        table: &mut [u8],
+        message: &[u8],
+        room: &mut [u8],
+    ) -> plain::Answer {
+        let before = table.to_vec();
+        let answer = Plain.node_message(s, i, table, message, room);
+        table.copy_from_slice(&before);
+        answer
+    }
+}
+
+/// A refused deposit whose page is too long has begun all the same.
+struct BeginsRefused;
+
+impl Parties for BeginsRefused {
+    fn deposit(&mut self, s: Measures, own: usize, record: &mut [u8], page: &[u8]) -> Answer {
+        let answer = Plain.deposit(s, own, record, page);
+        if answer == Answer::Refused(6) {
+            Plain.deposit(s, own, record, &page[..s.page()]);
+        }
+        answer
+    }
+}
+
+/// A reading gives its page up if a node says "not held".
+struct GivesUp;
+
+impl Parties for GivesUp {
+    fn receive(
+        &mut self,
+        s: Measures,
+        own: usize,
+        node: usize,
+        record: &mut [u8],
+        message: &[u8],
+        room: &mut [u8],
+        out: &mut [u8],
+    ) -> Answer {
+        let reading =
+            shown(s, record).filter(|client| matches!(client.step, Step::Fetching { .. }));
+        let missing = matches!(read_message(s, message), Some(Message::Reply(_, None)));
+        let answer = Plain.receive(s, own, node, record, message, room, out);
+        if let (Answer::Waits, Some(mut client), true) = (answer, reading, missing) {
+            client.step = Step::Idle;
+            client.write(s, record);
+            return Answer::Failed;
+        }
+        answer
+    }
+}
+
+/// A reading gives one byte otherwise.
+struct AltersPage;
+
+impl Parties for AltersPage {
+    fn receive(
+        &mut self,
+        s: Measures,
+        own: usize,
+        node: usize,
+        record: &mut [u8],
+        message: &[u8],
+        room: &mut [u8],
+        out: &mut [u8],
+    ) -> Answer {
+        let answer = Plain.receive(s, own, node, record, message, room, out);
+        if let Answer::Page(_, len @ 1..) = answer {
+            out[len - 1] ^= 1;
+        }
+        answer
+    }
+}
+
+/// The page is right, and the rest of the output cleared.
+struct ClearsOutput;
+
+impl Parties for ClearsOutput {
+    fn receive(
+        &mut self,
+        s: Measures,
+        own: usize,
+        node: usize,
+        record: &mut [u8],
+        message: &[u8],
+        room: &mut [u8],
+        out: &mut [u8],
+    ) -> Answer {
+        let answer = Plain.receive(s, own, node, record, message, room, out);
+        if let Answer::Page(_, len) = answer {
+            out[len..].fill(0);
+        }
+        answer
+    }
+}
+
+/// The published pointer has a higher sequence than the one that was drawn.
+struct PublishesAnother;
+
+impl Parties for PublishesAnother {
+    fn receive(
+        &mut self,
+        s: Measures,
+        own: usize,
+        node: usize,
+        record: &mut [u8],
+        message: &[u8],
+        room: &mut [u8],
+        out: &mut [u8],
+    ) -> Answer {
+        let answer = Plain.receive(s, own, node, record, message, room, out);
+        if let Answer::Update(_) = answer {
+            // The sequence's lowest byte, after the map.
+            room[4] = room[4].wrapping_add(1);
+        }
+        answer
+    }
+}
+
+/// No acknowledgement counts.
+struct CountsNone;
+
+impl Parties for CountsNone {
+    fn receive(
+        &mut self,
+        s: Measures,
+        own: usize,
+        node: usize,
+        record: &mut [u8],
+        message: &[u8],
+        room: &mut [u8],
+        out: &mut [u8],
+    ) -> Answer {
+        let before = record.to_vec();
+        let room_before = room.to_vec();
+        let answer = Plain.receive(s, own, node, record, message, room, out);
+        let stored = matches!(read_message(s, message), Some(Message::Stored(_)));
+        if stored && answer.number() == 0 {
+            record.copy_from_slice(&before);
+            room.copy_from_slice(&room_before);
+            return Answer::Waits;
+        }
+        answer
+    }
+}
+
+/// A number out of bounds is said before a slice that is too short.
+struct NumberFirst;
+
+impl Parties for NumberFirst {
+    fn read(&mut self, s: Measures, own: usize, record: &mut [u8], room: &mut [u8]) -> Answer {
+        match Plain.read(s, own, record, room) {
+            Answer::Refused(2) if own >= s.m => Answer::Refused(3),
+            answer => answer,
+        }
+    }
+}
+
+/// Makes runs until one is caught; gives the runs made and what caught it.
+fn caught(side: &mut dyn Parties, numbers: &mut Numbers, most: usize) -> Option<(usize, Fault)> {
+    let mut counts = Counts::default();
+    (1..=most).find_map(|at| {
+        let fault = run(side, &mut counts, numbers).err()?;
+        Some((at, fault))
+    })
+}
+
+fn parties() -> Vec<(&'static str, Box<dyn Parties>)> {
+    vec![
+        (
+            "frees before the second scan",
+            Box::new(FreesEarly::default()),
+        ),
+        (
+            "publishes a freeze at once",
+            Box::new(PublishesAtOnce::default()),
+        ),
+        ("skips frozen pointers", Box::new(SkipsFrozen)),
+        ("counts a node twice", Box::new(CountsTwice)),
+        ("never drops", Box::new(NeverDrops)),
+        ("drops at its first deposit alone", Box::new(RightOnce)),
+        ("reserves nothing", Box::new(ReservesNothing)),
+        ("draws above its own", Box::new(OwnSequence)),
+        ("draws under one name", Box::new(OneName)),
+        ("publishes another version", Box::new(PublishesAnother)),
+        ("always finds nothing", Box::new(AlwaysEmpty)),
+        ("trusts every piece", Box::new(TrustsPieces)),
+        ("alters a page", Box::new(AltersPage)),
+        ("gives up at \"not held\"", Box::new(GivesUp)),
+        ("counts no acknowledgement", Box::new(CountsNone)),
+        ("begins a refused deposit", Box::new(BeginsRefused)),
+        ("clears the output", Box::new(ClearsOutput)),
+        ("says 3 before 2", Box::new(NumberFirst)),
+        ("a node that keeps nothing", Box::new(KeepsNothing)),
+    ]
+}
+
+/// Every wrong party is caught within so many runs. Beside it, after how many calls to a client its answers or bytes differ.
+pub fn wrong(numbers: &mut Numbers, most: usize) {
+    println!(
+        "{:<34} {:>6} {:>7}   caught by",
+        "wrong parties", "runs", "calls"
+    );
+    for (name, mut side) in parties() {
+        let calls = match client_calls::compare(&mut Plain, side.as_mut(), numbers, 20_000) {
+            Err((at, _)) => at.to_string(),
+            Ok(_) => "-".to_string(),
+        };
+        let Some((at, fault)) = caught(side.as_mut(), numbers, most) else {
+            panic!("{name}: not caught in {most} runs");
+        };
+        println!(
+            "{name:<34} {at:>6} {calls:>7}   {}: {}",
+            fault.clause, fault.detail
+        );
+    }
+}
