@@ -40,7 +40,7 @@ unfolding run bodies
 none-under-way s honest = record { calls = λ c. refl; returns = λ c. refl; toNode = λ c i. refl; toClient = λ i c. refl }
 
 -- memory that was made fresh is long enough
-fresh-long : (s : Measures) (memory : List ℕ) (a : Service) (k : ℕ) → passes s ≡ true → a ≡ Service.Served k → served a ≡ memoryFresh s memory .answer
+pub fresh-long : (s : Measures) (memory : List ℕ) (a : Service) (k : ℕ) → passes s ≡ true → a ≡ Service.Served k → served a ≡ memoryFresh s memory .answer
     → memorySize s ≤ length memory
 unfolding memoryFresh
 fresh-long s memory a k ok e f = go (leb (memorySize s) (length memory)) refl
@@ -84,14 +84,14 @@ front-bytes (suc n) (a ∷ b) h zero = h 0
 front-bytes (suc n) (a ∷ b) h (suc i) = front-bytes n b (λ j. h (suc j)) i
 
 -- an operation: its start is an event of the run, and so is each parcel that is handed over
-pub operation-runs : (x y : Session) (s : Measures) (used c i room : ℕ) (e : Event) (before after end : Lent) (turn : Turn) (text text′ : List ℕ) (r : Settled) (out : List ℕ)
+pub operation-runs : (x y : Session) (s : Measures) (used c i room wide : ℕ) (e : Event) (before after end : Lent) (turn : Turn) (text text′ : List ℕ) (r : Settled) (out : List ℕ)
     → x .measures ≡ s → x .used ≡ used → Runs x (before .memory) (before .post) → y .measures ≡ s → y .used ≡ r .used
     → ((honest : ℕ → Bool) → Happens s honest e c i room used before after turn) → Given e
-    → Settles s c turn (record { memory = after .memory; post = after .post; out = out }) text end text′ r → Runs y (end .memory) (end .post)
-operation-runs x y s used c i room e before after end turn text text′ r out m u h n v o g p =
+    → Settles s c wide turn (record { memory = after .memory; post = after .post; out = out }) text end text′ r → Runs y (end .memory) (end .post)
+operation-runs x y s used c i room wide e before after end turn text text′ r out m u h n v o g p =
     let a : After s honestAll (h .events) (before .memory) (before .post) used = rw (m, u) at (h .after) in
     let d = happens-continues s e c i room used before after turn (o honestAll) g (h .events) a in
     let f =
     continues-more s (h .events) (after .memory) (after .post) (end .memory) (end .post) (turn .used) (r .used) d
-    (settles-continue s c turn (record { memory = after .memory; post = after .post; out = out }) text end text′ r p (h .events ++ d .more)) in
+    (settles-continue s c wide turn (record { memory = after .memory; post = after .post; out = out }) text end text′ r p (h .events ++ d .more)) in
     record { events = h .events ++ f .more; lent = lent-more (h .events) (f .more) (h .lent) (f .lent); measures = rw (n, ← m) (h .measures); after = rw (n, v) (f .after) }

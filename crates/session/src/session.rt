@@ -15,11 +15,15 @@ use runs::event::reading;
 use runs::least::least;
 use title::fresh::fresh;
 ghost use mathlib.Core.Path.{_≡_};
-ghost use mathlib.Core.Bool.{true};
+ghost use mathlib.Core.Bool.{true, false};
 ghost use mathlib.Core.List.{List};
 ghost use Prim.Native.Nat.{ℕ};
-ghost use Rattle.protocol.specs.Measures.{passes};
-ghost use Rattle.session.specs.Session.{Runs, Live};
+ghost use lib.ListN.{length, take};
+ghost use Rattle.protocol.specs.Run.{Event};
+ghost use Rattle.lines.specs.Line.{Kept};
+ghost use Rattle.lines.specs.Read.{Read};
+ghost use Rattle.lines.specs.Command.{standLine};
+ghost use Rattle.session.specs.Session.{Runs, Live, NewLine, desk, Still, small as fits, opens, Replies, First, Operates, Later, Ends, Takes};
 
 pub struct Session {
     // 0 before the first line, 1 after a `config`, 2 after a first line that was refused.
@@ -39,7 +43,7 @@ pub struct Answer {
 }
 
 pub fn start() -> Session
-    ensures { λ r. ⌜ ((memory post page : List ℕ) → Live r memory post page) ⌝ }
+    ensures { λ r. ⌜ NewLine r 0 × ((memory post page : List ℕ) → Live r memory post page) ⌝ }
 {
     Session {
         stage: 0,
@@ -58,7 +62,7 @@ pub fn start() -> Session
 
 // A new line is read.
 fn at_stage(stage: u8, measures: Measures, used: usize, len: usize) -> Answer
-    ensures { λ r. ⌜ (r .len ≡ len) × (r .session .stage ≡ stage) × (r .session .measures ≡ measures) × (r .session .used ≡ used)
+    ensures { λ r. ⌜ (r .len ≡ len) × NewLine (r .session) stage × (r .session .measures ≡ measures) × (r .session .used ≡ used)
         × ((memory post page : List ℕ) → (stage ≡ 1 → Runs (r .session) memory post) → Live (r .session) memory post page) ⌝ }
 {
     Answer {
@@ -74,7 +78,9 @@ fn at_stage(stage: u8, measures: Measures, used: usize, len: usize) -> Answer
 }
 
 // Whether the program has memory for such measures.
-fn small(s: Measures) -> bool {
+fn small(s: Measures) -> bool
+    ensures { λ r. ⌜ r ≡ fits s ⌝ }
+{
     if 3 < s.m {
         return false;
     }
@@ -83,7 +89,8 @@ fn small(s: Measures) -> bool {
 
 // Measures out of bounds come before those that are too big.
 fn config(s: Measures, memory: &mut [u8], text: &mut [u8]) -> Answer
-    ensures { λ r. ⌜ ((post page : List ℕ) → Live (r .session) (now (memory .exit)) post page) ⌝ }
+    ensures { λ r. ⌜ ((post page : List ℕ) → Live (r .session) (now (memory .exit)) post page)
+        × Replies (opens s (now (memory .entry))) (now (text .entry)) (now (memory .exit)) (now (text .exit)) (r .session) (r .len) × (r .session .measures ≡ s) ⌝ }
 {
     if !s.pass() {
         let n = refused(text, 1);
@@ -107,7 +114,8 @@ fn config(s: Measures, memory: &mut [u8], text: &mut [u8]) -> Answer
 
 // The first line.
 fn first(x: Session, memory: &mut [u8], text: &mut [u8]) -> Answer
-    ensures { λ r. ⌜ ((post page : List ℕ) → Live (r .session) (now (memory .exit)) post page) ⌝ }
+    ensures { λ r. ⌜ ((post page : List ℕ) → Live (r .session) (now (memory .exit)) post page)
+        × ((p page : List ℕ) → Read p (x .reading) page → First (standLine p) (now (memory .entry)) (now (text .entry)) (now (memory .exit)) (now (text .exit)) (r .session) (r .len)) ⌝ }
 {
     let r = x.reading;
     match asked(ended(r)) {
@@ -130,7 +138,11 @@ fn read(
     post: &mut [u8],
     text: &mut [u8],
 ) -> Answer
-    ensures { λ r. ⌜ ((page : List ℕ) (x : Session) → x .measures ≡ s → x .used ≡ used → Runs x (now (memory .entry)) (now (post .entry)) → Live (r .session) (now (memory .exit)) (now (post .exit)) page) ⌝ }
+    ensures { λ r. ⌜ ((page : List ℕ) (x : Session) → x .measures ≡ s → x .used ≡ used → Runs x (now (memory .entry)) (now (post .entry)) → Live (r .session) (now (memory .exit)) (now (post .exit)) page)
+        × Operates s c (length (now (room .entry))) (length (now (room .entry))) (Event.reading c (now (room .entry)))
+        (desk (now (memory .entry)) (now (post .entry)) (now (out .entry)) (now (text .entry)) used 0)
+        (desk (now (memory .exit)) (now (post .exit)) (now (out .exit)) (now (text .exit)) (r .session .used) (r .len))
+        × NewLine (r .session) 1 × (r .session .measures ≡ s) ⌝ }
 {
     let turn = reading(s, c, memory, room, post, used);
     let e = settle(s, c, turn, memory, room, out, post, text);
@@ -149,7 +161,11 @@ fn put(
     page: &[u8],
     text: &mut [u8],
 ) -> Answer
-    ensures { λ r. ⌜ ((sheet : List ℕ) (x : Session) → x .measures ≡ s → x .used ≡ used → Runs x (now (memory .entry)) (now (post .entry)) → Live (r .session) (now (memory .exit)) (now (post .exit)) sheet) ⌝ }
+    ensures { λ r. ⌜ ((sheet : List ℕ) (x : Session) → x .measures ≡ s → x .used ≡ used → Runs x (now (memory .entry)) (now (post .entry)) → Live (r .session) (now (memory .exit)) (now (post .exit)) sheet)
+        × ((given : List ℕ) → Kept given bytes (now (page .entry)) → Operates s c 0 (length (now (room .entry))) (Event.deposit c (take (length (now (page .entry))) given))
+        (desk (now (memory .entry)) (now (post .entry)) (now (out .entry)) (now (text .entry)) used 0)
+        (desk (now (memory .exit)) (now (post .exit)) (now (out .exit)) (now (text .exit)) (r .session .used) (r .len)))
+        × NewLine (r .session) 1 × (r .session .measures ≡ s) ⌝ }
 {
     let n = least(bytes, page.len());
     let turn = deposit(s, c, memory, &page[..n], post, used);
@@ -167,7 +183,11 @@ fn later(
     page: &[u8],
     text: &mut [u8],
 ) -> Answer
-    ensures { λ r. ⌜ (x .stage ≡ 1 → Live x (now (memory .entry)) (now (post .entry)) (now (page .entry)) → Live (r .session) (now (memory .exit)) (now (post .exit)) (now (page .entry))) ⌝ }
+    ensures { λ r. ⌜ (x .stage ≡ 1 → Live x (now (memory .entry)) (now (post .entry)) (now (page .entry)) → Live (r .session) (now (memory .exit)) (now (post .exit)) (now (page .entry)))
+        × ((p : List ℕ) → Read p (x .reading) (now (page .entry)) → Later (standLine p) (x .measures) (now (room .entry)) (now (page .entry))
+        (desk (now (memory .entry)) (now (post .entry)) (now (out .entry)) (now (text .entry)) (x .used) 0)
+        (desk (now (memory .exit)) (now (post .exit)) (now (out .exit)) (now (text .exit)) (r .session .used) (r .len)))
+        × NewLine (r .session) 1 × (r .session .measures ≡ x .measures) ⌝ }
 {
     let r = x.reading;
     let s = x.measures;
@@ -193,7 +213,10 @@ fn line(
     page: &[u8],
     text: &mut [u8],
 ) -> Answer
-    ensures { λ r. ⌜ (Live x (now (memory .entry)) (now (post .entry)) (now (page .entry)) → Live (r .session) (now (memory .exit)) (now (post .exit)) (now (page .entry))) ⌝ }
+    ensures { λ r. ⌜ (Live x (now (memory .entry)) (now (post .entry)) (now (page .entry)) → Live (r .session) (now (memory .exit)) (now (post .exit)) (now (page .entry)))
+        × ((p : List ℕ) → Read p (x .reading) (now (page .entry)) → Ends x p (now (room .entry)) (now (page .entry))
+        (desk (now (memory .entry)) (now (post .entry)) (now (out .entry)) (now (text .entry)) (x .used) 0)
+        (desk (now (memory .exit)) (now (post .exit)) (now (out .exit)) (now (text .exit)) (r .session .used) (r .len)) (r .session)) ⌝ }
 {
     if x.stage == 0 {
         return first(x, memory, text);
@@ -215,7 +238,13 @@ pub fn feed(
     page: &mut [u8],
     text: &mut [u8],
 ) -> Answer
-    ensures { λ r. ⌜ (Live x (now (memory .entry)) (now (post .entry)) (now (page .entry)) → Live (r .session) (now (memory .exit)) (now (post .exit)) (now (page .exit))) ⌝ }
+    ensures { λ r. ⌜ (Live x (now (memory .entry)) (now (post .entry)) (now (page .entry)) → Live (r .session) (now (memory .exit)) (now (post .exit)) (now (page .exit)))
+        × (b ≡ 10 → (p : List ℕ) → Read p (x .reading) (now (page .entry)) → Ends x p (now (room .entry)) (now (page .entry))
+        (desk (now (memory .entry)) (now (post .entry)) (now (out .entry)) (now (text .entry)) (x .used) 0)
+        (desk (now (memory .exit)) (now (post .exit)) (now (out .exit)) (now (text .exit)) (r .session .used) (r .len)) (r .session))
+        × ((b ≡ 10 → ⊥) → Takes x b (now (page .entry))
+        (desk (now (memory .entry)) (now (post .entry)) (now (out .entry)) (now (text .entry)) (x .used) 0)
+        (desk (now (memory .exit)) (now (post .exit)) (now (out .exit)) (now (text .exit)) (r .session .used) (r .len)) (now (page .exit)) (r .session)) ⌝ }
 {
     if b == 10 {
         return line(x, memory, room, out, post, page, text);
@@ -245,7 +274,13 @@ pub fn close(
     page: &[u8],
     text: &mut [u8],
 ) -> Answer
-    ensures { λ r. ⌜ (Live x (now (memory .entry)) (now (post .entry)) (now (page .entry)) → Live (r .session) (now (memory .exit)) (now (post .exit)) (now (page .entry))) ⌝ }
+    ensures { λ r. ⌜ (Live x (now (memory .entry)) (now (post .entry)) (now (page .entry)) → Live (r .session) (now (memory .exit)) (now (post .exit)) (now (page .entry)))
+        × (x .open ≡ true → (p : List ℕ) → Read p (x .reading) (now (page .entry)) → Ends x p (now (room .entry)) (now (page .entry))
+        (desk (now (memory .entry)) (now (post .entry)) (now (out .entry)) (now (text .entry)) (x .used) 0)
+        (desk (now (memory .exit)) (now (post .exit)) (now (out .exit)) (now (text .exit)) (r .session .used) (r .len)) (r .session))
+        × (x .open ≡ false → Still x
+        (desk (now (memory .entry)) (now (post .entry)) (now (out .entry)) (now (text .entry)) (x .used) 0)
+        (desk (now (memory .exit)) (now (post .exit)) (now (out .exit)) (now (text .exit)) (r .session .used) (r .len)) (r .session)) ⌝ }
 {
     if x.open {
         return line(x, memory, room, out, post, page, text);

@@ -7,6 +7,7 @@ ghost use mathlib.Core.Path.{_≡_};
 ghost use mathlib.Core.Bool.{cond};
 ghost use Prim.Native.Nat.{ℕ, _+_};
 ghost use lib.Dec.{ltb};
+ghost use lib.ListN.{length};
 ghost use Rattle.session.specs.Settle.{Desk, Hands, Settles};
 
 pub struct Settled {
@@ -38,8 +39,8 @@ fn hand_over(
     text: &mut [u8],
 ) -> Settled
     ensures { λ r. ⌜ ((start : Desk) (n : ℕ)
-        → Hands s c start n (record { lent = record { memory = now (memory .entry); post = now (post .entry); out = now (out .entry) }; used = x .used; text = now (text .entry); len = x .len })
-        → Hands s c start (n + 1) (record { lent = record { memory = now (memory .exit); post = now (post .exit); out = now (out .exit) }; used = r .used; text = now (text .exit); len = r .len })) ⌝ }
+        → Hands s c (length (now (room .entry))) start n (record { lent = record { memory = now (memory .entry); post = now (post .entry); out = now (out .entry) }; used = x .used; text = now (text .entry); len = x .len })
+        → Hands s c (length (now (room .entry))) start (n + 1) (record { lent = record { memory = now (memory .exit); post = now (post .exit); out = now (out .exit) }; used = r .used; text = now (text .exit); len = r .len })) ⌝ }
 {
     let turn = oldest(s, memory, room, out, post, x.used);
     let what = turn.what;
@@ -62,7 +63,7 @@ pub fn settle(
     post: &mut [u8],
     text: &mut [u8],
 ) -> Settled
-    ensures { λ r. ⌜ Settles s c start
+    ensures { λ r. ⌜ Settles s c (length (now (room .entry))) start
         (record { memory = now (memory .entry); post = now (post .entry); out = now (out .entry) }) (now (text .entry))
         (record { memory = now (memory .exit); post = now (post .exit); out = now (out .exit) }) (now (text .exit)) r ⌝ }
 {

@@ -8,7 +8,7 @@ begin-requires : tie.Need-begin-requires
 begin-requires c κs = search needs
 
 returns : tie.Need-returns
-returns c = (refl, refl, refl, refl, λ memory post page f. record { runs = f; line = []; read = c .begin .ensures page })
+returns c = (refl, record { stage = refl; closed = refl; read = c .begin .ensures }, refl, refl, λ memory post page f. record { runs = f; line = []; read = c .begin .ensures page })
 
 pub at-stage-spec : {M : Type 1} → statement M
 at-stage-spec = tie.close (tie.spec begin-requires returns)

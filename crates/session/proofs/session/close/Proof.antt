@@ -1,4 +1,6 @@
+use mathlib.Core.Path.{refl}
 use borrow.Author.Needs.{needs}
+use Rattle.session.proofs.LineLaws.{not-both}
 use Rattle.session.proofs.session.close.Statement.{statement}
 use Rattle.session.proofs.session.close.Tie as tie
 
@@ -21,10 +23,12 @@ same-length-5 : tie.Need-same-length-5
 same-length-5 c = search needs
 
 returns : tie.Need-returns
-returns c = c .before .before .before .before .before .before .before .before .before .before .line .ensures
+returns c =
+    let k = c .before .before .before .before .before .before .before .before .before .before .line .ensures in (k .0, λ e. k .1, λ e. absurd (not-both (c .before .before .before .before .before .before .before .before .before .before .before .before .before .before .before .before .before .before .before .before .before .before .before .args .x .«open») (c .before .before .before .before .before .before .before .before .before .before .before .before .before .before .before .before .if1 .taken) e))
 
 returns-2 : tie.Need-returns-2
-returns-2 c = λ l. l
+returns-2 c =
+    (λ l. l, λ e. absurd (not-both (c .before .before .before .before .before .before .before .args .x .«open») e (c .if1 .left)), λ e. record { len = refl; lent = refl; text = refl; session = refl })
 
 pub close-spec : {M : Type 1} → statement M
 close-spec =

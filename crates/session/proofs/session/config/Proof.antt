@@ -1,7 +1,8 @@
-use mathlib.Core.Path.{sym, _∙_}
+use mathlib.Core.Path.{sym, _∙_, refl}
 use native.Mathlib.Omega.{arith}
-use borrow.Author.Tests.{not-false}
+use borrow.Author.Tests.{not-false, not-true}
 use borrow.Author.Needs.{needs}
+use Rattle.session.proofs.LineLaws.{opens-measures, opens-big, opens-short, opens-taken, replied}
 use Rattle.session.proofs.SessionLaws.{fresh-runs}
 use Rattle.session.proofs.session.config.Statement.{statement}
 use Rattle.session.proofs.session.config.Tie as tie
@@ -19,7 +20,13 @@ same-length : tie.Need-same-length
 same-length c = search needs
 
 returns : tie.Need-returns
-returns c = λ post page. c .at-stage .ensures .4 _ post page (λ e. absurd (omega arith))
+returns c =
+    let a = c .at-stage .ensures in
+    let no = sym (c .before .before .before .before .before .before .pass .ensures) ∙ not-true (c .before .before .before .before .before .before .pass .result) (c .before .before .before .before .before .if1 .taken) in (
+      λ post page. a .4 _ post page (λ e. absurd (omega arith)),
+      replied _ _ _ _ _ _ _ _ (opens-measures _ _ no) (c .before .before .before .refused .ensures) refl (a .0) (a .1) (a .3),
+      a .2,
+    )
 
 small-requires : tie.Need-small-requires
 small-requires c κs = search needs
@@ -34,7 +41,14 @@ same-length-2 : tie.Need-same-length-2
 same-length-2 c = search needs
 
 returns-2 : tie.Need-returns-2
-returns-2 c = λ post page. c .at-stage2 .ensures .4 _ post page (λ e. absurd (omega arith))
+returns-2 c =
+    let a = c .at-stage2 .ensures in
+    let ok = sym (c .before .before .before .before .before .before .before .before .pass .ensures) ∙ not-false (c .before .before .before .before .before .before .before .before .pass .result) (c .before .before .before .before .before .before .before .if1 .left) in
+    let no = sym (c .before .before .before .before .before .before .small .ensures) ∙ not-true (c .before .before .before .before .before .before .small .result) (c .before .before .before .before .before .if2 .taken) in (
+      λ post page. a .4 _ post page (λ e. absurd (omega arith)),
+      replied _ _ _ _ _ _ _ _ (opens-big _ _ ok no) (c .before .before .before .refused2 .ensures) refl (a .0) (a .1) (a .3),
+      a .2,
+    )
 
 fresh-requires : tie.Need-fresh-requires
 fresh-requires c κs = search needs
@@ -67,7 +81,16 @@ same-length-4 : tie.Need-same-length-4
 same-length-4 c = search needs
 
 returns-3 : tie.Need-returns-3
-returns-3 c = λ post page. c .at-stage3 .ensures .4 _ post page (λ e. absurd (omega arith))
+returns-3 c =
+    let a = c .at-stage3 .ensures in
+    let f = c .before .before .before .before .before .before .before .before .before .before .before .fresh in
+    let ok = sym (c .before .before .before .before .before .before .before .before .before .before .before .before .before .before .before .before .pass .ensures) ∙ not-false (c .before .before .before .before .before .before .before .before .before .before .before .before .before .before .before .before .pass .result) (c .before .before .before .before .before .before .before .before .before .before .before .before .before .before .before .if1 .left) in
+    let fit = sym (c .before .before .before .before .before .before .before .before .before .before .before .before .before .before .small .ensures) ∙ not-false (c .before .before .before .before .before .before .before .before .before .before .before .before .before .before .small .result) (c .before .before .before .before .before .before .before .before .before .before .before .before .before .if2 .left) in
+    let o = opens-short (c .before .before .before .before .before .before .before .before .before .before .before .before .before .before .before .before .before .before .before .args .s) (c .before .before .before .before .before .before .before .before .before .before .before .before .before .before .before .before .before .before .before .args .memory .now) (f .result) _ _ ok fit (c .before .before .before .before .before .before .before .x .given .1) (f .ensures .0) (c .before .before .before .before .number .ensures) in (
+      λ post page. a .4 _ post page (λ e. absurd (omega arith)),
+      replied _ _ _ _ _ _ _ _ (o .0) (c .before .before .before .refused3 .ensures) (f .ensures .1 ∙ o .1) (a .0) (a .1) (a .3),
+      a .2,
+    )
 
 same-length-5 : tie.Need-same-length-5
 same-length-5 c = search needs
@@ -77,12 +100,15 @@ same-length-6 c = search needs
 
 returns-4 : tie.Need-returns-4
 returns-4 c =
+    let a = c .at-stage4 .ensures in
     let f = c .before .before .before .before .before .before .before .before .before .fresh in
     let ok = sym (c .before .before .before .before .before .before .before .before .before .before .before .before .before .before .pass .ensures) ∙ not-false (c .before .before .before .before .before .before .before .before .before .before .before .before .before .before .pass .result) (c .before .before .before .before .before .before .before .before .before .before .before .before .before .if1 .left) in
-    let a = c .at-stage4 .ensures in
-    λ post page.
-    a .4 _ post page
-    (λ e. fresh-runs _ _ (c .before .before .before .before .before .before .before .before .before .before .before .before .before .before .before .before .before .args .memory .now) _ post (f .result) _ (a .2) (a .3) ok (c .before .before .before .before .before .enum-told .given .1) (f .ensures .0) (f .ensures .1))
+    let fit = sym (c .before .before .before .before .before .before .before .before .before .before .before .before .small .ensures) ∙ not-false (c .before .before .before .before .before .before .before .before .before .before .before .before .small .result) (c .before .before .before .before .before .before .before .before .before .before .before .if2 .left) in
+    let t = c .before .before .before .before .before .enum-told .given .1 in (
+      λ post page. a .4 _ post page (λ e. fresh-runs _ _ (c .before .before .before .before .before .before .before .before .before .before .before .before .before .before .before .before .before .args .memory .now) _ post (f .result) _ (a .2) (a .3) ok t (f .ensures .0) (f .ensures .1)),
+      replied _ _ _ _ _ _ _ _ (opens-taken (c .before .before .before .before .before .before .before .before .before .before .before .before .before .before .before .before .before .args .s) (c .before .before .before .before .before .before .before .before .before .before .before .before .before .before .before .before .before .args .memory .now) (f .result) _ ok fit t (f .ensures .0)) (c .before .before .before .header .ensures) (f .ensures .1) (a .0) (a .1) (a .3),
+      a .2,
+    )
 
 pub config-spec : {M : Type 1} → statement M
 config-spec =

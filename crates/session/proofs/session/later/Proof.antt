@@ -1,5 +1,7 @@
 use mathlib.Core.Path.{refl}
 use borrow.Author.Needs.{needs}
+use Rattle.lines.specs.Command.{standLine}
+use Rattle.session.proofs.LineLaws.{asks-read, asks-deposit, later-reads, later-deposits, later-other, refused-again}
 use Rattle.session.proofs.SessionLaws.{runs-same}
 use Rattle.session.proofs.session.later.Statement.{statement}
 use Rattle.session.proofs.session.later.Tie as tie
@@ -44,7 +46,14 @@ same-length-5 : tie.Need-same-length-5
 same-length-5 c = search needs
 
 returns : tie.Need-returns
-returns c = λ e l. c .before .before .before .before .before .before .before .before .before .before .read .ensures _ _ refl refl (l .runs e)
+returns c =
+    let k = c .before .before .before .before .before .before .before .before .before .before .read .ensures in
+    let g = c .before .before .before .before .before .before .before .before .before .before .before .before .before .before .before .before .before .before .before .before .before .before .before .before .before .before .before .before .before .args in (
+      λ e l. k .0 _ _ refl refl (l .runs e),
+      λ p h. later-reads _ (g .room .now) (g .page .now) _ _ (standLine p) _ (asks-read (standLine p) (g .page .now) (c .before .before .before .before .before .before .before .before .before .before .before .before .before .before .before .before .before .before .before .asked .result) _ (c .before .before .before .before .before .before .before .before .before .before .before .before .before .before .before .before .before .c .given .1) (c .before .before .before .before .before .before .before .before .before .before .before .before .before .before .before .before .before .before .before .asked .ensures p (g .page .now) (c .before .before .before .before .before .before .before .before .before .before .before .before .before .before .before .before .before .before .before .before .ended .ensures p (g .page .now) h))) (k .1),
+      k .2,
+      k .3,
+    )
 
 same-length-6 : tie.Need-same-length-6
 same-length-6 c = search needs
@@ -62,14 +71,27 @@ same-length-10 : tie.Need-same-length-10
 same-length-10 c = search needs
 
 returns-2 : tie.Need-returns-2
-returns-2 c = λ e l. c .before .before .before .before .before .before .before .before .before .before .put .ensures _ _ refl refl (l .runs e)
+returns-2 c =
+    let k = c .before .before .before .before .before .before .before .before .before .before .put .ensures in
+    let g = c .before .before .before .before .before .before .before .before .before .before .before .before .before .before .before .before .before .before .before .before .before .before .before .before .before .before .before .before .before .args in (
+      λ e l. k .0 _ _ refl refl (l .runs e),
+      λ p h. later-deposits _ (g .room .now) (g .page .now) _ _ (standLine p) _ _ (asks-deposit (standLine p) (g .page .now) (c .before .before .before .before .before .before .before .before .before .before .before .before .before .before .before .before .before .before .before .asked .result) _ _ (c .before .before .before .before .before .before .before .before .before .before .before .before .before .before .before .before .before .c2 .given .1) (c .before .before .before .before .before .before .before .before .before .before .before .before .before .before .before .before .before .before .before .asked .ensures p (g .page .now) (c .before .before .before .before .before .before .before .before .before .before .before .before .before .before .before .before .before .before .before .before .ended .ensures p (g .page .now) h))) (k .1),
+      k .2,
+      k .3,
+    )
 
 same-length-11 : tie.Need-same-length-11
 same-length-11 c = search needs
 
 returns-3 : tie.Need-returns-3
 returns-3 c =
-    let a = c .at-stage .ensures in λ e l. a .4 _ _ _ (λ f. runs-same _ _ _ _ (a .2) (a .3) (l .runs e))
+    let a = c .at-stage .ensures in
+    let g = c .before .before .before .before .before .before .before .before .before .before .before .before .before .before .before .before .args in (
+      λ e l. a .4 _ _ _ (λ f. runs-same _ _ _ _ (a .2) (a .3) (l .runs e)),
+      λ p h. later-other _ (g .room .now) (g .page .now) _ _ (standLine p) (c .before .before .before .before .before .before .asked .result) (c .before .before .before .before .before .match .keys3) (c .before .before .before .before .before .before .asked .ensures p (g .page .now) (c .before .before .before .before .before .before .before .ended .ensures p (g .page .now) h)) (refused-again _ _ _ _ _ _ _ _ (a .0) (a .3) (c .before .before .before .refused .ensures)),
+      a .1,
+      a .2,
+    )
 
 pub later-spec : {M : Type 1} → statement M
 later-spec =

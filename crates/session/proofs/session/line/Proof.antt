@@ -1,3 +1,5 @@
+use native.Mathlib.Omega.{arith}
+use mathlib.Core.Path.{refl}
 use borrow.Author.Needs.{needs}
 use Rattle.session.proofs.session.line.Statement.{statement}
 use Rattle.session.proofs.session.line.Tie as tie
@@ -12,7 +14,11 @@ same-length-2 : tie.Need-same-length-2
 same-length-2 c = search needs
 
 returns : tie.Need-returns
-returns c = λ l. c .before .before .before .before .first .ensures _ _
+returns c =
+    let k = c .before .before .before .before .first .ensures in (
+      λ l. k .0 _ _,
+      λ p h. record { first = λ e. (k .1 p _ h, refl, refl); later = λ e. absurd (omega arith); over = λ e. absurd (omega arith) },
+    )
 
 later-requires : tie.Need-later-requires
 later-requires c κs = search needs
@@ -33,10 +39,17 @@ same-length-7 : tie.Need-same-length-7
 same-length-7 c = search needs
 
 returns-2 : tie.Need-returns-2
-returns-2 c = λ l. c .before .before .before .before .before .before .before .before .before .before .later .ensures (c .before .before .before .before .before .before .before .before .before .before .before .before .before .before .before .before .if2 .taken) l
+returns-2 c =
+    let k = c .before .before .before .before .before .before .before .before .before .before .later .ensures in (
+      λ l. k .0 (c .before .before .before .before .before .before .before .before .before .before .before .before .before .before .before .before .if2 .taken) l,
+      λ p h. record { first = λ e. absurd (omega arith); later = λ e. (k .1 p h, k .2, k .3); over = λ e. absurd (omega arith) },
+    )
 
 returns-3 : tie.Need-returns-3
-returns-3 c = search needs
+returns-3 c = (
+  λ l. l,
+  λ p h. record { first = λ e. absurd (omega arith); later = λ e. absurd (omega arith); over = λ e. record { len = refl; lent = refl; text = refl; session = refl } },
+)
 
 pub line-spec : {M : Type 1} → statement M
 line-spec =

@@ -1,7 +1,11 @@
-use mathlib.Core.Path.{sym}
+use Prim.Native.Nat.{ℕ}
+use mathlib.Core.List.{List}
+use mathlib.Core.Path.{sym, refl, ap}
 use native.Mathlib.Omega.{arith}
 use lib.Seq.{length-take-le}
 use borrow.Author.Needs.{needs}
+use Rattle.protocol.specs.Run.{Event}
+use Rattle.session.proofs.LineLaws.{kept-page, operates}
 use Rattle.session.proofs.SessionLaws.{front-bytes, operation-runs}
 use Rattle.session.proofs.session.put.Statement.{statement}
 use Rattle.session.proofs.session.put.Tie as tie
@@ -39,8 +43,15 @@ same-length-5 c = search needs
 returns : tie.Need-returns
 returns c =
     let a = c .at-stage .ensures in
-    λ page x m u h.
-    a .4 _ _ page (λ e. operation-runs x _ _ _ _ _ _ _ _ _ _ _ _ _ _ _ m u h (a .2) (a .3) (c .before .before .before .before .before .before .before .before .before .before .before .before .before .before .before .before .before .before .before .before .before .deposit .ensures) (front-bytes (c .before .before .before .before .before .before .before .before .before .before .before .before .before .before .before .before .before .before .before .before .before .before .before .before .before .least .result) (c .before .before .before .before .before .before .before .before .before .before .before .before .before .before .before .before .before .before .before .before .before .before .before .before .before .before .before .before .before .before .before .before .args .page .now) (λ i. c .before .before .before .before .before .before .before .before .before .before .before .before .before .before .before .before .before .before .before .before .before .before .before .before .before .before .before .shared-slice-known .given i .fits)) (c .before .before .before .before .before .before .before .before .before .before .before .settle .ensures))
+    let o = c .before .before .before .before .before .before .before .before .before .before .before .before .before .before .before .before .before .before .before .before .before .deposit .ensures in
+    let e = c .before .before .before .before .before .before .before .before .before .before .before .settle .ensures in
+    let g = c .before .before .before .before .before .before .before .before .before .before .before .before .before .before .before .before .before .before .before .before .before .before .before .before .before .before .before .before .before .before .before .before .args in
+    let l = c .before .before .before .before .before .before .before .before .before .before .before .before .before .before .before .before .before .before .before .before .before .before .before .before .before .least in (
+      λ page x m u h. a .4 _ _ page (λ q. operation-runs x _ _ _ _ _ _ _ _ _ _ _ _ _ _ _ _ m u h (a .2) (a .3) o (front-bytes (l .result) (g .page .now) (λ i. c .before .before .before .before .before .before .before .before .before .before .before .before .before .before .before .before .before .before .before .before .before .before .before .before .before .before .before .shared-slice-known .given i .fits)) e),
+      λ given k. operates _ _ _ _ _ _ _ _ _ _ _ _ _ _ _ _ _ (ap (λ (b : List ℕ). Event.deposit (g .c) b) (kept-page given (g .page .now) (g .bytes) (l .result) k (l .ensures .0))) refl o refl e (a .3) (a .0),
+      a .1,
+      a .2,
+    )
 
 pub put-spec : {M : Type 1} → statement M
 put-spec =

@@ -1,5 +1,7 @@
+use mathlib.Core.Path.{refl}
 use native.Mathlib.Omega.{arith}
 use borrow.Author.Needs.{needs}
+use Rattle.session.proofs.LineLaws.{operates}
 use Rattle.session.proofs.SessionLaws.{operation-runs}
 use Rattle.session.proofs.session.read.Statement.{statement}
 use Rattle.session.proofs.session.read.Tie as tie
@@ -31,8 +33,13 @@ same-length-5 c = search needs
 returns : tie.Need-returns
 returns c =
     let a = c .at-stage .ensures in
-    λ page x m u h.
-    a .4 _ _ page (λ e. operation-runs x _ _ _ _ _ _ _ _ _ _ _ _ _ _ _ m u h (a .2) (a .3) (c .before .before .before .before .before .before .before .before .before .before .before .before .before .before .before .before .before .before .before .before .before .before .before .reading .ensures) (λ i. c .before .before .before .before .before .before .before .before .before .before .before .before .before .before .before .before .before .before .before .before .before .before .before .before .before .before .before .before .before .before .slice-known2 .given i .fits) (c .before .before .before .before .before .before .before .before .before .before .before .settle .ensures))
+    let o = c .before .before .before .before .before .before .before .before .before .before .before .before .before .before .before .before .before .before .before .before .before .before .before .reading .ensures in
+    let e = c .before .before .before .before .before .before .before .before .before .before .before .settle .ensures in (
+      λ page x m u h. a .4 _ _ page (λ g. operation-runs x _ _ _ _ _ _ _ _ _ _ _ _ _ _ _ _ m u h (a .2) (a .3) o (λ i. c .before .before .before .before .before .before .before .before .before .before .before .before .before .before .before .before .before .before .before .before .before .before .before .before .before .before .before .before .before .before .slice-known2 .given i .fits) e),
+      operates _ _ _ _ _ _ _ _ _ _ _ _ _ _ _ _ _ refl (c .before .before .before .before .before .before .before .before .before .before .before .before .before .before .before .before .before .before .before .before .room .given) o refl e (a .3) (a .0),
+      a .1,
+      a .2,
+    )
 
 pub read-spec : {M : Type 1} → statement M
 read-spec =

@@ -25,7 +25,7 @@ same-length-5 : tie.Need-same-length-5
 same-length-5 c = search needs
 
 returns : tie.Need-returns
-returns c = λ l. live-as _ _ _ _ _ (c .put .ensures) (c .before .before .before .before .before .before .before .before .before .before .before .before .close .ensures l)
+returns c = λ l. live-as _ _ _ _ _ (c .put .ensures) (c .before .before .before .before .before .before .before .before .before .before .before .before .close .ensures .0 l)
 
 pub end-spec : {M : Type 1} → statement M
 end-spec =

@@ -38,7 +38,7 @@ loop-again : tie.Need-loop-again Inv-loop μ-loop
 loop-again c =
     let h = c .before .before .before .before .before .before .before .before .before .before .before .before .before .before .before .before .before .before .before .before .before .before .before .loop .inv in (
       omega (arith, c .before .before .before .before .before .before .before .before .before .before .before .before .before .before .before .before .before .before .before .before .before .before .loop-test .taken),
-      λ l. live-as _ _ _ _ _ (c .put .ensures) (c .before .before .before .before .before .before .before .before .before .before .before .before .before .before .feed .ensures (h .1 l)),
+      λ l. live-as _ _ _ _ _ (c .put .ensures) (c .before .before .before .before .before .before .before .before .before .before .before .before .before .before .feed .ensures .0 (h .1 l)),
       omega (arith, h .2, c .before .before .before .before .before .before .before .before .before .before .before .before .before .memory .given),
       omega (arith, h .3, c .before .before .before .before .before .before .before .before .before .before .before .room .given),
       omega (arith, h .4, c .before .before .before .before .before .before .before .before .before .out .given),
