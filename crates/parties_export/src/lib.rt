@@ -1,39 +1,12 @@
-// The directory and the data node for C and Rust: each function takes numbers and slices, requires nothing, and answers with one
-// number. An answer's length is below 2^32, so that a refusal is told apart by that bit.
-use parties::answer::Service;
+// Directory, data node and client for C and Rust: each function takes numbers and slices, and requires nothing.
+use numbers::numbers_of;
+use numbers::service_code;
 use protocol::measures::Measures;
-use records::answer::Refusal;
 ghost use mathlib.Core.Path.{_≡_};
-ghost use Rattle.protocol.specs.Answer.{refuses};
 ghost use Rattle.protocol.specs.DirectoryEvents.{directoryFresh, directoryUpdate, directoryScan};
 ghost use Rattle.protocol.specs.NodeEvents.{nodeFresh, nodeMessage};
-ghost use Rattle.records.specs.Answer.{number};
-ghost use Rattle.parties.specs.Answer.{served};
-ghost use Rattle.parties_export.specs.Code.{measured, code};
-
-fn refused(r: Refusal) -> u64
-    ensures { λ c. ⌜ c ≡ code (refuses (number r)) ⌝ }
-{
-    match r {
-        Refusal::Measures => 4294967297,
-        Refusal::Short => 4294967298,
-        Refusal::Number => 4294967299,
-        Refusal::Form => 4294967300,
-        Refusal::Turn => 4294967301,
-        Refusal::TooLong => 4294967302,
-        Refusal::Spent => 4294967303,
-        Refusal::Full => 4294967304,
-    }
-}
-
-fn service_code(a: Service) -> u64
-    ensures { λ c. ⌜ c ≡ code (served a) ⌝ }
-{
-    match a {
-        Service::Served(len) => len as u64,
-        Service::Refused(r) => refused(r),
-    }
-}
+ghost use Rattle.protocol.specs.ClientEvents.{clientFresh, startDeposit, startReading, updateAnswer, scanAnswer, clientMessage};
+ghost use Rattle.numbers.specs.Code.{measured, code, told};
 
 #[no_mangle]
 pub extern "C" fn directory_fresh(
@@ -115,4 +88,144 @@ pub extern "C" fn node_message(
         × (now (room .exit) ≡ nodeMessage (measured m n k t f) i (now (table .entry)) (now (message .entry)) (now (room .entry)) .room) ⌝ }
 {
     service_code(parties::node::message(Measures { m, n, k, t, f }, i, table, message, room))
+}
+
+// The answer of an event at a client stands in four numbers.
+#[no_mangle]
+pub extern "C" fn client_fresh(
+    m: usize,
+    n: usize,
+    k: usize,
+    t: usize,
+    f: usize,
+    client: &mut [u8],
+    answer: &mut [u64; 4],
+)
+    ensures { λ _. ⌜ (now (answer .exit) ≡ told (clientFresh (measured m n k t f) (now (client .entry)) .answer))
+        × (now (client .exit) ≡ clientFresh (measured m n k t f) (now (client .entry)) .client) ⌝ }
+{
+    *answer = numbers_of(client_record::event::fresh(Measures { m, n, k, t, f }, client));
+}
+
+#[no_mangle]
+pub extern "C" fn client_deposit(
+    m: usize,
+    n: usize,
+    k: usize,
+    t: usize,
+    f: usize,
+    own: usize,
+    client: &mut [u8],
+    page: &[u8],
+    answer: &mut [u64; 4],
+)
+    ensures { λ _. ⌜ (now (answer .exit) ≡ told (startDeposit (measured m n k t f) own (now (client .entry)) (now (page .entry)) .answer))
+        × (now (client .exit) ≡ startDeposit (measured m n k t f) own (now (client .entry)) (now (page .entry)) .client) ⌝ }
+{
+    *answer = numbers_of(client_record::event::deposit(
+        Measures { m, n, k, t, f },
+        own,
+        client,
+        page,
+    ));
+}
+
+#[no_mangle]
+pub extern "C" fn client_read(
+    m: usize,
+    n: usize,
+    k: usize,
+    t: usize,
+    f: usize,
+    own: usize,
+    client: &mut [u8],
+    room: &mut [u8],
+    answer: &mut [u64; 4],
+)
+    ensures { λ _. ⌜ (now (answer .exit) ≡ told (startReading (measured m n k t f) own (now (client .entry)) (now (room .entry)) .answer))
+        × (now (client .exit) ≡ startReading (measured m n k t f) own (now (client .entry)) (now (room .entry)) .client)
+        × (now (room .exit) ≡ startReading (measured m n k t f) own (now (client .entry)) (now (room .entry)) .room) ⌝ }
+{
+    *answer = numbers_of(client_record::event::read(Measures { m, n, k, t, f }, own, client, room));
+}
+
+#[no_mangle]
+pub extern "C" fn client_updated(
+    m: usize,
+    n: usize,
+    k: usize,
+    t: usize,
+    f: usize,
+    own: usize,
+    client: &mut [u8],
+    room: &mut [u8],
+    answer: &mut [u64; 4],
+)
+    ensures { λ _. ⌜ (now (answer .exit) ≡ told (updateAnswer (measured m n k t f) own (now (client .entry)) (now (room .entry)) .answer))
+        × (now (client .exit) ≡ updateAnswer (measured m n k t f) own (now (client .entry)) (now (room .entry)) .client)
+        × (now (room .exit) ≡ updateAnswer (measured m n k t f) own (now (client .entry)) (now (room .entry)) .room) ⌝ }
+{
+    *answer = numbers_of(client_record::event::updated(
+        Measures { m, n, k, t, f },
+        own,
+        client,
+        room,
+    ));
+}
+
+#[no_mangle]
+pub extern "C" fn client_scanned(
+    m: usize,
+    n: usize,
+    k: usize,
+    t: usize,
+    f: usize,
+    own: usize,
+    client: &mut [u8],
+    rows: &[u8],
+    room: &mut [u8],
+    answer: &mut [u64; 4],
+)
+    ensures { λ _. ⌜ (now (answer .exit) ≡ told (scanAnswer (measured m n k t f) own (now (client .entry)) (now (rows .entry)) (now (room .entry)) .answer))
+        × (now (client .exit) ≡ scanAnswer (measured m n k t f) own (now (client .entry)) (now (rows .entry)) (now (room .entry)) .client)
+        × (now (room .exit) ≡ scanAnswer (measured m n k t f) own (now (client .entry)) (now (rows .entry)) (now (room .entry)) .room) ⌝ }
+{
+    *answer = numbers_of(client_record::event::scanned(
+        Measures { m, n, k, t, f },
+        own,
+        client,
+        rows,
+        room,
+    ));
+}
+
+#[no_mangle]
+pub extern "C" fn client_receive(
+    m: usize,
+    n: usize,
+    k: usize,
+    t: usize,
+    f: usize,
+    own: usize,
+    i: usize,
+    client: &mut [u8],
+    message: &[u8],
+    room: &mut [u8],
+    out: &mut [u8],
+    answer: &mut [u64; 4],
+)
+    ensures { λ _. ⌜ (now (answer .exit) ≡ told (clientMessage (measured m n k t f) own i (now (client .entry)) (now (message .entry)) (now (room .entry)) (now (out .entry)) .answer))
+        × (now (client .exit) ≡ clientMessage (measured m n k t f) own i (now (client .entry)) (now (message .entry)) (now (room .entry)) (now (out .entry)) .client)
+        × (now (room .exit) ≡ clientMessage (measured m n k t f) own i (now (client .entry)) (now (message .entry)) (now (room .entry)) (now (out .entry)) .room)
+        × (now (out .exit) ≡ clientMessage (measured m n k t f) own i (now (client .entry)) (now (message .entry)) (now (room .entry)) (now (out .entry)) .out) ⌝ }
+{
+    *answer = numbers_of(client_record::event::receive(
+        Measures { m, n, k, t, f },
+        own,
+        i,
+        client,
+        message,
+        room,
+        out,
+    ));
 }

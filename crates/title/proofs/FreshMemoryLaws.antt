@@ -27,13 +27,9 @@ use Rattle.protocol.proofs.ClientLaws.{length-client, fresh-client}
 use Rattle.records.specs.Places.{splice}
 use Rattle.records.proofs.SpliceLaws.{many-append, splice-next, splice-front, length-splice}
 use Rattle.records.proofs.SizeLaws.{below-rows}
-use Rattle.client.specs.declared.phase.Phase.{Phase}
-use Rattle.client.specs.Record.{recordOf}
-use Rattle.client.proofs.GateLaws.{record-length}
 use Rattle.title.specs.Memory.{memorySize, freshMemory, memoryFresh}
 use Rattle.title.specs.Part.{Refuses, measures, short, Stands}
 use Rattle.title.proofs.MemoryLaws.{splice-taken, splice-back, length-lent}
-use Rattle.title.proofs.RecordPartLaws.{record-back}
 
 -- ---- each part's bytes
 
@@ -89,15 +85,12 @@ module _ (s : Measures) where
           let r = y ∙ table-fresh (take (to - at) (drop at t)) (length-lent t at to l ∙ n) in
           splice-back t new at (to - at) (ap length r ∙ table-long ∙ sym n) ∙ ap (splice t at) r
 
-      pub record-put : to ≡ at + clientSize s → (p q : Phase) (area after : List ℕ)
-          → length area ≡ length (take (to - (at + 5)) (drop (at + 5) t))
-          → after ≡ splice (take (at + 5) t ++ (area ++ drop (to - (at + 5)) (drop (at + 5) t))) at (recordOf q [])
-          → recordOf q area ≡ clientFresh s (recordOf p (take (to - (at + 5)) (drop (at + 5) t))) .client
-          → after ≡ splice t at (writeClient s (freshClient s))
-      record-put e p q area after k g y =
-          let part = take (to - (at + 5)) (drop (at + 5) t) in
-          let n : length (recordOf p part) ≡ clientSize s = omega (arith, record-length p part, length-lent t (at + 5) to l) in
-          record-back t at to q area after (omega arith) l k g ∙ ap (splice t at) (y ∙ record-fresh (recordOf p part) n)
+      pub record-put : to ≡ at + clientSize s → (new : List ℕ) → new ≡ clientFresh s (take (to - at) (drop at t)) .client
+          → take at t ++ (new ++ drop (to - at) (drop at t)) ≡ splice t at (writeClient s (freshClient s))
+      record-put e new y =
+          let n : to - at ≡ clientSize s = omega arith in
+          let r = y ∙ record-fresh (take (to - at) (drop at t)) (length-lent t at to l ∙ n) in
+          splice-back t new at (to - at) (ap length r ∙ record-long ∙ sym n) ∙ ap (splice t at) r
 
 -- ---- so many parts
 

@@ -1,17 +1,14 @@
 // Fresh tables and records in lent memory.
 use crate::memory::Part;
 use crate::memory::directory_part;
-use crate::memory::put_phase;
 use crate::memory::record_size;
 use crate::memory::records_at;
 use crate::memory::table_size;
-use client::phase::Phase;
-use client::turn::fresh_client;
+use client_record::event::fresh as fresh_record;
 use parties::answer::Service;
 use parties::directory::fresh_directory;
 use parties::node::fresh_table;
 use protocol::measures::Measures;
-use protocol::version::ReadingIndex;
 ghost use mathlib.Core.Path.{_≡_};
 ghost use mathlib.Core.Bool.{true};
 ghost use mathlib.Core.List.{[]};
@@ -60,18 +57,12 @@ fn put_tables(s: Measures, from: usize, size: usize, memory: &mut [u8])
     }
 }
 
-// A fresh record: its phase is written before its area.
+// A fresh record, likewise.
 fn put_record(s: Measures, at: usize, to: usize, memory: &mut [u8])
     requires { ⌜ (passes s ≡ true) × (to ≡ at + clientSize s) × (to ≤ length (now memory)) ⌝ }
     ensures { λ _. ⌜ now (memory .exit) ≡ splice (now (memory .entry)) at (writeClient s (freshClient s)) ⌝ }
 {
-    let idle = Phase {
-        step: 0,
-        reading: ReadingIndex(0),
-    };
-    let from = at + 5;
-    let t = fresh_client(idle, s, &mut memory[from..to]);
-    put_phase(memory, at, t.phase);
+    fresh_record(s, &mut memory[at..to]);
 }
 
 // Fresh records for all clients, from a place on.

@@ -1,22 +1,14 @@
 // One page's tables and records in lent memory.
-use client::phase::Phase;
 use protocol::measures::Measures;
-use protocol::version::ReadingIndex;
 use records::answer::Refusal;
-use records::bytes::put_u32;
-use records::bytes::u32_at;
 use records::form::row_size;
 ghost use mathlib.Core.Path.{_≡_};
 ghost use mathlib.Core.Bool.{true};
-ghost use mathlib.Core.List.{[]};
-ghost use Prim.Native.Nat.{_+_, _*_, _≤_};
-ghost use lib.ListN.{length, drop};
+ghost use Prim.Native.Nat.{_+_, _*_};
 ghost use Rattle.protocol.specs.Measures.{passes};
 ghost use Rattle.protocol.specs.DirectoryEvents.{directorySize};
 ghost use Rattle.protocol.specs.NodeEvents.{tableSize};
 ghost use Rattle.protocol.specs.Client.{clientSize};
-ghost use Rattle.records.specs.Places.{splice};
-ghost use Rattle.client.specs.Record.{recordOf};
 ghost use Rattle.title.specs.Memory.{memorySize, tableAt, recordAt};
 ghost use Rattle.title.specs.Part.{Placed};
 
@@ -144,25 +136,4 @@ pub fn record_part(s: Measures, c: usize, len: usize) -> Part
     let at = record_at(s, c);
     let record = record_size(s);
     Part::Within(at, at + record)
-}
-
-// The phase at the front of a record.
-pub fn phase_at(t: &[u8], at: usize) -> Phase
-    requires { ⌜ at + 5 ≤ length (now t) ⌝ }
-    ensures { λ r. ⌜ drop at (now (t .entry)) ≡ recordOf r (drop (at + 5) (now (t .entry))) ⌝ }
-{
-    let i = u32_at(t, at + 1);
-    Phase {
-        step: t[at],
-        reading: ReadingIndex(i),
-    }
-}
-
-pub fn put_phase(t: &mut [u8], at: usize, p: Phase)
-    requires { ⌜ at + 5 ≤ length (now t) ⌝ }
-    ensures { λ _. ⌜ now (t .exit) ≡ splice (now (t .entry)) at (recordOf p []) ⌝ }
-{
-    let i = p.reading;
-    t[at] = p.step;
-    put_u32(t, at + 1, i.0);
 }

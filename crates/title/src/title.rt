@@ -1,16 +1,14 @@
 // The title service: each event is handed to the party that it is for.
 use crate::memory::Part;
 use crate::memory::directory_part;
-use crate::memory::phase_at;
-use crate::memory::put_phase;
 use crate::memory::record_part;
 use crate::memory::table_part;
 use client::answer::ClientAnswer;
-use client::turn::message as client_message;
-use client::turn::scan_answer;
-use client::turn::start_deposit;
-use client::turn::start_reading;
-use client::turn::update_answer;
+use client_record::event::deposit as start_deposit;
+use client_record::event::read as start_reading;
+use client_record::event::receive as client_message;
+use client_record::event::scanned as scan_answer;
+use client_record::event::updated as update_answer;
 use parties::answer::Service;
 use parties::directory::scan as directory_scan;
 use parties::directory::update as directory_update;
@@ -32,13 +30,7 @@ pub fn deposit(s: Measures, c: usize, memory: &mut [u8], page: &[u8]) -> ClientA
     let part = record_part(s, c, memory.len());
     match part {
         Part::Refused(r) => ClientAnswer::Refused(r),
-        Part::Within(at, to) => {
-            let p = phase_at(memory, at);
-            let from = at + 5;
-            let t = start_deposit(p, s, c, &mut memory[from..to], page);
-            put_phase(memory, at, t.phase);
-            t.answer
-        }
+        Part::Within(at, to) => start_deposit(s, c, &mut memory[at..to], page),
     }
 }
 
@@ -51,13 +43,7 @@ pub fn read(s: Measures, c: usize, memory: &mut [u8], room: &mut [u8]) -> Client
     let part = record_part(s, c, memory.len());
     match part {
         Part::Refused(r) => ClientAnswer::Refused(r),
-        Part::Within(at, to) => {
-            let p = phase_at(memory, at);
-            let from = at + 5;
-            let t = start_reading(p, s, c, &mut memory[from..to], room);
-            put_phase(memory, at, t.phase);
-            t.answer
-        }
+        Part::Within(at, to) => start_reading(s, c, &mut memory[at..to], room),
     }
 }
 
@@ -70,13 +56,7 @@ pub fn updated(s: Measures, c: usize, memory: &mut [u8], room: &mut [u8]) -> Cli
     let part = record_part(s, c, memory.len());
     match part {
         Part::Refused(r) => ClientAnswer::Refused(r),
-        Part::Within(at, to) => {
-            let p = phase_at(memory, at);
-            let from = at + 5;
-            let t = update_answer(p, s, c, &mut memory[from..to], room);
-            put_phase(memory, at, t.phase);
-            t.answer
-        }
+        Part::Within(at, to) => update_answer(s, c, &mut memory[at..to], room),
     }
 }
 
@@ -95,13 +75,7 @@ pub fn scanned(
     let part = record_part(s, c, memory.len());
     match part {
         Part::Refused(r) => ClientAnswer::Refused(r),
-        Part::Within(at, to) => {
-            let p = phase_at(memory, at);
-            let from = at + 5;
-            let t = scan_answer(p, s, c, &mut memory[from..to], rows, room);
-            put_phase(memory, at, t.phase);
-            t.answer
-        }
+        Part::Within(at, to) => scan_answer(s, c, &mut memory[at..to], rows, room),
     }
 }
 
@@ -123,13 +97,7 @@ pub fn to_client(
     let part = record_part(s, c, memory.len());
     match part {
         Part::Refused(r) => ClientAnswer::Refused(r),
-        Part::Within(at, to) => {
-            let p = phase_at(memory, at);
-            let from = at + 5;
-            let t = client_message(p, s, c, i, &mut memory[from..to], message, room, out);
-            put_phase(memory, at, t.phase);
-            t.answer
-        }
+        Part::Within(at, to) => client_message(s, c, i, &mut memory[at..to], message, room, out),
     }
 }
 

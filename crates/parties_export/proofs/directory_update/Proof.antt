@@ -1,6 +1,6 @@
 use borrow.Author.Needs.{needs}
 use mathlib.Core.Path.{ap, _∙_}
-use Rattle.parties_export.specs.Code.{code}
+use Rattle.numbers.specs.Code.{code}
 use Rattle.parties_export.proofs.directory_update.Statement.{statement}
 use Rattle.parties_export.proofs.directory_update.Tie as tie
 

@@ -1,14 +1,14 @@
 use borrow.Author.Needs.{needs}
-use mathlib.Core.List.{List, []}
-use Prim.Native.Nat.{ℕ}
+use mathlib.Core.List.{[]}
 use lib.ListN.{length}
 use Rattle.protocol.specs.Client.{clientSize}
-use Rattle.protocol.specs.ClientEvents.{ClientEnd, startDeposit}
+use Rattle.protocol.specs.ClientEvents.{startDeposit}
 use Rattle.records.specs.Answer.{number}
+use Rattle.client_record.proofs.LacksLaws.{deposit-lacks}
 use Rattle.title.specs.Memory.{recordAt}
 use Rattle.title.specs.Part.{Stands}
-use Rattle.title.proofs.MemoryLaws.{placed-within, placed-refused}
-use Rattle.title.proofs.RecordPartLaws.{deposit-refused, refused-ends, phase-within, phase-fits, place-small, turned-two}
+use Rattle.title.proofs.MemoryLaws.{placed-within, placed-refused, part-order}
+use Rattle.title.proofs.RecordPartLaws.{record-lacks, refused-ends, told-two}
 use Rattle.title.proofs.title.deposit.Statement.{statement}
 use Rattle.title.proofs.title.deposit.Tie as tie
 
@@ -27,43 +27,34 @@ enum-known-part c = search needs
 enum-known-part-2 : tie.Need-enum-known-part-2
 enum-known-part-2 c = search needs
 
-phase-at-requires : tie.Need-phase-at-requires
-phase-at-requires c κs = let a = c .before .before .before .before .before .before .before .args in phase-fits (a .s) (a .c) (a .memory .now) _ _ (standing (c .before .before))
+sub-deposit : tie.Need-sub-deposit
+sub-deposit c = let a = c .before .before .before .before .before .before .args in part-order (a .s) (recordAt (a .s) (a .c)) (clientSize (a .s)) (a .memory .now) _ _ (standing (c .before))
 
-add-from : tie.Need-add-from
-add-from c = let a = c .before .before .before .before .before .before .before .before .args in record { fits = place-small (a .s) (a .c) (a .memory .now) _ _ (standing (c .before .before .before)) }
+part-deposit-start : tie.Need-part-deposit-start
+part-deposit-start c = let a = c .before .before .before .before .before .before .args in part-order (a .s) (recordAt (a .s) (a .c)) (clientSize (a .s)) (a .memory .now) _ _ (standing (c .before))
 
-sub-start-deposit : tie.Need-sub-start-deposit
-sub-start-deposit c = let a = c .before .before .before .before .before .before .before .before .args in phase-within (a .s) (a .c) (a .memory .now) _ _ (standing (c .before .before .before))
+part-deposit-end : tie.Need-part-deposit-end
+part-deposit-end c = standing (c .before) .within
 
-part-start-deposit-start : tie.Need-part-start-deposit-start
-part-start-deposit-start c = let a = c .before .before .before .before .before .before .before .before .args in phase-within (a .s) (a .c) (a .memory .now) _ _ (standing (c .before .before .before))
-
-part-start-deposit-end : tie.Need-part-start-deposit-end
-part-start-deposit-end c = standing (c .before .before .before) .within
-
-start-deposit-requires : tie.Need-start-deposit-requires
-start-deposit-requires c κs = search needs
-
-put-phase-requires : tie.Need-put-phase-requires
-put-phase-requires c κs = let a = c .before .before .before .before .before .before .before .before .before .before .before .before .before .args in rw (c .before .before .memory .given .1) (phase-fits (a .s) (a .c) (a .memory .now) _ _ (standing (c .before .before .before .before .before .before .before .before)))
+deposit-requires : tie.Need-deposit-requires
+deposit-requires c κs = search needs
 
 returns : tie.Need-returns
 returns c =
     let a = c .before .before .before .before .before .before .args in
     let n = c .before .part .given .0 .0 in
     let r = placed-refused (a .s) (length (a .memory .now)) (recordAt (a .s) (a .c)) (clientSize (a .s)) (c .before .before .before .record-part .result) (c .before .before .before .record-part .ensures) n (c .before .part .given .1) in
-    let e = refused-ends (a .s) (a .memory .now) (a .c) (number n) _ [] [] (deposit-refused (a .s) (a .memory .now) (a .c) (number n) r (a .page .now)) in (e .0, e .1)
+    let l = record-lacks (a .s) (a .memory .now) (a .c) (number n) r in
+    let e = refused-ends (a .s) (a .memory .now) (a .c) (number n) _ [] [] (deposit-lacks (a .s) _ (number n) l (a .c) (a .page .now)) in (e .0, e .1)
 
 same-length : tie.Need-same-length
 same-length c = search needs
 
 returns-2 : tie.Need-returns-2
 returns-2 c =
-    let a = c .before .before .before .before .before .before .before .before .before .before .before .before .before .before .before .before .args in
-    let t = c .before .before .before .before .before .before .start-deposit in
-    let f : List ℕ → ClientEnd = λ l. startDeposit (a .s) (a .c) l (a .page .now) in
-    turned-two (a .s) (a .c) (a .memory .now) _ _ (standing (c .before .before .before .before .before .before .before .before .before .before .before)) f (c .before .before .before .before .before .before .before .before .phase-at .result) (c .before .before .before .before .before .before .before .before .phase-at .ensures) (t .result .phase) (t .last .1 .1 .1 .0) _ (c .before .before .before .before .before .memory .given .0) (c .before .before .put-phase .ensures) _ (t .ensures)
+    let a = c .before .before .before .before .before .before .before .before .before .before .args in
+    let u = c .before .before .deposit in
+    told-two (a .s) (a .memory .now) _ _ (a .c) (standing (c .before .before .before .before .before)) (λ l. startDeposit (a .s) (a .c) l (a .page .now)) _ (u .last .1 .1 .0) (u .kept .1 .1 .0) (u .ensures)
 
 pub deposit-spec : {M : Type 1} → statement M
 deposit-spec =
@@ -72,13 +63,10 @@ deposit-spec =
     record-part-requires
     enum-known-part
     enum-known-part-2
-    phase-at-requires
-    add-from
-    sub-start-deposit
-    part-start-deposit-start
-    part-start-deposit-end
-    start-deposit-requires
-    put-phase-requires
+    sub-deposit
+    part-deposit-start
+    part-deposit-end
+    deposit-requires
     returns
     same-length
     returns-2)

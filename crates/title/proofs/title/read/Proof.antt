@@ -1,14 +1,14 @@
 use borrow.Author.Needs.{needs}
-use mathlib.Core.List.{List, []}
-use Prim.Native.Nat.{ℕ}
+use mathlib.Core.List.{[]}
 use lib.ListN.{length}
 use Rattle.protocol.specs.Client.{clientSize}
-use Rattle.protocol.specs.ClientEvents.{ClientEnd, startReading}
+use Rattle.protocol.specs.ClientEvents.{startReading}
 use Rattle.records.specs.Answer.{number}
+use Rattle.client_record.proofs.LacksLaws.{reading-lacks}
 use Rattle.title.specs.Memory.{recordAt}
 use Rattle.title.specs.Part.{Stands}
-use Rattle.title.proofs.MemoryLaws.{placed-within, placed-refused}
-use Rattle.title.proofs.RecordPartLaws.{reading-refused, refused-ends, phase-within, phase-fits, place-small, turned-three}
+use Rattle.title.proofs.MemoryLaws.{placed-within, placed-refused, part-order}
+use Rattle.title.proofs.RecordPartLaws.{record-lacks, refused-ends, told-three}
 use Rattle.title.proofs.title.read.Statement.{statement}
 use Rattle.title.proofs.title.read.Tie as tie
 
@@ -27,33 +27,25 @@ enum-known-part c = search needs
 enum-known-part-2 : tie.Need-enum-known-part-2
 enum-known-part-2 c = search needs
 
-phase-at-requires : tie.Need-phase-at-requires
-phase-at-requires c κs = let a = c .before .before .before .before .before .before .before .args in phase-fits (a .s) (a .c) (a .memory .now) _ _ (standing (c .before .before))
+sub-read : tie.Need-sub-read
+sub-read c = let a = c .before .before .before .before .before .before .args in part-order (a .s) (recordAt (a .s) (a .c)) (clientSize (a .s)) (a .memory .now) _ _ (standing (c .before))
 
-add-from : tie.Need-add-from
-add-from c = let a = c .before .before .before .before .before .before .before .before .args in record { fits = place-small (a .s) (a .c) (a .memory .now) _ _ (standing (c .before .before .before)) }
+part-read-start : tie.Need-part-read-start
+part-read-start c = let a = c .before .before .before .before .before .before .args in part-order (a .s) (recordAt (a .s) (a .c)) (clientSize (a .s)) (a .memory .now) _ _ (standing (c .before))
 
-sub-start-reading : tie.Need-sub-start-reading
-sub-start-reading c = let a = c .before .before .before .before .before .before .before .before .args in phase-within (a .s) (a .c) (a .memory .now) _ _ (standing (c .before .before .before))
+part-read-end : tie.Need-part-read-end
+part-read-end c = standing (c .before) .within
 
-part-start-reading-start : tie.Need-part-start-reading-start
-part-start-reading-start c = let a = c .before .before .before .before .before .before .before .before .args in phase-within (a .s) (a .c) (a .memory .now) _ _ (standing (c .before .before .before))
-
-part-start-reading-end : tie.Need-part-start-reading-end
-part-start-reading-end c = standing (c .before .before .before) .within
-
-start-reading-requires : tie.Need-start-reading-requires
-start-reading-requires c κs = search needs
-
-put-phase-requires : tie.Need-put-phase-requires
-put-phase-requires c κs = let a = c .before .before .before .before .before .before .before .before .before .before .before .before .before .before .before .before .args in rw (c .before .before .before .before .memory .given .1) (phase-fits (a .s) (a .c) (a .memory .now) _ _ (standing (c .before .before .before .before .before .before .before .before .before .before .before)))
+read-requires : tie.Need-read-requires
+read-requires c κs = search needs
 
 returns : tie.Need-returns
 returns c =
     let a = c .before .before .before .before .before .before .args in
     let n = c .before .part .given .0 .0 in
     let r = placed-refused (a .s) (length (a .memory .now)) (recordAt (a .s) (a .c)) (clientSize (a .s)) (c .before .before .before .record-part .result) (c .before .before .before .record-part .ensures) n (c .before .part .given .1) in
-    let e = refused-ends (a .s) (a .memory .now) (a .c) (number n) _ (a .room .now) [] (reading-refused (a .s) (a .memory .now) (a .c) (number n) r (a .room .now)) in (e .0, e .1, e .2)
+    let l = record-lacks (a .s) (a .memory .now) (a .c) (number n) r in
+    let e = refused-ends (a .s) (a .memory .now) (a .c) (number n) _ (a .room .now) [] (reading-lacks (a .s) _ (number n) l (a .c) (a .room .now)) in (e .0, e .1, e .2)
 
 same-length : tie.Need-same-length
 same-length c = search needs
@@ -63,10 +55,9 @@ same-length-2 c = search needs
 
 returns-2 : tie.Need-returns-2
 returns-2 c =
-    let a = c .before .before .before .before .before .before .before .before .before .before .before .before .before .before .before .before .before .before .before .args in
-    let t = c .before .before .before .before .before .before .before .before .start-reading in
-    let f : List ℕ → ClientEnd = λ l. startReading (a .s) (a .c) l (a .room .now) in
-    turned-three (a .s) (a .c) (a .memory .now) _ _ (standing (c .before .before .before .before .before .before .before .before .before .before .before .before .before .before)) f (c .before .before .before .before .before .before .before .before .before .before .before .phase-at .result) (c .before .before .before .before .before .before .before .before .before .before .before .phase-at .ensures) (t .result .phase) (t .last .1 .1 .1 .0) _ (c .before .before .before .before .before .before .before .memory .given .0) (c .before .before .put-phase .ensures) _ _ (t .ensures)
+    let a = c .before .before .before .before .before .before .before .before .before .before .before .before .before .args in
+    let u = c .before .before .before .before .read in
+    told-three (a .s) (a .memory .now) _ _ (a .c) (standing (c .before .before .before .before .before .before .before .before)) (λ l. startReading (a .s) (a .c) l (a .room .now)) _ (u .last .1 .1 .0) (u .kept .1 .1 .0) _ (u .ensures)
 
 pub read-spec : {M : Type 1} → statement M
 read-spec =
@@ -75,13 +66,10 @@ read-spec =
     record-part-requires
     enum-known-part
     enum-known-part-2
-    phase-at-requires
-    add-from
-    sub-start-reading
-    part-start-reading-start
-    part-start-reading-end
-    start-reading-requires
-    put-phase-requires
+    sub-read
+    part-read-start
+    part-read-end
+    read-requires
     returns
     same-length
     same-length-2

@@ -1,14 +1,13 @@
 use borrow.Author.Needs.{needs}
-use mathlib.Core.List.{List}
-use Prim.Native.Nat.{ℕ}
 use lib.ListN.{length}
 use Rattle.protocol.specs.Client.{clientSize}
-use Rattle.protocol.specs.ClientEvents.{ClientEnd, clientMessage}
+use Rattle.protocol.specs.ClientEvents.{clientMessage}
 use Rattle.records.specs.Answer.{number}
+use Rattle.client_record.proofs.LacksLaws.{message-lacks}
 use Rattle.title.specs.Memory.{recordAt}
 use Rattle.title.specs.Part.{Stands}
-use Rattle.title.proofs.MemoryLaws.{placed-within, placed-refused}
-use Rattle.title.proofs.RecordPartLaws.{message-refused, refused-ends, phase-within, phase-fits, place-small, turned-four}
+use Rattle.title.proofs.MemoryLaws.{placed-within, placed-refused, part-order}
+use Rattle.title.proofs.RecordPartLaws.{record-lacks, refused-ends, told-four}
 use Rattle.title.proofs.title.to_client.Statement.{statement}
 use Rattle.title.proofs.title.to_client.Tie as tie
 
@@ -27,33 +26,25 @@ enum-known-part c = search needs
 enum-known-part-2 : tie.Need-enum-known-part-2
 enum-known-part-2 c = search needs
 
-phase-at-requires : tie.Need-phase-at-requires
-phase-at-requires c κs = let a = c .before .before .before .before .before .before .before .before .before .args in phase-fits (a .s) (a .c) (a .memory .now) _ _ (standing (c .before .before))
+sub-receive : tie.Need-sub-receive
+sub-receive c = let a = c .before .before .before .before .before .before .before .before .args in part-order (a .s) (recordAt (a .s) (a .c)) (clientSize (a .s)) (a .memory .now) _ _ (standing (c .before))
 
-add-from : tie.Need-add-from
-add-from c = let a = c .before .before .before .before .before .before .before .before .before .before .args in record { fits = place-small (a .s) (a .c) (a .memory .now) _ _ (standing (c .before .before .before)) }
+part-receive-start : tie.Need-part-receive-start
+part-receive-start c = let a = c .before .before .before .before .before .before .before .before .args in part-order (a .s) (recordAt (a .s) (a .c)) (clientSize (a .s)) (a .memory .now) _ _ (standing (c .before))
 
-sub-message : tie.Need-sub-message
-sub-message c = let a = c .before .before .before .before .before .before .before .before .before .before .args in phase-within (a .s) (a .c) (a .memory .now) _ _ (standing (c .before .before .before))
+part-receive-end : tie.Need-part-receive-end
+part-receive-end c = standing (c .before) .within
 
-part-message-start : tie.Need-part-message-start
-part-message-start c = let a = c .before .before .before .before .before .before .before .before .before .before .args in phase-within (a .s) (a .c) (a .memory .now) _ _ (standing (c .before .before .before))
-
-part-message-end : tie.Need-part-message-end
-part-message-end c = standing (c .before .before .before) .within
-
-message-requires : tie.Need-message-requires
-message-requires c κs = search needs
-
-put-phase-requires : tie.Need-put-phase-requires
-put-phase-requires c κs = let a = c .before .before .before .before .before .before .before .before .before .before .before .before .before .before .before .before .before .before .before .before .before .args in rw (c .before .before .before .before .before .before .memory .given .1) (phase-fits (a .s) (a .c) (a .memory .now) _ _ (standing (c .before .before .before .before .before .before .before .before .before .before .before .before .before .before)))
+receive-requires : tie.Need-receive-requires
+receive-requires c κs = search needs
 
 returns : tie.Need-returns
 returns c =
     let a = c .before .before .before .before .before .before .before .before .args in
     let n = c .before .part .given .0 .0 in
     let r = placed-refused (a .s) (length (a .memory .now)) (recordAt (a .s) (a .c)) (clientSize (a .s)) (c .before .before .before .record-part .result) (c .before .before .before .record-part .ensures) n (c .before .part .given .1) in
-    let e = refused-ends (a .s) (a .memory .now) (a .c) (number n) _ (a .room .now) (a .out .now) (message-refused (a .s) (a .memory .now) (a .c) (a .i) (number n) r (a .message .now) (a .room .now) (a .out .now)) in (e .0, e .1, e .2, e .3)
+    let l = record-lacks (a .s) (a .memory .now) (a .c) (number n) r in
+    let e = refused-ends (a .s) (a .memory .now) (a .c) (number n) _ (a .room .now) (a .out .now) (message-lacks (a .s) _ (number n) l (a .c) (a .i) (a .message .now) (a .room .now) (a .out .now)) in (e .0, e .1, e .2, e .3)
 
 same-length : tie.Need-same-length
 same-length c = search needs
@@ -66,10 +57,9 @@ same-length-3 c = search needs
 
 returns-2 : tie.Need-returns-2
 returns-2 c =
-    let a = c .before .before .before .before .before .before .before .before .before .before .before .before .before .before .before .before .before .before .before .before .before .before .before .before .args in
-    let t = c .before .before .before .before .before .before .before .before .before .before .message in
-    let f : List ℕ → ClientEnd = λ l. clientMessage (a .s) (a .c) (a .i) l (a .message .now) (a .room .now) (a .out .now) in
-    turned-four (a .s) (a .c) (a .memory .now) _ _ (standing (c .before .before .before .before .before .before .before .before .before .before .before .before .before .before .before .before .before)) f (c .before .before .before .before .before .before .before .before .before .before .before .before .before .before .phase-at .result) (c .before .before .before .before .before .before .before .before .before .before .before .before .before .before .phase-at .ensures) (t .result .phase) (t .last .1 .1 .1 .1 .0) _ (c .before .before .before .before .before .before .before .before .before .memory .given .0) (c .before .before .put-phase .ensures) _ _ _ (t .ensures)
+    let a = c .before .before .before .before .before .before .before .before .before .before .before .before .before .before .before .before .before .before .args in
+    let u = c .before .before .before .before .before .before .receive in
+    told-four (a .s) (a .memory .now) _ _ (a .c) (standing (c .before .before .before .before .before .before .before .before .before .before .before)) (λ l. clientMessage (a .s) (a .c) (a .i) l (a .message .now) (a .room .now) (a .out .now)) _ (u .last .1 .1 .1 .0) (u .kept .1 .1 .1 .0) _ _ (u .ensures)
 
 pub to-client-spec : {M : Type 1} → statement M
 to-client-spec =
@@ -78,13 +68,10 @@ to-client-spec =
     record-part-requires
     enum-known-part
     enum-known-part-2
-    phase-at-requires
-    add-from
-    sub-message
-    part-message-start
-    part-message-end
-    message-requires
-    put-phase-requires
+    sub-receive
+    part-receive-start
+    part-receive-end
+    receive-requires
     returns
     same-length
     same-length-2

@@ -1,14 +1,14 @@
 use borrow.Author.Needs.{needs}
-use mathlib.Core.List.{List, []}
-use Prim.Native.Nat.{ℕ}
+use mathlib.Core.List.{[]}
 use lib.ListN.{length}
 use Rattle.protocol.specs.Client.{clientSize}
-use Rattle.protocol.specs.ClientEvents.{ClientEnd, updateAnswer}
+use Rattle.protocol.specs.ClientEvents.{updateAnswer}
 use Rattle.records.specs.Answer.{number}
+use Rattle.client_record.proofs.LacksLaws.{updated-lacks}
 use Rattle.title.specs.Memory.{recordAt}
 use Rattle.title.specs.Part.{Stands}
-use Rattle.title.proofs.MemoryLaws.{placed-within, placed-refused}
-use Rattle.title.proofs.RecordPartLaws.{updated-refused, refused-ends, phase-within, phase-fits, place-small, turned-three}
+use Rattle.title.proofs.MemoryLaws.{placed-within, placed-refused, part-order}
+use Rattle.title.proofs.RecordPartLaws.{record-lacks, refused-ends, told-three}
 use Rattle.title.proofs.title.updated.Statement.{statement}
 use Rattle.title.proofs.title.updated.Tie as tie
 
@@ -27,33 +27,25 @@ enum-known-part c = search needs
 enum-known-part-2 : tie.Need-enum-known-part-2
 enum-known-part-2 c = search needs
 
-phase-at-requires : tie.Need-phase-at-requires
-phase-at-requires c κs = let a = c .before .before .before .before .before .before .before .args in phase-fits (a .s) (a .c) (a .memory .now) _ _ (standing (c .before .before))
+sub-updated : tie.Need-sub-updated
+sub-updated c = let a = c .before .before .before .before .before .before .args in part-order (a .s) (recordAt (a .s) (a .c)) (clientSize (a .s)) (a .memory .now) _ _ (standing (c .before))
 
-add-from : tie.Need-add-from
-add-from c = let a = c .before .before .before .before .before .before .before .before .args in record { fits = place-small (a .s) (a .c) (a .memory .now) _ _ (standing (c .before .before .before)) }
+part-updated-start : tie.Need-part-updated-start
+part-updated-start c = let a = c .before .before .before .before .before .before .args in part-order (a .s) (recordAt (a .s) (a .c)) (clientSize (a .s)) (a .memory .now) _ _ (standing (c .before))
 
-sub-update-answer : tie.Need-sub-update-answer
-sub-update-answer c = let a = c .before .before .before .before .before .before .before .before .args in phase-within (a .s) (a .c) (a .memory .now) _ _ (standing (c .before .before .before))
+part-updated-end : tie.Need-part-updated-end
+part-updated-end c = standing (c .before) .within
 
-part-update-answer-start : tie.Need-part-update-answer-start
-part-update-answer-start c = let a = c .before .before .before .before .before .before .before .before .args in phase-within (a .s) (a .c) (a .memory .now) _ _ (standing (c .before .before .before))
-
-part-update-answer-end : tie.Need-part-update-answer-end
-part-update-answer-end c = standing (c .before .before .before) .within
-
-update-answer-requires : tie.Need-update-answer-requires
-update-answer-requires c κs = search needs
-
-put-phase-requires : tie.Need-put-phase-requires
-put-phase-requires c κs = let a = c .before .before .before .before .before .before .before .before .before .before .before .before .before .before .before .before .args in rw (c .before .before .before .before .memory .given .1) (phase-fits (a .s) (a .c) (a .memory .now) _ _ (standing (c .before .before .before .before .before .before .before .before .before .before .before)))
+updated-requires : tie.Need-updated-requires
+updated-requires c κs = search needs
 
 returns : tie.Need-returns
 returns c =
     let a = c .before .before .before .before .before .before .args in
     let n = c .before .part .given .0 .0 in
     let r = placed-refused (a .s) (length (a .memory .now)) (recordAt (a .s) (a .c)) (clientSize (a .s)) (c .before .before .before .record-part .result) (c .before .before .before .record-part .ensures) n (c .before .part .given .1) in
-    let e = refused-ends (a .s) (a .memory .now) (a .c) (number n) _ (a .room .now) [] (updated-refused (a .s) (a .memory .now) (a .c) (number n) r (a .room .now)) in (e .0, e .1, e .2)
+    let l = record-lacks (a .s) (a .memory .now) (a .c) (number n) r in
+    let e = refused-ends (a .s) (a .memory .now) (a .c) (number n) _ (a .room .now) [] (updated-lacks (a .s) _ (number n) l (a .c) (a .room .now)) in (e .0, e .1, e .2)
 
 same-length : tie.Need-same-length
 same-length c = search needs
@@ -63,10 +55,9 @@ same-length-2 c = search needs
 
 returns-2 : tie.Need-returns-2
 returns-2 c =
-    let a = c .before .before .before .before .before .before .before .before .before .before .before .before .before .before .before .before .before .before .before .args in
-    let t = c .before .before .before .before .before .before .before .before .update-answer in
-    let f : List ℕ → ClientEnd = λ l. updateAnswer (a .s) (a .c) l (a .room .now) in
-    turned-three (a .s) (a .c) (a .memory .now) _ _ (standing (c .before .before .before .before .before .before .before .before .before .before .before .before .before .before)) f (c .before .before .before .before .before .before .before .before .before .before .before .phase-at .result) (c .before .before .before .before .before .before .before .before .before .before .before .phase-at .ensures) (t .result .phase) (t .last .1 .1 .1 .0) _ (c .before .before .before .before .before .before .before .memory .given .0) (c .before .before .put-phase .ensures) _ _ (t .ensures)
+    let a = c .before .before .before .before .before .before .before .before .before .before .before .before .before .args in
+    let u = c .before .before .before .before .updated in
+    told-three (a .s) (a .memory .now) _ _ (a .c) (standing (c .before .before .before .before .before .before .before .before)) (λ l. updateAnswer (a .s) (a .c) l (a .room .now)) _ (u .last .1 .1 .0) (u .kept .1 .1 .0) _ (u .ensures)
 
 pub updated-spec : {M : Type 1} → statement M
 updated-spec =
@@ -75,13 +66,10 @@ updated-spec =
     record-part-requires
     enum-known-part
     enum-known-part-2
-    phase-at-requires
-    add-from
-    sub-update-answer
-    part-update-answer-start
-    part-update-answer-end
-    update-answer-requires
-    put-phase-requires
+    sub-updated
+    part-updated-start
+    part-updated-end
+    updated-requires
     returns
     same-length
     same-length-2

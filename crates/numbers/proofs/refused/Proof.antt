@@ -4,9 +4,9 @@ use Prim.Native.Nat.{ℕ}
 use Rattle.protocol.specs.Answer.{refuses}
 use Rattle.records.specs.declared.answer.Refusal.{Refusal}
 use Rattle.records.specs.Answer.{number}
-use Rattle.parties_export.specs.Code.{code}
-use Rattle.parties_export.proofs.refused.Statement.{statement}
-use Rattle.parties_export.proofs.refused.Tie as tie
+use Rattle.numbers.specs.Code.{code}
+use Rattle.numbers.proofs.refused.Statement.{statement}
+use Rattle.numbers.proofs.refused.Tie as tie
 
 abbrev answered : Refusal → ℕ
 answered r = code (refuses (number r))

@@ -3,9 +3,9 @@ use mathlib.Core.Path.{sym, ap, _∙_}
 use Prim.Native.Nat.{ℕ}
 use Rattle.parties.specs.declared.answer.Service.{Service}
 use Rattle.parties.specs.Answer.{served}
-use Rattle.parties_export.specs.Code.{code}
-use Rattle.parties_export.proofs.service_code.Statement.{statement}
-use Rattle.parties_export.proofs.service_code.Tie as tie
+use Rattle.numbers.specs.Code.{code}
+use Rattle.numbers.proofs.service_code.Statement.{statement}
+use Rattle.numbers.proofs.service_code.Tie as tie
 
 abbrev answered : Service → ℕ
 answered a = code (served a)

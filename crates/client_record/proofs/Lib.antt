@@ -1,0 +1,2 @@
+pub mod LacksLaws
+pub mod RecordLaws

@@ -1,0 +1,2 @@
+pub mod event;
+mod phase;
