@@ -6,14 +6,22 @@ use native.Mathlib.Nat.{add-mul, one-mul, not-suc-le-zero, mul-le-mul-right}
 use native.Mathlib.Numerals.{add-one}
 use native.Mathlib.Decide.{decLt, ℕ-discrete}
 use native.Mathlib.Omega.{arith}
-use lib.ListN.{length, getD, take, drop, set, replicate, length-append, length-set, List·getD-append}
+use lib.ListN.{length, getD, take, drop, set, replicate, length-append, length-set, List·getD-append, replicate-append-replicate}
 use lib.Seq.{getD-set-same, getD-set-other, take-suc-set, take-all, getD-append-add, getD-append-seam, getD-take, getD-drop, ext-getD, length-take-le, paste, length-paste-head, paste-zero, paste-suc, length-paste}
-use Rattle.coding.specs.Bytes.{tabulate}
+use Rattle.coding.specs.Bytes.{Bytes, tabulate}
 
 pub zeros-at : (n i : ℕ) → getD (replicate {A = ℕ} n 0) i 0 ≡ 0
 zeros-at zero i = refl
 zeros-at (suc n) zero = refl
 zeros-at (suc n) (suc i) = zeros-at n i
+
+-- what holds of the first entry and of each later one holds of each
+pub all-cons : (P : ℕ → Type 0) (a : ℕ) (p : List ℕ) → P a → ((i : ℕ) → P (getD p i 0)) → (i : ℕ) → P (getD (a ∷ p) i 0)
+all-cons P a p h t zero = h
+all-cons P a p h t (suc i) = t i
+
+pub bytes-cons : (a : ℕ) (p : List ℕ) → a < 256 → Bytes p → Bytes (a ∷ p)
+bytes-cons = all-cons (λ a. a < 256)
 
 -- what holds of each entry below i, and of the one stored at i, holds below i + 1
 pub stored-more : {A : Type 0} (z : A) (P : ℕ → A → Type 0) (i : ℕ) (xs : List A) (a : A) → i < length xs
@@ -29,6 +37,14 @@ pub stride : (l k : ℕ) → (l + 1) * k ≡ l * k + k
 stride l k = add-mul l 1 k ∙ ap (λ (x : ℕ). l * k + x) (one-mul k)
 
 module _ {ℓ} {A : Type ℓ} where
+  pub tabulate-none : (f : ℕ → A) → tabulate 0 f ≡ []
+  unfolding tabulate
+  tabulate-none f = refl
+
+  pub tabulate-more : (n : ℕ) (f : ℕ → A) → tabulate (suc n) f ≡ tabulate n f ++ (f n ∷ [])
+  unfolding tabulate
+  tabulate-more n f = refl
+
   pub length-tabulate : (n : ℕ) (f : ℕ → A) → length (tabulate n f) ≡ n
   unfolding tabulate
   length-tabulate zero f = refl
@@ -50,6 +66,12 @@ module _ {ℓ} {A : Type ℓ} where
   tabulate-ext zero f g h = refl
   tabulate-ext (suc n) f g h =
       λ j. tabulate-ext n f g (λ i l. h i (omega arith)) j ++ (h n (omega arith) j ∷ [])
+
+  pub tabulate-same : (n : ℕ) (a : A) → tabulate n (λ i. a) ≡ replicate n a
+  unfolding tabulate
+  tabulate-same zero a = refl
+  tabulate-same (suc n) a =
+      ap (λ (l : List A). l ++ (a ∷ [])) (tabulate-same n a) ∙ replicate-append-replicate n 1 a ∙ ap (λ (k : ℕ). replicate k a) (add-one n)
 
   -- a list filled from the front, one store a turn
   pub filled-more : (v : List A) (i : ℕ) (f : ℕ → A) → i < length v → take i v ≡ tabulate i f → take (i + 1) (set v i (f i)) ≡ tabulate (i + 1) f

@@ -1,4 +1,4 @@
--- The digest of a piece is 32 bytes.
+-- The digest of a piece: what it is a digest of, and that it is 32 bytes.
 use mathlib.Core.Path.{_≡_, refl, _∙_}
 use mathlib.Core.List.{List, []}
 use Prim.Native.Nat.{ℕ, zero, suc, _*_, _/_, _%_, _^_, _-_, _<_, _≤_}
@@ -32,10 +32,15 @@ bytes-sha256 m i = go (decLt i 32)
         let z : length (joined h) ≤ i = omega (arith, length-joined h, length-hash (padded m) (length (padded m) / 64)) in
         rw (List·getD-eq-default (joined h) 0 z) (omega arith)
 
-pub length-digest : (v : List ℕ) (i : ℕ) (x : List ℕ) → length (pieceDigest v i x) ≡ 32
+-- what is digested is the piece
+pub digest-is : (v : List ℕ) (i : ℕ) (x : List ℕ) → sha256 x ≡ pieceDigest v i x
 unfolding pieceDigest digestInput
-length-digest v i x = length-sha256 x
+digest-is v i x = refl
+
+pub length-digest : (v : List ℕ) (i : ℕ) (x : List ℕ) → length (pieceDigest v i x) ≡ 32
+unfolding pieceDigest
+length-digest v i x = length-sha256 (digestInput v i x)
 
 pub bytes-digest : (v : List ℕ) (i : ℕ) (x : List ℕ) → Bytes (pieceDigest v i x)
-unfolding pieceDigest digestInput
-bytes-digest v i x = bytes-sha256 x
+unfolding pieceDigest
+bytes-digest v i x = bytes-sha256 (digestInput v i x)

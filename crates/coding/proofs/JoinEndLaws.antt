@@ -128,7 +128,7 @@ module _ (n k F present : ℕ) (room lens : List ℕ) (p : Proper n k F) (r : n 
       let z : 0 + L ≤ F = omega arith in
       rw (lowest-at s l) (omega (arith, area-fits (getD (nodesOf present n) s 0) F 0 L (length room) (w .0) b z))
 
-refused : (a len : ℕ) → Outcome.refuses a ≡ Outcome.gives len → ⊥
+pub refused : (a len : ℕ) → Outcome.refuses a ≡ Outcome.gives len → ⊥
 refused a len e = let z : _≡_ {A = ℕ} 0 1 = cc in omega arith
 
 gives-eq : (a b : ℕ) → Outcome.gives a ≡ Outcome.gives b → a ≡ b

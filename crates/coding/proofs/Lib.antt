@@ -16,6 +16,7 @@ pub mod JoinLaws
 pub mod PageLaws
 pub mod RoundTripLaws
 pub mod JoinEndLaws
+pub mod RefusalLaws
 pub mod RoundTrip
 pub mod EdgeCases
 pub mod Sha256Laws

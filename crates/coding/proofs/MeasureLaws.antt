@@ -4,7 +4,7 @@ use mathlib.Core.Bool.{true}
 use Prim.Native.Nat.{ℕ, _*_, _≤_}
 use native.Mathlib.Nat.{mul-le-mul}
 use native.Mathlib.Omega.{arith}
-use borrow.Author.Tests.{leb-true}
+use borrow.Author.Tests.{leb-true, le-leb}
 use lib.Dec.{leb}
 use Rattle.coding.specs.Pieces.{proper}
 use Rattle.coding.proofs.Cases.{and-true}
@@ -30,6 +30,19 @@ proper-measures n k F e =
       longest = (leb-true 1 F (f .0), leb-true F 4096 (g .0));
       frame = leb-true 4 (k * F) (g .1);
     }
+
+pub measures-proper : (n k F : ℕ) → Proper n k F → proper n k F ≡ true
+unfolding proper
+measures-proper n k F p =
+    simp (
+      le-leb 1 n (p .nodes .0),
+      le-leb n 16 (p .nodes .1),
+      le-leb 1 k (p .parts .0),
+      le-leb k n (p .parts .1),
+      le-leb 1 F (p .longest .0),
+      le-leb F 4096 (p .longest .1),
+      le-leb 4 (k * F) (p .frame),
+    )
 
 -- every product of two of them is small
 pub measures-small : (n k F : ℕ) → Proper n k F → (n * F ≤ 65536) × (k * F ≤ 65536)

@@ -1,14 +1,14 @@
 -- Laws of the nodes that a bit map names.
 use mathlib.Core.Path.{_≡_, refl, sym, ap, _∙_}
 use mathlib.Core.Bool.{Bool, true, false, cond, _&&_, true≢false}
-use mathlib.Core.List.{List, [], _∷_, _++_, append-nil}
+use mathlib.Core.List.{List, [], _∷_, _++_, append-nil, append-assoc}
 use Prim.Native.Nat.{ℕ, zero, suc, _+_, _-_, _*_, _/_, _%_, _^_, _<_, _≤_}
 use native.Mathlib.Nat.{zero-div, not-suc-le-zero, div-eq-of-lt, div-lt-iff-lt-mul}
 use native.Mathlib.Numerals.{add-one}
-use native.Mathlib.Decide.{decLt}
+use native.Mathlib.Decide.{decLt, ℕ-discrete}
 use native.Mathlib.Omega.{arith}
-use borrow.Author.Tests.{lt-ltb, le-ltb, lt-leb, le-leb, eq-eqb, ne-eqb}
-use lib.Pow.{pow-pos}
+use borrow.Author.Tests.{lt-ltb, le-ltb, lt-leb, le-leb, eq-eqb, ne-eqb, eqb-true}
+use lib.Pow.{pow-pos, pow-mono}
 use lib.Dec.{leb, ltb, eqb}
 use lib.ListN.{length, getD, take, drop, set, length-append, List·getD-append}
 use lib.Seq.{take-suc-set, take-take, getD-take, drop-cons, drop-length, getD-append-seam}
@@ -28,7 +28,15 @@ shifted-out m n = go (decLt m (2 ^ n))
         let d : m < 1 * 2 ^ n = div-lt-iff-lt-mul (pow-pos n) .0 b in omega arith)
         ∙ sym (le-ltb m (2 ^ n) (omega arith))
 
--- one node more
+-- the nodes up to none, and up to one more: it is named if its bit stands
+pub nodes-start : (map : ℕ) → nodesOf map 0 ≡ []
+unfolding nodesOf
+nodes-start map = refl
+
+pub nodes-step : (map i : ℕ) → nodesOf map (suc i) ≡ nodesOf map i ++ cond (eqb (map / 2 ^ i % 2) 1) (suc i ∷ []) []
+unfolding nodesOf
+nodes-step map i = refl
+
 pub nodes-skip : (map i : ℕ) → eqb (map / 2 ^ i % 2) 1 ≡ false → nodesOf map (i + 1) ≡ nodesOf map i
 unfolding nodesOf
 nodes-skip map i e = rw (add-one i) (simp e (append-nil (nodesOf map i)))
@@ -53,6 +61,39 @@ nodes-few map (suc i) = go (eqb (map / 2 ^ i % 2) 1) (nodes-few map i)
     go : (b : Bool) → length (nodesOf map i) ≤ i → length (nodesOf map i ++ cond b (suc i ∷ []) []) ≤ suc i
     go true h = rw length-append (omega arith)
     go false h = rw length-append (omega arith)
+
+pub nodes-counted : (map i : ℕ) → length (nodesOf map (suc i)) ≡ length (nodesOf map i) + map / 2 ^ i % 2
+nodes-counted map i = go (ℕ-discrete (map / 2 ^ i % 2) 1)
+  where
+    go : Dec (map / 2 ^ i % 2 ≡ 1) → length (nodesOf map (suc i)) ≡ length (nodesOf map i) + map / 2 ^ i % 2
+    go (yes e) =
+        rw (← add-one i)
+        (ap length (nodes-more map i (eq-eqb (map / 2 ^ i % 2) 1 e)) ∙ length-append (nodesOf map i) ((i + 1) ∷ []) ∙ omega arith)
+    go (no e) = rw (← add-one i) (ap length (nodes-skip map i (ne-eqb (map / 2 ^ i % 2) 1 e)) ∙ omega arith)
+
+-- the nodes up to i come before the later ones
+pub nodes-split : (map i d : ℕ) → (b : List ℕ) × (nodesOf map (i + d) ≡ nodesOf map i ++ b)
+unfolding nodesOf
+nodes-split map i zero = let e : i + 0 ≡ i = omega arith in ([], ap (nodesOf map) e ∙ sym (append-nil (nodesOf map i)))
+nodes-split map i (suc d) =
+    let x = nodes-split map i d in
+    let e : i + suc d ≡ suc (i + d) = omega arith in
+    let y : List ℕ = cond (eqb (map / 2 ^ (i + d) % 2) 1) (suc (i + d) ∷ []) [] in
+    (x .0 ++ y, ap (nodesOf map) e ∙ ap (λ (l : List ℕ). l ++ y) (x .1) ∙ append-assoc (nodesOf map i) (x .0) y)
+
+-- no node beyond n, where the map has n bits
+pub nodes-beyond : (map n j : ℕ) → map < 2 ^ n → n ≤ j → nodesOf map j ≡ nodesOf map n
+unfolding nodesOf
+nodes-beyond map n zero h l = let e : 0 ≡ n = omega arith in ap (nodesOf map) e
+nodes-beyond map n (suc j) h l = go (ℕ-discrete (suc j) n) (nodes-beyond map n j h)
+  where
+    go : Dec (suc j ≡ n) → (n ≤ j → nodesOf map j ≡ nodesOf map n) → nodesOf map (suc j) ≡ nodesOf map n
+    go (yes e) ih = ap (nodesOf map) e
+    go (no e) ih =
+        let k : n ≤ j = omega arith in
+        let b : map < 2 ^ j = omega (arith, pow-mono k) in
+        let z : map / 2 ^ j % 2 ≡ 0 = ap (λ (x : ℕ). x % 2) (div-eq-of-lt b) in
+        rw (ne-eqb (map / 2 ^ j % 2) 1 (λ e. omega arith)) (append-nil (nodesOf map j) ∙ ih k)
 
 pub named-skip : (map i : ℕ) (nodes : Nodes) → Named map i nodes → eqb (map / 2 ^ i % 2) 1 ≡ false → Named map (i + 1) nodes
 named-skip map i nodes h e =
@@ -91,6 +132,43 @@ nodes-within map (suc i) s h = go (eqb (map / 2 ^ i % 2) 1) (nodes-within map i 
         in omega arith
     go false ih t (no l) = let z : s < length (nodesOf map i) + 0 = rw length-append at t in absurd (omega arith)
 
+-- a node is listed where its bit stands, and only there
+pub nodes-bit : (map n s : ℕ) → s < length (nodesOf map n) → map / 2 ^ (getD (nodesOf map n) s 0 - 1) % 2 ≡ 1
+unfolding nodesOf
+nodes-bit map zero s h = absurd (not-suc-le-zero h)
+nodes-bit map (suc n) s h = go (eqb (map / 2 ^ n % 2) 1) refl (nodes-bit map n s) h (decLt s (length (nodesOf map n)))
+  where
+    go : (b : Bool) → eqb (map / 2 ^ n % 2) 1 ≡ b → (s < length (nodesOf map n) → map / 2 ^ (getD (nodesOf map n) s 0 - 1) % 2 ≡ 1)
+        → s < length (nodesOf map n ++ cond b (suc n ∷ []) []) → Dec (s < length (nodesOf map n))
+        → map / 2 ^ (getD (nodesOf map n ++ cond b (suc n ∷ []) []) s 0 - 1) % 2 ≡ 1
+    go b e ih t (yes l) = rw (List·getD-append (nodesOf map n) (cond b (suc n ∷ []) []) 0 s l) (ih l)
+    go true e ih t (no l) =
+        let z : s < length (nodesOf map n) + 1 = rw length-append at t in
+        let y : s ≡ length (nodesOf map n) = omega arith in
+        let x : suc n - 1 ≡ n = omega arith in
+        rw y (rw (getD-append-seam (nodesOf map n) (suc n) [] 0) (ap (λ (i : ℕ). map / 2 ^ i % 2) x ∙ eqb-true (map / 2 ^ n % 2) 1 e))
+    go false e ih t (no l) = let z : s < length (nodesOf map n) + 0 = rw length-append at t in absurd (omega arith)
+
+pub bit-listed : (map n i : ℕ) → i < n → map / 2 ^ i % 2 ≡ 1 → (s : ℕ) × (s < length (nodesOf map n)) × (getD (nodesOf map n) s 0 ≡ suc i)
+unfolding nodesOf
+bit-listed map zero i l h = absurd (not-suc-le-zero l)
+bit-listed map (suc n) i l h = go (ℕ-discrete i n) (bit-listed map n i)
+  where
+    go : Dec (i ≡ n) → (i < n → map / 2 ^ i % 2 ≡ 1 → (s : ℕ) × (s < length (nodesOf map n)) × (getD (nodesOf map n) s 0 ≡ suc i))
+        → (s : ℕ) × (s < length (nodesOf map (suc n))) × (getD (nodesOf map (suc n)) s 0 ≡ suc i)
+    go (yes e) ih =
+        let b : map / 2 ^ n % 2 ≡ 1 = rw (← e) h in (
+          length (nodesOf map n),
+          omega (arith, nodes-counted map n),
+          rw (eq-eqb (map / 2 ^ n % 2) 1 b) (getD-append-seam (nodesOf map n) (suc n) [] 0 ∙ ap suc (sym e)),
+        )
+    go (no e) ih =
+        let x = ih (omega arith) h in (
+          x .0,
+          omega (arith, nodes-counted map n, x .1),
+          List·getD-append (nodesOf map n) (cond (eqb (map / 2 ^ n % 2) 1) (suc n ∷ []) []) 0 (x .0) (x .1) ∙ x .2,
+        )
+
 pub nodes-ascend : (map n s : ℕ) → suc s < length (nodesOf map n) → getD (nodesOf map n) s 0 < getD (nodesOf map n) (suc s) 0
 unfolding nodesOf
 nodes-ascend map zero s h = absurd (not-suc-le-zero h)
@@ -115,6 +193,28 @@ nodes-ascend map (suc i) s h = go (eqb (map / 2 ^ i % 2) 1) (nodes-ascend map i 
         ap (λ (x : ℕ). getD (nodesOf map i ++ (suc i ∷ [])) x 0) y ∙ getD-append-seam (nodesOf map i) (suc i) [] 0
         in omega (arith, nodes-within map i s b)
     go false ih t (no l) = let z : suc s < length (nodesOf map i) + 0 = rw length-append at t in absurd (omega arith)
+
+-- a test over no entry, over one, and over one list behind another
+pub all-none : (f : ℕ → Bool) → all f [] ≡ true
+unfolding all
+all-none f = refl
+
+pub all-one : (f : ℕ → Bool) (x : ℕ) → all f (x ∷ []) ≡ f x
+unfolding all
+all-one f x = go (f x)
+  where
+    go : (b : Bool) → (b && true) ≡ b
+    go true = refl
+    go false = refl
+
+pub all-append : (f : ℕ → Bool) (xs ys : List ℕ) → all f (xs ++ ys) ≡ (all f xs && all f ys)
+unfolding all
+all-append f [] ys = refl
+all-append f (x ∷ xs) ys = ap (λ (b : Bool). f x && b) (all-append f xs ys) ∙ sym (go (f x) (all f xs) (all f ys))
+  where
+    go : (a b c : Bool) → ((a && b) && c) ≡ (a && (b && c))
+    go true b c = refl
+    go false b c = refl
 
 -- a test over a list, from a place on
 pub all-step : (f : ℕ → Bool) (xs : List ℕ) (s : ℕ) → s < length xs → all f (drop s xs) ≡ (f (getD xs s 0) && all f (drop (s + 1) xs))

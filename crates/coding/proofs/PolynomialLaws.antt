@@ -12,6 +12,7 @@ use Rattle.coding.specs.Field.{_⊕_, product, power, inverse, sum}
 use Rattle.coding.specs.Bytes.{Bytes}
 use Rattle.coding.specs.Polynomial.{value, plus, times, rootsAt, interpolate}
 use Rattle.coding.specs.Grid.{Distinct}
+use Rattle.coding.proofs.BytesLaws.{all-cons, bytes-cons}
 use Rattle.coding.proofs.XorLaws.{xor-exchange}
 use Rattle.coding.proofs.FieldLaws.{xor-assoc, product-byte, product-comm, product-assoc, product-xor, xor-product}
 use Rattle.coding.proofs.FieldLaws.{product-zero, zero-product, product-one, product-inverse, product-nonzero}
@@ -100,13 +101,6 @@ bytes-plus p q hp hq i = rw (getD-plus p q i) (xor-byte (getD p i 0) (getD q i 0
 
 pub bytes-times : (c : ℕ) (p : List ℕ) → Bytes (times c p)
 bytes-times c p i = rw (getD-times c p i) (product-byte c (getD p i 0))
-
-all-cons : (P : ℕ → Type 0) (a : ℕ) (p : List ℕ) → P a → ((i : ℕ) → P (getD p i 0)) → (i : ℕ) → P (getD (a ∷ p) i 0)
-all-cons P a p h t zero = h
-all-cons P a p h t (suc i) = t i
-
-bytes-cons : (a : ℕ) (p : List ℕ) → a < 256 → Bytes p → Bytes (a ∷ p)
-bytes-cons = all-cons (λ a. a < 256)
 
 pub bytes-take : (n : ℕ) (p : List ℕ) → Bytes p → Bytes (take n p)
 bytes-take zero p b i = omega arith

@@ -1,11 +1,11 @@
 -- What joining gives back: the joined frame has the pieces that were given, and the pieces of a page give its frame.
-use mathlib.Core.Path.{_≡_, sym, ap, _∙_}
+use mathlib.Core.Path.{_≡_, refl, sym, ap, _∙_}
 use mathlib.Core.List.{List}
 use mathlib.Core.Option.{some}
 use Prim.Native.Nat.{ℕ, _+_, _-_, _*_, _/_, _%_, _^_, _<_, _≤_}
 use native.Mathlib.Nat.{mod-lt, div-add-mod', div-lt-iff-lt-mul}
 use native.Mathlib.Omega.{arith}
-use lib.ListN.{length, getD, drop, length-drop}
+use lib.ListN.{length, getD, take, drop, length-drop}
 use lib.Seq.{length-take-le, getD-take, getD-drop, ext-getD}
 use Rattle.coding.specs.Field.{product, power, sum}
 use Rattle.coding.specs.Polynomial.{interpolate}
@@ -20,6 +20,11 @@ use Rattle.coding.proofs.FrameLaws.{frame-at, columns-hold, length-fram
 use Rattle.coding.proofs.SplitLaws.{column, length-column, getD-column, column-bytes, column-value}
 use Rattle.coding.proofs.JoinLaws.{length-joined, getD-joined, bytes-joined}
 use Rattle.coding.proofs.PageLaws.{multiple-unique, page-frame, frame-page-of}
+
+-- where the piece of a node stands in the room
+pub piece-in : (F : ℕ) (room : List ℕ) (L i : ℕ) → pieceIn F room L i ≡ take L (drop ((i - 1) * F) room)
+unfolding pieceIn
+piece-in F room L i = refl
 
 pub length-pieceIn : (F : ℕ) (room : List ℕ) (L i : ℕ) → (i - 1) * F + L ≤ length room → length (pieceIn F room L i) ≡ L
 unfolding pieceIn

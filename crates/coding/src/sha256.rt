@@ -310,7 +310,7 @@ fn last_len(s: &[u8]) -> usize
     if s.len() % 64 < 56 { 64 } else { 128 }
 }
 
-// Byte j of the end that follow the whole blocks.
+// Byte j of the `end` bytes that follow the whole blocks.
 fn last_byte(s: &[u8], end: usize, j: usize) -> u8
     requires { ⌜ (length (now s) / 64 * 64 + end ≡ length (spec.padded (now s))) × (j < end) ⌝ }
     ensures { λ r. ⌜ r ≡ spec.padded (now (s .entry)) ! (length (now (s .entry)) / 64 * 64 + j) ⌝ }
