@@ -8,6 +8,7 @@ use native.Mathlib.Omega.{arith}
 use lib.ListN.{length, getD, take, drop, replicate, length-append}
 use lib.Seq.{take-at, drop-at, drop-drop, take-all, paste}
 use Rattle.coding.specs.Bytes.{Bytes}
+use Rattle.coding.proofs.BytesLaws.{bytes-cons}
 use Rattle.coding.proofs.PageLaws.{some-eq}
 use Rattle.protocol.specs.declared.measures.Measures.{Measures}
 use Rattle.protocol.specs.declared.version.ReadingIndex.{ReadingIndex}
@@ -22,7 +23,7 @@ use Rattle.protocol.proofs.MeasureLaws.{passed}
 use Rattle.protocol.proofs.PointerLaws.{GoodPointer, length-number, length-version}
 use Rattle.protocol.proofs.DirectoryLaws.{GoodIndex, length-index}
 use Rattle.protocol.proofs.RowLaws.{pointer-fits}
-use Rattle.protocol.proofs.BytesWritten.{bytes-cons, bytes-append, bytes-number}
+use Rattle.protocol.proofs.BytesWritten.{bytes-append, bytes-number}
 use Rattle.protocol.proofs.ClientLaws.{GoodPhase, GoodReserved, GoodClient, client-only, work-fits, length-retained, step-byte}
 use Rattle.client.specs.declared.phase.Phase.{Phase}
 use Rattle.client.specs.Record.{recordOf, areaSize, workAt}

@@ -1,11 +1,11 @@
 -- What is written is bytes.
 use mathlib.Core.List.{List, [], _∷_, _++_}
 use mathlib.Core.Option.{Option, some, none}
-use Prim.Native.Nat.{ℕ, zero, suc, _-_, _*_, _/_, _%_, _<_}
+use Prim.Native.Nat.{ℕ, zero, suc, _-_, _*_, _/_, _%_}
 use native.Mathlib.Omega.{arith}
 use lib.ListN.{length, replicate}
 use Rattle.coding.specs.Bytes.{Bytes}
-use Rattle.coding.proofs.BytesLaws.{zeros-at}
+use Rattle.coding.proofs.BytesLaws.{zeros-at, bytes-cons}
 use Rattle.protocol.specs.declared.measures.Measures.{Measures}
 use Rattle.protocol.specs.declared.version.ReadingIndex.{ReadingIndex}
 use Rattle.protocol.specs.declared.version.Version.{Version}
@@ -28,10 +28,6 @@ use Rattle.protocol.proofs.ClientLaws.{GoodDigest, ShortPiece, GoodPhas
 
 pub bytes-nil : Bytes []
 bytes-nil i = omega arith
-
-pub bytes-cons : (x : ℕ) (p : List ℕ) → x < 256 → Bytes p → Bytes (x ∷ p)
-bytes-cons x p h b zero = h
-bytes-cons x p h b (suc i) = b i
 
 pub bytes-append : (p q : List ℕ) → Bytes p → Bytes q → Bytes (p ++ q)
 bytes-append [] q a b = b

@@ -13,10 +13,10 @@ use lib.Seq.{take-at, drop-append-add}
 use lib.Pow.{pow-pos}
 use Rattle.coding.specs.Pieces.{columns, piece}
 use Rattle.coding.specs.Split.{SplitEnd, written}
-use Rattle.coding.specs.Join.{pieceIn}
 use Rattle.coding.proofs.BytesLaws.{length-tabulate, getD-tabulate}
 use Rattle.coding.proofs.NodesLaws.{nodes-none}
 use Rattle.coding.proofs.SplitLaws.{split-done}
+use Rattle.coding.proofs.RoundTripLaws.{piece-in}
 use Rattle.coding.proofs.RoundTrip.{area-piece}
 use Rattle.protocol.specs.declared.measures.Measures.{Measures}
 use Rattle.protocol.specs.declared.version.Version.{Version}
@@ -84,7 +84,7 @@ module _ (z : Measures) (passes : passes z ≡ true) (v : Version) (bytes room :
   -- what is sent to node i is its piece
   pub stores-sent : (i : ℕ) → 1 ≤ i → i ≤ z .n
       → messageTo z (stores v (columns (z .k) (length bytes))) (storesRoom z v bytes room) i ≡ some (writeToNode (ToNode.store v (piece (z .k) bytes i)))
-  unfolding writeToNode pieceIn
+  unfolding writeToNode
   stores-sent i lo up =
       let f = writeToNode (ToNode.store v []) in
       let r = written (z .k) (z .f) bytes (drop 6 room) (z .n) in
@@ -93,7 +93,7 @@ module _ (z : Measures) (passes : passes z ≡ true) (v : Version) (bytes room :
       let d : drop (6 + at) (f ++ r) ≡ drop at r = ap (λ (x : ℕ). drop (x + at) (f ++ r)) (sym (length-front v)) ∙ drop-append-add f r at in
       ap (λ (x : List ℕ). messageTo z (stores v len) x i) stores-room
       ∙ ap₂ (λ (x : List ℕ) (y : List ℕ). some (x ++ take len y)) (take-at f r 6 (length-front v)) d
-      ∙ ap (λ (x : List ℕ). some (f ++ x)) (sym (area-piece (z .n) (z .k) (z .f) bytes (drop 6 room) (proper-passed z (passed z passes)) fits short i lo up))
+      ∙ ap (λ (x : List ℕ). some (f ++ x)) (sym (piece-in (z .f) r len i) ∙ sym (area-piece (z .n) (z .k) (z .f) bytes (drop 6 room) (proper-passed z (passed z passes)) fits short i lo up))
       ∙ ap (λ (x : List ℕ). some (1 ∷ (x ++ piece (z .k) bytes i))) (append-nil (writeVersion v))
 
 -- ---- the record after it

@@ -20,8 +20,8 @@ use Rattle.protocol.specs.Directory.{Row, readRecord, readDirectory, fre
 use Rattle.protocol.specs.Client.{Phase, Client, clientSize}
 use Rattle.protocol.specs.Deposit.{highest}
 use Rattle.protocol.specs.Reading.{candidate, pick}
-use Rattle.protocol.specs.Answer.{refuses, empty}
-use Rattle.protocol.specs.ClientEvents.{ClientEnd, roomSize, scannedAt, fetch, draw, onClient, onRows, after, scanAnswer}
+use Rattle.protocol.specs.Answer.{number, refuses, empty}
+use Rattle.protocol.specs.ClientEvents.{ClientEnd, roomSize, scannedAt, fetch, draw, onClient, onRows, after, startDeposit, scanAnswer}
 use Rattle.protocol.specs.DirectoryEvents.{directorySize, onTable, directoryUpdate}
 use Rattle.protocol.specs.Edges.{Handed, Edges}
 
@@ -106,11 +106,12 @@ wrong-map s own table rest p l n =
     simp (p, le-leb (directorySize s) (length table) l, lt-ltb own (s .m) n) (wrong s own table rest (readDirectory s table))
 
 pub edges : Edges
-unfolding passes
+unfolding passes startDeposit
 edges =
     record {
       four-nodes = four;
       three-nodes = λ f. refl;
+      three-refused = λ f own client bytes. refl;
       later = refl;
       nothing = nothing;
       first = λ s own client rows room bytes c h e.
@@ -118,7 +119,7 @@ edges =
       last = λ s own client rows room bytes c l h e q.
           drawn s own client rows room bytes c l h (record { 0 = 4294967294 }) e (λ i. record { 0 = q i });
       after = λ s own client rows room bytes c l h e q.
-          drawn s own client rows room bytes c l h (record { 0 = 4294967295 }) e (λ i. record { 0 = q i });
+          let a = drawn s own client rows room bytes c l h (record { 0 = 4294967295 }) e (λ i. record { 0 = q i }) in (a, ap number a);
       wrong-map = wrong-map;
       coding = coding-edges;
     }

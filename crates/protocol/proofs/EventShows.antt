@@ -1,32 +1,33 @@
 -- What the directory's and a node's table show after each event; a table that is well formed stays so.
-use mathlib.Core.Path.{_≡_, refl, sym, ap, _∙_}
+use mathlib.Core.Path.{_≡_, refl, ap, _∙_}
 use mathlib.Core.Bool.{Bool, true, false, cond, _||_}
-use mathlib.Core.List.{List, [], _∷_, _++_}
+use mathlib.Core.List.{List, [], _++_}
 use mathlib.Core.Option.{Option, some, none}
-use Prim.Native.Nat.{ℕ, _+_, _*_, _≤_, _<_}
+use Prim.Native.Nat.{ℕ, _+_, _≤_, _<_}
 use native.Mathlib.Omega.{arith}
 use borrow.Author.Tests.{le-leb, lt-ltb, leb-true, ltb-true}
-use lib.Dec.{leb, ltb}
-use lib.ListN.{length, getD, set, length-append, length-set}
+use lib.Dec.{ltb}
+use lib.ListN.{length, getD, take, drop, set, length-append, length-set}
+use lib.Seq.{take-at}
 use Rattle.coding.specs.Bytes.{Bytes}
 use Rattle.coding.proofs.PageLaws.{none≢some, some-eq}
 use Rattle.protocol.specs.declared.measures.Measures.{Measures}
-use Rattle.protocol.specs.declared.version.Version.{Version}
 use Rattle.protocol.specs.Format.{Read, whole}
 use Rattle.protocol.specs.Measures.{passes, rowSize, places}
-use Rattle.protocol.specs.Directory.{Content, Row, noRow, readRecord, readDirectory, writeDirectory, writeRow, updateRow}
-use Rattle.protocol.specs.DirectoryEvents.{directorySize, onTable, directoryUpdate}
+use Rattle.protocol.specs.Directory.{Content, Row, noRow, readRecord, writeRecord, readDirectory, writeDirectory, freshDirectory, writeRow, updateRow}
+use Rattle.protocol.specs.DirectoryEvents.{DirectoryEnd, directorySize, directoryFresh, onTable, directoryUpdate, scanned, directoryScan}
 use Rattle.protocol.specs.NodeTable.{Held, readTable, writeTable}
-use Rattle.protocol.specs.Node.{keep, handBack, release}
+use Rattle.protocol.specs.Node.{keep, handBack}
+use Rattle.protocol.specs.Answer.{serves}
 use Rattle.protocol.specs.Message.{ToNode, readToNode, writeToClient}
-use Rattle.protocol.specs.NodeEvents.{NodeEnd, isHeld, heldAfter, answerTo, kept, onMessage, nodeMessage, tableSize, answerSize}
+use Rattle.protocol.specs.NodeEvents.{isHeld, heldAfter, answerTo, kept, onMessage, nodeFresh, nodeMessage, tableSize, answerSize}
 use Rattle.protocol.proofs.FormatLaws.{Each}
 use Rattle.protocol.proofs.EachLaws.{each-at, each-set}
-use Rattle.protocol.proofs.DirectoryLaws.{GoodRecord}
-use Rattle.protocol.proofs.RowLaws.{FitsRow, format-directory, length-directory, row-fits, update-good}
+use Rattle.protocol.proofs.DirectoryLaws.{GoodRecord, format-record}
+use Rattle.protocol.proofs.RowLaws.{FitsRow, format-directory, length-directory, row-fits, update-good, fresh-directory}
 use Rattle.protocol.proofs.NodeTableLaws.{GoodTable, format-table, length-table}
-use Rattle.protocol.proofs.NodeLaws.{keep-length, keep-good, release-good}
-use Rattle.protocol.proofs.MessageLaws.{GoodToNode, message-to-node}
+use Rattle.protocol.proofs.NodeLaws.{keep-length, keep-good, release-good, fresh-table}
+use Rattle.protocol.proofs.MessageLaws.{GoodToNode, message-whole, message-to-node}
 use Rattle.protocol.proofs.BringShows.{places-few, keep-held, stored-good}
 
 module _ (s : Measures) (ok : passes s ≡ true) where
@@ -69,16 +70,17 @@ module _ (s : Measures) (ok : passes s ≡ true) where
       in (ap (readTable s) end ∙ format-table s .back k good rest, good)
 
   -- after an update that is acknowledged, the table shows the client's row with the fields whose bit stands replaced, and every other row as it was
-  pub update-shows : (own : ℕ) → own < s .m → (rows : List Row) → Each (FitsRow s) rows → length rows ≡ s .m → (rest fields : List ℕ)
-      → (u : List (Option Content)) → GoodRecord s u → whole (readRecord s) fields ≡ some u
+  pub update-shows : (own : ℕ) → own < s .m → (rows : List Row) → Each (FitsRow s) rows → length rows ≡ s .m → (rest fields : List ℕ) → Bytes fields
+      → (u : List (Option Content)) → whole (readRecord s) fields ≡ some u
       → (readDirectory s (directoryUpdate s own (writeDirectory s rows ++ rest) fields .table)
       ≡ some (record { value = set rows own (updateRow u (getD rows own noRow)); rest = rest }))
       × Each (FitsRow s) (set rows own (updateRow u (getD rows own noRow)))
   unfolding directoryUpdate
-  update-shows own l rows g n rest fields u gu e =
+  update-shows own l rows g n rest fields b u e =
       let t = writeDirectory s rows ++ rest in
       let r = updateRow u (getD rows own noRow) in
       let old = each-at (FitsRow s) noRow rows g own (omega (arith, n)) in
+      let gu = message-whole (readRecord s) writeRecord (GoodRecord s) (format-record s) .only fields u b e .0 in
       let new = update-good s u (getD rows own noRow) gu (old .0 .0) in
       let fits : FitsRow s r = ((new, tt), le-leb (length (writeRow r)) (rowSize s) (row-fits s r new)) in
       let good = each-set (FitsRow s) rows own r fits g in
@@ -88,3 +90,34 @@ module _ (s : Measures) (ok : passes s ≡ true) where
       (ap (λ (x : Option (Read (List Row))). onTable s own t x (whole (readRecord s) fields) .table) (format-directory s .back rows (g, n) rest)
       ∙ ap (λ (x : Option (List (Option Content))). onTable s own t (some (record { value = rows; rest = rest })) x .table) e)
       in (ap (readDirectory s) end ∙ format-directory s .back (set rows own r) (good, length-set rows own r ∙ n) rest, good)
+
+  -- a scan that is answered shows in its room the rows that the table shows, and leaves the table
+  pub scan-shows : (rows : List Row) → Each (FitsRow s) rows → length rows ≡ s .m → (rest room : List ℕ) → directorySize s ≤ length room
+      → (readDirectory s (directoryScan s (writeDirectory s rows ++ rest) room .room) ≡ some (record { value = rows; rest = drop (directorySize s) room }))
+      × (directoryScan s (writeDirectory s rows ++ rest) room .table ≡ writeDirectory s rows ++ rest)
+  unfolding directoryScan
+  scan-shows rows g n rest room h =
+      let t = writeDirectory s rows ++ rest in
+      let w : length (writeDirectory s rows) ≡ directorySize s = length-directory s rows g n in
+      let long : directorySize s ≤ length t = omega (arith, length-append (writeDirectory s rows) rest) in
+      let end : directoryScan s t room
+      ≡ record { answer = serves (directorySize s); table = t; room = take (directorySize s) t ++ drop (directorySize s) room } =
+      simp (ok, le-leb (directorySize s) (length t) long, le-leb (directorySize s) (length room) h)
+      (ap (scanned s t room) (format-directory s .back rows (g, n) rest))
+      in (
+        ap (λ (x : DirectoryEnd). readDirectory s (x .room)) end
+            ∙ ap (λ (b : List ℕ). readDirectory s (b ++ drop (directorySize s) room)) (take-at (writeDirectory s rows) rest (directorySize s) w)
+            ∙ format-directory s .back rows (g, n) (drop (directorySize s) room),
+        ap (λ (x : DirectoryEnd). x .table) end,
+      )
+
+  -- a fresh directory table shows fresh rows, and a fresh node table no piece
+  pub directory-fresh-shows : (table : List ℕ) → directorySize s ≤ length table
+      → readDirectory s (directoryFresh s table .table) ≡ some (record { value = freshDirectory s; rest = drop (directorySize s) table })
+  unfolding directoryFresh
+  directory-fresh-shows table h = simp (ok, le-leb (directorySize s) (length table) h) (fresh-directory s (drop (directorySize s) table))
+
+  pub node-fresh-shows : (table : List ℕ) → tableSize s ≤ length table
+      → readTable s (nodeFresh s table .table) ≡ some (record { value = []; rest = drop (tableSize s) table })
+  unfolding nodeFresh
+  node-fresh-shows table h = simp (ok, le-leb (tableSize s) (length table) h) (fresh-table s (places-few s ok) (drop (tableSize s) table))

@@ -15,6 +15,7 @@ use Rattle.coding.specs.Pieces.{proper, columns, frame, pieceByte, piece}
 use Rattle.coding.specs.Polynomial.{value, plus, times, rootsAt, interpolate}
 use Rattle.coding.specs.Sha256.{K, bytes, padded, words, H₀, extended, schedule, turned, round, rounds, added, compress, hash, joined as digestJoined, sha256}
 use Rattle.coding.specs.Split.{written as splitWritten, split}
+use Rattle.coding.proofs.BytesLaws.{bytes-cons}
 use Rattle.coding.proofs.Cases.{and-true}
 use Rattle.protocol.specs.declared.measures.Measures.{Measures}
 use Rattle.protocol.specs.Format.{readNumber, writeNumber, readMany, writeMany, readEach, readBytes, readZeros, readArea, writeArea}
@@ -35,7 +36,7 @@ use Rattle.protocol.specs.NodeEvents.{nodeMessage}
 use Rattle.protocol.specs.Run.{Event, deposit, reading, carry, hand, bring, deliver, lie, Answered, State, fresh, carryOut, run}
 use Rattle.protocol.specs.Claim.{Lent, AllLent}
 use Rattle.protocol.specs.Example.{measures, honest, script, events, answers, Ending, ending, expected, Worked}
-use Rattle.protocol.proofs.BytesWritten.{bytes-nil, bytes-cons}
+use Rattle.protocol.proofs.BytesWritten.{bytes-nil}
 
 -- ---- answers and state at once, so that each event is computed once
 

@@ -4,10 +4,10 @@ use mathlib.Core.Bool.{Bool, true, false, true≢false}
 use mathlib.Core.List.{List, []}
 use Prim.Native.Nat.{ℕ, _-_, _≤_, _<_}
 use native.Mathlib.Omega.{arith}
-use lib.ListN.{replicate, set, length-set, length-replicate, getD-replicate}
+use lib.ListN.{length, replicate, set, length-set, length-replicate, getD-replicate}
 use lib.Pow.{pow-pos}
 use lib.Seq.{getD-set-same, getD-set-other}
-use Rattle.coding.specs.Nodes.{nodesOf}
+use Rattle.coding.proofs.NodesLaws.{nodes-none}
 use Rattle.coding.specs.Pieces.{piece}
 use Rattle.protocol.specs.declared.measures.Measures.{Measures}
 use Rattle.protocol.specs.Nodes.{count, stands, withNode}
@@ -60,14 +60,14 @@ turn-kept z honest s o f q g c t n j l =
 
 -- nothing is fetched yet
 fetched-none : (z : Measures) (honest : ℕ → Bool) → Passed z → (p : Past) (x : Pointer) → Fetched z honest p x 0 0 (replicate (z .n) [])
-unfolding nodesOf
 fetched-none z honest ok p x =
+    let none : count 0 ≡ 0 = ap length (nodes-none 16) in
     record {
       pieces = λ i lo up st. absurd (true≢false (sym st ∙ stands-none i));
       matching = λ i hi lo up st. st;
       counted = λ i lo up st. st;
       within = (pow-pos (z .n), pow-pos (z .n));
-      few = ok .parts;
+      few = omega (arith, ok .parts);
       many = length-replicate (z .n) [];
       empty = λ i lo up st. getD-replicate (z .n) (i - 1) [] [] (omega arith);
     }

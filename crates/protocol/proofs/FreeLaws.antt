@@ -12,7 +12,7 @@ use lib.Dec.{eqb, ltb}
 use lib.ListN.{length, getD}
 use Rattle.coding.specs.Bytes.{tabulate}
 use Rattle.coding.proofs.Cases.{and-true, chosen-of}
-use Rattle.coding.proofs.BytesLaws.{getD-tabulate, tabulate-ext, map-tabulate}
+use Rattle.coding.proofs.BytesLaws.{tabulate-none, tabulate-more, getD-tabulate, tabulate-ext, map-tabulate}
 use Rattle.protocol.specs.declared.measures.Measures.{Measures}
 use Rattle.protocol.specs.declared.version.ReadingIndex.{ReadingIndex}
 use Rattle.protocol.specs.declared.version.Version.{Version}
@@ -204,9 +204,10 @@ free-fits z own c rows p =
 -- ---- on a model's clients and rows
 
 listed-tabulate : (u : Version) (n : ℕ) (f : ℕ → Version) → listed u (tabulate n f) ≡ true → (q : ℕ) × (q < n) × (f q ≡ u)
-unfolding tabulate listed
-listed-tabulate u zero f e = absurd (true≢false (sym e))
-listed-tabulate u (suc n) f e = go (listed u (tabulate n f)) refl (sym (listed-append u (tabulate n f) (f n ∷ [])) ∙ e) (listed-tabulate u n f)
+unfolding listed
+listed-tabulate u zero f e = absurd (true≢false (sym e ∙ ap (listed u) (tabulate-none f)))
+listed-tabulate u (suc n) f e =
+    go (listed u (tabulate n f)) refl (sym (listed-append u (tabulate n f) (f n ∷ [])) ∙ ap (listed u) (sym (tabulate-more n f)) ∙ e) (listed-tabulate u n f)
   where
     go : (b : Bool) → listed u (tabulate n f) ≡ b → (b || listed u (f n ∷ [])) ≡ true → (listed u (tabulate n f) ≡ true → (q : ℕ) × (q < n) × (f q ≡ u))
         → (q : ℕ) × (q < suc n) × (f q ≡ u)
@@ -218,9 +219,8 @@ listed-tabulate u (suc n) f e = go (listed u (tabulate n f)) refl (sym (listed-a
         last (inr x) = absurd (true≢false (sym x))
 
 pub tabulate-listed : (u : Version) (n : ℕ) (f : ℕ → Version) (q : ℕ) → q < n → f q ≡ u → listed u (tabulate n f) ≡ true
-unfolding tabulate listed
 tabulate-listed u zero f q l e = absurd (omega arith)
-tabulate-listed u (suc n) f q l e = go (ℕ-discrete q n) (tabulate-listed u n f q)
+tabulate-listed u (suc n) f q l e = ap (listed u) (tabulate-more n f) ∙ go (ℕ-discrete q n) (tabulate-listed u n f q)
   where
     go : Dec (q ≡ n) → (q < n → f q ≡ u → listed u (tabulate n f) ≡ true) → listed u (tabulate n f ++ (f n ∷ [])) ≡ true
     go (yes p) ih = listed-append u (tabulate n f) (f n ∷ []) ∙ rw (listed-here u (f n) [] (ap f (sym p) ∙ e)) (or-true (listed u (tabulate n f)))

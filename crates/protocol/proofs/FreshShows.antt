@@ -2,12 +2,11 @@
 use mathlib.Core.Path.{_≡_, refl, sym, ap, subst⁻¹, _∙_}
 use mathlib.Core.Bool.{Bool, false, false≢true}
 use mathlib.Core.Logic.{inl}
-use mathlib.Core.List.{[], _∷_, _++_}
-use Prim.Native.Nat.{ℕ, zero, suc, _<_}
+use mathlib.Core.List.{[]}
+use Prim.Native.Nat.{ℕ, _<_}
 use native.Mathlib.Omega.{arith}
-use native.Mathlib.Numerals.{add-one}
-use lib.ListN.{replicate, replicate-append-replicate}
 use Rattle.coding.specs.Bytes.{tabulate}
+use Rattle.coding.proofs.BytesLaws.{tabulate-same}
 use Rattle.protocol.specs.declared.measures.Measures.{Measures}
 use Rattle.protocol.specs.declared.version.Version.{Version}
 use Rattle.protocol.specs.declared.version.ReadingIndex.{ReadingIndex}
@@ -45,11 +44,6 @@ freshModel z =
     }
 
 -- ---- its bytes
-
-tabulate-same : {A : Type 0} (n : ℕ) (a : A) → tabulate n (λ i. a) ≡ replicate n a
-unfolding tabulate
-tabulate-same zero a = refl
-tabulate-same (suc n) a = ap (λ l. l ++ (a ∷ [])) (tabulate-same n a) ∙ replicate-append-replicate n 1 a ∙ ap (λ k. replicate k a) (add-one n)
 
 client-is : (z : Measures) (c : ℕ) → clientAt z (freshModel z .c) c ≡ freshClient z
 client-is z c i =

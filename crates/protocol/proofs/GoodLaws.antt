@@ -14,6 +14,7 @@ use Rattle.coding.specs.Pieces.{proper, piece}
 use Rattle.coding.specs.Digest.{pieceDigest}
 use Rattle.coding.specs.Nodes.{nodesOf}
 use Rattle.coding.proofs.BytesLaws.{length-tabulate}
+use Rattle.coding.proofs.MeasureLaws.{measures-proper}
 use Rattle.coding.proofs.NodesLaws.{nodes-none, nodes-within}
 use Rattle.coding.proofs.DigestLaws.{length-digest, bytes-digest}
 use Rattle.coding.proofs.RoundTripLaws.{length-piece}
@@ -40,17 +41,9 @@ use Rattle.protocol.proofs.PastLaws.{some-formed}
 -- ---- pieces of a page that fits
 
 pub proper-passed : (z : Measures) → Passed z → proper (z .n) (z .k) (z .f) ≡ true
-unfolding proper
 proper-passed z p =
-    simp (
-      le-leb 1 (z .n) (p .nodes .0),
-      le-leb (z .n) 16 (p .nodes .1),
-      le-leb 1 (z .k) (p .parts),
-      le-leb (z .k) (z .n) (omega (arith, p .enough)),
-      le-leb 1 (z .f) (p .bytes .0),
-      le-leb (z .f) 4096 (p .bytes .1),
-      le-leb 4 (z .k * z .f) (p .frame),
-    )
+    measures-proper (z .n) (z .k) (z .f)
+    (record { nodes = p .nodes; parts = (p .parts, omega (arith, p .enough)); longest = p .bytes; frame = p .frame })
 
 module _ (z : Measures) (p : Passed z) (page : List ℕ) (short : length page ≤ z .k * z .f - 4) (i : ℕ) where
   -- a room for all pieces

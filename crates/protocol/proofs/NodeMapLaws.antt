@@ -1,18 +1,15 @@
 -- Laws of bit maps of nodes.
 use mathlib.Core.Path.{_≡_, refl, sym, ap, _∙_}
 use mathlib.Core.Bool.{Bool, true, false, cond, _||_}
-use mathlib.Core.List.{[], _∷_, _++_, append-nil}
 use Prim.Native.Nat.{ℕ, zero, suc, _+_, _-_, _/_, _%_, _^_, _<_, _≤_}
-use native.Mathlib.Nat.{pow-suc, pow-succ', div-div-eq-div-mul, div-eq-of-lt, zero-div}
-use native.Mathlib.Decide.{decLt, ℕ-discrete}
+use native.Mathlib.Nat.{pow-suc, pow-succ', div-div-eq-div-mul, zero-div}
+use native.Mathlib.Decide.{ℕ-discrete}
 use native.Mathlib.Omega.{arith}
 use borrow.Author.Tests.{eq-eqb, ne-eqb, eqb-true, eqb-false}
 use lib.Dec.{eqb}
-use lib.ListN.{length, getD, length-append, List·getD-append}
-use lib.Pow.{pow-mono}
-use lib.Seq.{getD-append-seam}
+use lib.ListN.{length, getD}
 use Rattle.coding.specs.Nodes.{nodesOf}
-use Rattle.coding.proofs.NodesLaws.{nodes-within}
+use Rattle.coding.proofs.NodesLaws.{nodes-start, nodes-counted, nodes-beyond, nodes-few, nodes-within, nodes-bit, bit-listed}
 use Rattle.protocol.specs.Nodes.{nodesIn, count, stands, withNode}
 
 -- ---- bits; bit i is node i + 1's
@@ -28,9 +25,6 @@ bit-suc map i = ap (λ (x : ℕ). map / x % 2) (pow-succ' 2 i) ∙ ap (λ (x : �
 
 bit-before : (map i : ℕ) → bit map (suc i - 1) ≡ bit map i
 bit-before map i = let e : suc i - 1 ≡ i = omega arith in ap (bit map) e
-
-bit-out : (map i : ℕ) → map < 2 ^ i → bit map i ≡ 0
-bit-out map i h = ap (λ (x : ℕ). x % 2) (div-eq-of-lt h)
 
 -- a power of two added where its bit is 0, shifted by one place
 half-first : (map : ℕ) → bit map 0 ≡ 0 → (map + 2 ^ 0) / 2 ≡ map / 2
@@ -125,31 +119,21 @@ with-below map i n h l b = go (stands map i) refl
 
 -- ---- counts
 
--- one node more, if its bit is 1
-length-nodes : (map n : ℕ) → length (nodesOf map (suc n)) ≡ length (nodesOf map n) + bit map n
-unfolding nodesOf
-length-nodes map n = go (ℕ-discrete (bit map n) 1)
-  where
-    go : Dec (bit map n ≡ 1) → length (nodesOf map n ++ cond (eqb (bit map n) 1) (suc n ∷ []) []) ≡ length (nodesOf map n) + bit map n
-    go (yes h) = rw (eq-eqb (bit map n) 1 h) (length-append (nodesOf map n) (suc n ∷ []) ∙ omega arith)
-    go (no h) = rw (ne-eqb (bit map n) 1 h) (length-append (nodesOf map n) [] ∙ omega arith)
-
--- the same, said of the node's place in the map
+-- one node more, if it stands
 pub count-step : (map n : ℕ) → length (nodesOf map (suc n)) ≡ length (nodesOf map n) + cond (stands map (suc n)) 1 0
 count-step map n = go (stands map (suc n)) refl
   where
     go : (b : Bool) → stands map (suc n) ≡ b → length (nodesOf map (suc n)) ≡ length (nodesOf map n) + cond b 1 0
-    go true e = omega (arith, length-nodes map n, stands-bit map (suc n) e, bit-before map n)
-    go false e = omega (arith, length-nodes map n, falls-bit map (suc n) e, bit-before map n)
+    go true e = omega (arith, nodes-counted map n, stands-bit map (suc n) e, bit-before map n)
+    go false e = omega (arith, nodes-counted map n, falls-bit map (suc n) e, bit-before map n)
 
 count-before : (map i n : ℕ) → bit map i ≡ 0 → n ≤ i → length (nodesOf (map + 2 ^ i) n) ≡ length (nodesOf map n)
-unfolding nodesOf
-count-before map i zero h l = refl
+count-before map i zero h l = ap length (nodes-start (map + 2 ^ i)) ∙ ap length (sym (nodes-start map))
 count-before map i (suc n) h l =
     omega (
       arith,
-      length-nodes (map + 2 ^ i) n,
-      length-nodes map n,
+      nodes-counted (map + 2 ^ i) n,
+      nodes-counted map n,
       count-before map i n h (omega arith),
       set-other map i n h (λ e. omega arith),
     )
@@ -164,16 +148,16 @@ count-after map i (suc n) h l = go (ℕ-discrete i n) (count-after map i n h)
         rw (← e)
         (omega (
           arith,
-          length-nodes (map + 2 ^ i) i,
-          length-nodes map i,
+          nodes-counted (map + 2 ^ i) i,
+          nodes-counted map i,
           count-before map i i h (omega arith),
           set-same map i h,
         ))
     go (no e) ih =
         omega (
           arith,
-          length-nodes (map + 2 ^ i) n,
-          length-nodes map n,
+          nodes-counted (map + 2 ^ i) n,
+          nodes-counted map n,
           ih (omega arith),
           set-other map i n h (λ q. e (sym q)),
         )
@@ -183,13 +167,12 @@ count-with map i h l e = rw (with-sum map i e) (count-after map (i - 1) 16 (fall
 
 -- a map that names no more nodes counts no more
 count-within : (a b n : ℕ) → ((i : ℕ) → i < n → bit a i ≡ 1 → bit b i ≡ 1) → length (nodesOf a n) ≤ length (nodesOf b n)
-unfolding nodesOf
-count-within a b zero h = omega arith
+count-within a b zero h = omega (arith, nodes-few a 0)
 count-within a b (suc n) h = go (ℕ-discrete (bit a n) 1) (count-within a b n (λ i l. h i (omega arith)))
   where
     go : Dec (bit a n ≡ 1) → length (nodesOf a n) ≤ length (nodesOf b n) → length (nodesOf a (suc n)) ≤ length (nodesOf b (suc n))
-    go (yes e) ih = omega (arith, length-nodes a n, length-nodes b n, h n (omega arith) e)
-    go (no e) ih = omega (arith, length-nodes a n, length-nodes b n)
+    go (yes e) ih = omega (arith, nodes-counted a n, nodes-counted b n, h n (omega arith) e)
+    go (no e) ih = omega (arith, nodes-counted a n, nodes-counted b n)
 
 pub count-sub : (a b : ℕ) → ((i : ℕ) → 1 ≤ i → i ≤ 16 → stands a i ≡ true → stands b i ≡ true) → count a ≤ count b
 count-sub a b h =
@@ -199,62 +182,14 @@ count-sub a b h =
 
 -- ---- the nodes listed
 
--- no node beyond n, where the map has n bits
-nodes-beyond : (map n j : ℕ) → map < 2 ^ n → n ≤ j → nodesOf map j ≡ nodesOf map n
-unfolding nodesOf
-nodes-beyond map n zero h l = let e : 0 ≡ n = omega arith in ap (nodesOf map) e
-nodes-beyond map n (suc j) h l = go (ℕ-discrete (suc j) n) (nodes-beyond map n j h)
-  where
-    go : Dec (suc j ≡ n) → (n ≤ j → nodesOf map j ≡ nodesOf map n) → nodesOf map (suc j) ≡ nodesOf map n
-    go (yes e) ih = ap (nodesOf map) e
-    go (no e) ih =
-        let k : n ≤ j = omega arith in
-        let z : bit map j ≡ 0 = bit-out map j (omega (arith, pow-mono k)) in
-        rw (ne-eqb (bit map j) 1 (λ e. omega arith)) (append-nil (nodesOf map j) ∙ ih k)
-
 pub nodes-all : (map n : ℕ) → map < 2 ^ n → n ≤ 16 → nodesIn map ≡ nodesOf map n
 nodes-all map n h l = nodes-beyond map n 16 h l
-
-listed-stands : (map n s : ℕ) → s < length (nodesOf map n) → bit map (getD (nodesOf map n) s 0 - 1) ≡ 1
-unfolding nodesOf
-listed-stands map zero s h = absurd (omega arith)
-listed-stands map (suc n) s h = go (eqb (bit map n) 1) refl (listed-stands map n s) h (decLt s (length (nodesOf map n)))
-  where
-    go : (b : Bool) → eqb (bit map n) 1 ≡ b → (s < length (nodesOf map n) → bit map (getD (nodesOf map n) s 0 - 1) ≡ 1)
-        → s < length (nodesOf map n ++ cond b (suc n ∷ []) []) → Dec (s < length (nodesOf map n))
-        → bit map (getD (nodesOf map n ++ cond b (suc n ∷ []) []) s 0 - 1) ≡ 1
-    go b e ih t (yes l) = rw (List·getD-append (nodesOf map n) (cond b (suc n ∷ []) []) 0 s l) (ih l)
-    go true e ih t (no l) =
-        let z : s < length (nodesOf map n) + 1 = rw length-append at t in
-        let y : s ≡ length (nodesOf map n) = omega arith in
-        rw y (rw (getD-append-seam (nodesOf map n) (suc n) [] 0) (bit-before map n ∙ eqb-true (bit map n) 1 e))
-    go false e ih t (no l) = let z : s < length (nodesOf map n) + 0 = rw length-append at t in absurd (omega arith)
 
 -- a node listed stands
 pub nodes-stand : (map s : ℕ) → s < length (nodesIn map)
     → (stands map (getD (nodesIn map) s 0) ≡ true) × (1 ≤ getD (nodesIn map) s 0) × (getD (nodesIn map) s 0 ≤ 16)
 nodes-stand map s h =
-    let w = nodes-within map 16 s h in (bit-stands map (getD (nodesIn map) s 0) (listed-stands map 16 s h), w .0, w .1)
-
-bit-listed : (map n i : ℕ) → i < n → bit map i ≡ 1 → (s : ℕ) × (s < length (nodesOf map n)) × (getD (nodesOf map n) s 0 ≡ suc i)
-unfolding nodesOf
-bit-listed map zero i l h = absurd (omega arith)
-bit-listed map (suc n) i l h = go (ℕ-discrete i n) (bit-listed map n i)
-  where
-    go : Dec (i ≡ n) → (i < n → bit map i ≡ 1 → (s : ℕ) × (s < length (nodesOf map n)) × (getD (nodesOf map n) s 0 ≡ suc i))
-        → (s : ℕ) × (s < length (nodesOf map (suc n))) × (getD (nodesOf map (suc n)) s 0 ≡ suc i)
-    go (yes e) ih =
-        let b : bit map n ≡ 1 = rw (← e) h in (
-          length (nodesOf map n),
-          omega (arith, length-nodes map n),
-          rw (eq-eqb (bit map n) 1 b) (getD-append-seam (nodesOf map n) (suc n) [] 0 ∙ ap suc (sym e)),
-        )
-    go (no e) ih =
-        let x = ih (omega arith) h in (
-          x .0,
-          omega (arith, length-nodes map n, x .1),
-          List·getD-append (nodesOf map n) (cond (eqb (bit map n) 1) (suc n ∷ []) []) 0 (x .0) (x .1) ∙ x .2,
-        )
+    let w = nodes-within map 16 s h in (bit-stands map (getD (nodesIn map) s 0) (nodes-bit map 16 s h), w .0, w .1)
 
 -- and a node that stands is listed
 pub stands-listed : (map i : ℕ) → 1 ≤ i → i ≤ 16 → stands map i ≡ true → (s : ℕ) × (s < length (nodesIn map)) × (getD (nodesIn map) s 0 ≡ i)

@@ -16,12 +16,12 @@ use Rattle.coding.specs.Pieces.{columns, piece}
 use Rattle.coding.specs.Digest.{pieceDigest}
 use Rattle.coding.specs.Answer.{Outcome}
 use Rattle.coding.specs.Nodes.{nodesOf, sound, firstLength}
-use Rattle.coding.specs.Join.{join, pieceIn}
+use Rattle.coding.specs.Join.{join}
 use Rattle.coding.proofs.BytesLaws.{getD-tabulate}
 use Rattle.coding.proofs.Cases.{and-true}
-use Rattle.coding.proofs.NodesLaws.{nodes-within, sound-rest, first-length}
+use Rattle.coding.proofs.NodesLaws.{nodes-few, nodes-within, sound-rest, first-length}
 use Rattle.coding.proofs.PageLaws.{all-at, all-from}
-use Rattle.coding.proofs.RoundTripLaws.{length-piece}
+use Rattle.coding.proofs.RoundTripLaws.{piece-in, length-piece}
 use Rattle.coding.proofs.JoinEndLaws.{joined-page}
 use Rattle.protocol.specs.declared.measures.Measures.{Measures}
 use Rattle.protocol.specs.declared.version.Version.{Version}
@@ -107,8 +107,7 @@ module _ (z : Measures) (p : Passed z) (v : Version) (page : List ℕ) (nodes i 
 matching-most : (honest : ℕ → Bool) (nodes m j : ℕ)
     → ((i : ℕ) → honest i ≡ true → 1 ≤ i → i ≤ j → stands nodes i ≡ true → stands m i ≡ true)
     → length (nodesOf nodes j) ≤ length (nodesOf m j) + dishonest honest j
-unfolding nodesOf
-matching-most honest nodes m zero h = omega arith
+matching-most honest nodes m zero h = omega (arith, nodes-few nodes 0)
 matching-most honest nodes m (suc j) h =
     go (honest (suc j)) refl (stands nodes (suc j)) refl (stands m (suc j)) refl
     (matching-most honest nodes m j (λ i a lo up. h i a lo (omega arith))) (count-step nodes j) (count-step m j)
@@ -181,7 +180,6 @@ module _ (z : Measures) (p : Passed z) (page : List ℕ) (b : Bytes page) (short
 
   pub joined-reading : (out : List ℕ) → z .k * z .f - 4 ≤ length out
       → join (z .n) (z .k) (z .f) m (areas z ps) (lengths ps) out ≡ record { outcome = Outcome.gives (length page); out = page ++ drop (length page) out }
-  unfolding pieceIn
   joined-reading out long =
       let xs = nodesOf m (z .n) in
       let c = columns (z .k) (length page) in
@@ -209,7 +207,8 @@ module _ (z : Measures) (p : Passed z) (page : List ℕ) (b : Bytes page) (short
       rw g
       (sym (y .2)
       ∙ sym (area-piece z ps (j - 1) each (omega (arith, y .0, y .1, many)))
-      ∙ ap (λ (x : ℕ). take x (drop ((j - 1) * z .f) (areas z ps))) e))
+      ∙ ap (λ (x : ℕ). take x (drop ((j - 1) * z .f) (areas z ps))) e
+      ∙ sym (piece-in (z .f) (areas z ps) c j)))
 
 -- ---- a piece more
 

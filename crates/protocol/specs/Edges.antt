@@ -8,14 +8,13 @@ use lib.ListN.{length}
 use Rattle.coding.specs.Edges.{Edges as CodingEdges}
 use Rattle.coding.specs.Pieces.{columns}
 use Rattle.protocol.specs.declared.measures.Measures.{Measures}
-use Rattle.protocol.specs.Format.{Read}
 use Rattle.protocol.specs.Measures.{passes}
 use Rattle.protocol.specs.Version.{below}
-use Rattle.protocol.specs.Directory.{Row, readDirectory, writeDirectory, freshDirectory}
+use Rattle.protocol.specs.Directory.{Row, readDirectory, freshDirectory}
 use Rattle.protocol.specs.Client.{scanning, picking, Client, readClient, clientSize}
 use Rattle.protocol.specs.Deposit.{highest}
-use Rattle.protocol.specs.Answer.{refuses, stores, empty, spent}
-use Rattle.protocol.specs.ClientEvents.{roomSize, scanAnswer}
+use Rattle.protocol.specs.Answer.{refused, stores, empty, spent, number, refuses}
+use Rattle.protocol.specs.ClientEvents.{roomSize, startDeposit, scanAnswer}
 use Rattle.protocol.specs.DirectoryEvents.{directorySize, directoryUpdate}
 
 -- the rows of a scan are handed to a client whose record reads, with the lengths that are wanted
@@ -32,6 +31,8 @@ pub record Edges : Type 0 where
   -- m 2, n 4, k 2, t 1 passes; n 3 is refused 1
   pub four-nodes : (f : ℕ) → 2 ≤ f → f ≤ 4096 → passes (record { m = 2; n = 4; k = 2; t = 1; f = f }) ≡ true
   pub three-nodes : (f : ℕ) → passes (record { m = 2; n = 3; k = 2; t = 1; f = f }) ≡ false
+  pub three-refused : (f own : ℕ) (client bytes : List ℕ)
+      → startDeposit (record { m = 2; n = 3; k = 2; t = 1; f = f }) own client bytes .answer ≡ refused 1
   -- version (2, 0) is above (1, 7)
   pub later : below (record { sequence = record { 0 = 1 }; client = 7 }) (record { sequence = record { 0 = 2 }; client = 0 }) ≡ true
   -- fresh directory: a reading ends empty; the first deposit draws 1
@@ -45,7 +46,8 @@ pub record Edges : Type 0 where
       → c .phase ≡ scanning bytes → highest l .0 ≡ 4294967294
       → scanAnswer s own client rows room .answer ≡ stores (record { sequence = record { 0 = 4294967295 }; client = own }) (columns (s .k) (length bytes))
   pub after : (s : Measures) (own : ℕ) (client rows room bytes : List ℕ) (c : Client) (l : List Row) → Handed s own client rows room c l
-      → c .phase ≡ scanning bytes → highest l .0 ≡ 4294967295 → scanAnswer s own client rows room .answer ≡ spent
+      → c .phase ≡ scanning bytes → highest l .0 ≡ 4294967295
+      → (scanAnswer s own client rows room .answer ≡ spent) × (number (scanAnswer s own client rows room .answer) ≡ some 7)
   -- update bit map hex 10: 4
   pub wrong-map : (s : Measures) (own : ℕ) (table rest : List ℕ) → passes s ≡ true → directorySize s ≤ length table → own < s .m
       → directoryUpdate s own table (0x10 ∷ rest) .answer ≡ refuses 4
