@@ -1,8 +1,8 @@
 -- Laws of a reply's tests: which nodes are counted, whether bytes are the same, and where a node's digest stands.
 use mathlib.Core.Path.{_≡_, refl, sym, ap, _∙_}
-use mathlib.Core.Bool.{Bool, true, false, cond, not, _&&_, true≢false}
-use mathlib.Core.List.{List, [], _∷_, _++_, append-assoc, append-nil}
-use Prim.Native.Nat.{ℕ, zero, suc, _+_, _-_, _/_, _%_, _^_, _<_, _≤_}
+use mathlib.Core.Bool.{Bool, true, false, not, _&&_, true≢false}
+use mathlib.Core.List.{List, [], _∷_, _++_, append-assoc}
+use Prim.Native.Nat.{ℕ, suc, _+_, _-_, _<_, _≤_}
 use native.Mathlib.Omega.{arith}
 use borrow.Author.Tests.{eq-eqb, ne-eqb, le-leb, lt-leb, not-true}
 use lib.Dec.{eqb}
@@ -11,7 +11,7 @@ use lib.Seq.{drop-cons}
 use Rattle.coding.specs.Digest.{pieceDigest}
 use Rattle.coding.specs.Nodes.{all, nodesOf}
 use Rattle.coding.proofs.Cases.{and-true}
-use Rattle.coding.proofs.NodesLaws.{nodes-skip, nodes-more, nodes-within}
+use Rattle.coding.proofs.NodesLaws.{nodes-start, nodes-skip, nodes-more, nodes-split, nodes-within, all-none, all-one, all-append}
 use Rattle.coding.proofs.PageLaws.{all-at}
 use Rattle.protocol.specs.declared.version.Version.{Version}
 use Rattle.protocol.specs.Nodes.{nodesIn, stands}
@@ -20,18 +20,15 @@ use Rattle.protocol.specs.Reading.{sameBytes, digestAt}
 use Rattle.protocol.proofs.NodeMapLaws.{stands-listed}
 use Rattle.client.specs.Reply.{matchesAt}
 use Rattle.records.proofs.NodesLaws.{bit-of}
-use Rattle.records.proofs.BytesLaws.{all-append}
 
 -- ---- nodes counted
 
 all-last : (f : ℕ → Bool) (xs : List ℕ) (x : ℕ) → all f xs ≡ true → f x ≡ true → all f (xs ++ (x ∷ [])) ≡ true
-unfolding all
-all-last f xs x e h = all-append f xs (x ∷ []) ∙ (λ i. e i && (h i && true))
+all-last f xs x e h = all-append f xs (x ∷ []) ∙ (λ i. e i && (all-one f x ∙ h) i)
 
 module _ (named counted : ℕ) where
   pub counted-none : all (stands counted) (nodesOf named 0) ≡ true
-  unfolding all nodesOf
-  counted-none = refl
+  counted-none = ap (all (stands counted)) (nodes-start named) ∙ all-none (stands counted)
 
   pub counted-turn : (i : ℕ) → (stands named (i + 1) && not (stands counted (i + 1))) ≡ false
       → all (stands counted) (nodesOf named i) ≡ true → all (stands counted) (nodesOf named (i + 1)) ≡ true
@@ -80,16 +77,6 @@ module _ (d t : List ℕ) (at : ℕ) (k : length d ≡ 32) (h : at + 32 ≤ leng
       (λ i. sameBytes (drop-of-length-le d {i = l} (omega arith) i) (take (e i) (drop (at + l) t)))
 
 -- ---- a node's digest
-
--- the nodes up to i, then others
-nodes-split : (map i d : ℕ) → (b : List ℕ) × (nodesOf map (i + d) ≡ nodesOf map i ++ b)
-unfolding nodesOf
-nodes-split map i zero = let e : i + 0 ≡ i = omega arith in ([], ap (nodesOf map) e ∙ sym (append-nil (nodesOf map i)))
-nodes-split map i (suc d) =
-    let x = nodes-split map i d in
-    let e : i + suc d ≡ suc (i + d) = omega arith in
-    let y : List ℕ = cond (eqb (map / 2 ^ (i + d) % 2) 1) (suc (i + d) ∷ []) [] in
-    (x .0 ++ y, ap (nodesOf map) e ∙ ap (λ (l : List ℕ). l ++ y) (x .1) ∙ append-assoc (nodesOf map i) (x .0) y)
 
 digest-past : (xs b : List ℕ) (i : ℕ) (ds : List (List ℕ)) → ((s : ℕ) → s < length xs → getD xs s 0 ≡ i → ⊥) → length xs < length ds
     → digestAt (xs ++ (i ∷ b)) ds i ≡ getD ds (length xs) []

@@ -15,6 +15,7 @@ use lib.ListN.{length, getD, take, drop, set, replicate, length-drop, length-set
 use lib.Seq.{drop-cons, take-suc, take-suc-set, take-add, take-take, take-append-le, drop-drop, drop-at, getD-drop, length-take-le, sets-eq, paste, paste-zero, paste-suc, length-paste, take-paste, drop-paste}
 use Rattle.coding.specs.Nodes.{all}
 use Rattle.coding.proofs.BytesLaws.{zeros-at, paste-ext, paste-before, paste-after, Pasted, pasted-none, pasted-more, pasted-length, pasted-all}
+use Rattle.coding.proofs.NodesLaws.{all-none, all-one, all-append}
 use Rattle.coding.proofs.PageLaws.{some-eq}
 use Rattle.protocol.specs.Format.{Read, bind, readByte, readNumber, writeNumber}
 
@@ -73,22 +74,12 @@ or-zero a b = go (ℕ-discrete a 0) (ℕ-discrete b 0)
     go (yes x) (no y) = ne-eqb (bitOr a b) 0 (λ e. omega (arith, or-add-and a b, and-le-l a b)) ∙ sym (simp (ne-eqb b 0 y, eq-eqb a 0 x))
     go (no x) y = ne-eqb (bitOr a b) 0 (λ e. omega (arith, or-add-and a b, and-le-r a b)) ∙ sym (simp (ne-eqb a 0 x))
 
-and-assoc : (a b c : Bool) → ((a && b) && c) ≡ (a && (b && c))
-and-assoc true b c = refl
-and-assoc false b c = refl
-
-pub all-append : (f : ℕ → Bool) (xs ys : List ℕ) → all f (xs ++ ys) ≡ (all f xs && all f ys)
-unfolding all
-all-append f [] ys = refl
-all-append f (x ∷ xs) ys = ap (λ (b : Bool). f x && b) (all-append f xs ys) ∙ sym (and-assoc (f x) (all f xs) (all f ys))
-
 -- the n bytes at a place are zero
 abbrev pub zeros : List ℕ → ℕ → ℕ → Bool
 zeros t at n = all (λ b. eqb b 0) (take n (drop at t))
 
 pub zeros-none : (t : List ℕ) (at : ℕ) → zeros t at 0 ≡ true
-unfolding all
-zeros-none t at = refl
+zeros-none t at = all-none (λ b. eqb b 0)
 
 -- a run, and the run after it
 pub zeros-join : (t : List ℕ) (at m n : ℕ) → zeros t at (m + n) ≡ (zeros t at m && zeros t (at + m) n)
@@ -96,13 +87,8 @@ zeros-join t at m n =
     ap (all (λ b. eqb b 0)) (take-add m n (drop at t)) ∙ all-append (λ b. eqb b 0) (take m (drop at t)) (take n (drop m (drop at t)))
     ∙ ap (λ (l : List ℕ). zeros t at m && all (λ b. eqb b 0) (take n l)) (drop-drop m at t)
 
-and-true : (b : Bool) → (b && true) ≡ b
-and-true true = refl
-and-true false = refl
-
 zeros-one : (t : List ℕ) (at : ℕ) → at < length t → zeros t at 1 ≡ eqb (getD t at 0) 0
-unfolding all
-zeros-one t at h = ap (λ (l : List ℕ). all (λ b. eqb b 0) (take 1 l)) (drop-cons t at 0 h) ∙ and-true (eqb (getD t at 0) 0)
+zeros-one t at h = ap (λ (l : List ℕ). all (λ b. eqb b 0) (take 1 l)) (drop-cons t at 0 h) ∙ all-one (λ b. eqb b 0) (getD t at 0)
 
 -- whether the bytes from `at` to p are zero is told by their bits, or'ed
 pub record Ored (t : List ℕ) (at p bits : ℕ) : Type 0 where
@@ -110,8 +96,7 @@ pub record Ored (t : List ℕ) (at p bits : ℕ) : Type 0 where
   pub told : eqb bits 0 ≡ zeros t at (p - at)
 
 pub ored-none : (t : List ℕ) (at p : ℕ) → p ≡ at → Ored t at p 0
-unfolding all
-ored-none t at p e = let z : p - at ≡ 0 = omega arith in record { after = omega arith; told = rw z }
+ored-none t at p e = let z : p - at ≡ 0 = omega arith in record { after = omega arith; told = rw z (sym (zeros-none t at)) }
 
 pub ored-more : (t : List ℕ) (at p q bits : ℕ) → p < length t → q ≡ p + 1 → Ored t at p bits → Ored t at q (bitOr bits (getD t p 0))
 ored-more t at p q bits h e o =
@@ -145,8 +130,7 @@ pub record Swept (t : List ℕ) (from to p : ℕ) : Type 0 where
   pub clear : zeros t from (p - from) ≡ true
 
 pub swept-none : (t : List ℕ) (from to : ℕ) → from ≤ to → Swept t from to from
-unfolding all
-swept-none t from to h = let z : from - from ≡ 0 = omega arith in record { after = omega arith; within = h; clear = rw z }
+swept-none t from to h = let z : from - from ≡ 0 = omega arith in record { after = omega arith; within = h; clear = rw z (zeros-none t from) }
 
 module _ (t : List ℕ) (from to p : ℕ) (s : Swept t from to p) where
   pub swept-rest : zeros t from (to - from) ≡ zeros t p (to - p)

@@ -1,4 +1,3 @@
 pub mod Answer
-pub mod Nodes
 pub mod Form
 pub mod Places

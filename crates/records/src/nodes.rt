@@ -4,7 +4,6 @@ ghost use Prim.Native.Nat.{_-_, _≤_, _<_, _/_, _%_, _^_};
 ghost use lib.ListN.{length};
 ghost use Rattle.coding.specs.Nodes.{nodesOf};
 ghost use Rattle.protocol.specs.Nodes.{stands as standing, count as counted, withNode};
-ghost use Rattle.records.specs.Nodes.{nextNode};
 
 pub fn stands(map: u16, i: usize) -> bool
     requires { ⌜ (1 ≤ i) × (i ≤ 16) ⌝ }
@@ -49,18 +48,4 @@ pub fn with_node(map: u16, i: usize) -> u16
     ensures { λ r. ⌜ r ≡ withNode map i ⌝ }
 {
     map | (1u16 << (i - 1))
-}
-
-// The lowest node above i that a map names, or 17.
-pub fn next_node(map: u16, i: usize) -> usize
-    ensures { λ r. ⌜ r ≡ nextNode map i ⌝ }
-{
-    let mut p = i;
-    while p < 16 {
-        p += 1;
-        if stands(map, p) {
-            return p;
-        }
-    }
-    17
 }

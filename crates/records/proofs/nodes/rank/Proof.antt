@@ -1,10 +1,10 @@
 -- The named nodes up to j are counted in n.
-use mathlib.Core.Path.{_≡_, refl, sym, ap, _∙_}
+use mathlib.Core.Path.{_≡_, sym, ap, _∙_}
 use Prim.Native.Nat.{ℕ, _+_, _-_, _≤_}
 use native.Mathlib.Omega.{arith}
 use lib.ListN.{length}
 use Rattle.coding.specs.Nodes.{nodesOf}
-use Rattle.coding.proofs.NodesLaws.{nodes-few}
+use Rattle.coding.proofs.NodesLaws.{nodes-start, nodes-few}
 use Rattle.records.proofs.NodesLaws.{counted-more}
 use Rattle.records.proofs.nodes.rank.Statement.{statement}
 use Rattle.records.proofs.nodes.rank.Tie as tie
@@ -19,8 +19,7 @@ sub-end : tie.Need-sub-end Inv-loop μ-loop
 sub-end c = omega arith
 
 loop-holds : tie.Need-loop-holds Inv-loop μ-loop
-unfolding nodesOf
-loop-holds c = (omega arith, refl)
+loop-holds c = (omega arith, ap length (sym (nodes-start _)))
 
 bit-requires : tie.Need-bit-requires Inv-loop μ-loop
 bit-requires c κs = omega arith
