@@ -16,8 +16,7 @@ use Rattle.coding.specs.declared.answer.SplitAnswer.{SplitAnswer}
 use Rattle.coding.specs.Answer.{Outcome, splitOutcome}
 use Rattle.coding.specs.Split.{SplitEnd, written, split}
 use Rattle.coding.proofs.SplitLaws.{split-done}
-use Rattle.coding.specs.Digest.{digestInput, pieceDigest}
-use Rattle.coding.specs.Sha256.{sha256}
+use Rattle.coding.specs.Digest.{pieceDigest}
 use Rattle.coding.proofs.BytesLaws.{length-tabulate, getD-tabulate, tabulate-ext}
 use Rattle.coding.proofs.PageLaws.{some-eq}
 use Rattle.coding.proofs.DigestLaws.{length-digest}
@@ -159,11 +158,6 @@ length-front-put v room h =
     ∙ l
 
 -- ---- digests
-
--- what is digested is the piece
-pub digest-is : (v : List ℕ) (node : ℕ) (p : List ℕ) → sha256 p ≡ pieceDigest v node p
-unfolding pieceDigest digestInput
-digest-is v node p = refl
 
 module _ (n f : ℕ) (v : Version) (len : ℕ) (room : List ℕ) where
   abbrev digests : List (List ℕ)

@@ -12,6 +12,7 @@ use lib.Dec.{ltb}
 use lib.ListN.{length, getD, take, drop, set, replicate, length-append, length-drop, take-append-drop}
 use lib.Seq.{drop-at, drop-drop, drop-append-add, take-add, length-take-le, paste}
 use Rattle.coding.specs.Bytes.{Bytes, tabulate}
+use Rattle.coding.proofs.BytesLaws.{tabulate-none, tabulate-more}
 use Rattle.coding.proofs.Cases.{and-true}
 use Rattle.protocol.specs.declared.measures.Measures.{Measures}
 use Rattle.protocol.specs.declared.version.Version.{Version}
@@ -131,19 +132,27 @@ module _ (v : Version) where
     pub reserved : listed v (tabulate q g) ≡ false
 
   pub clear-none : (f g : ℕ → Version) → sameVersion v none ≡ false → Clear f g 0
-  unfolding tabulate listed
-  clear-none f g e = record { other = sym (same-listed v none) ∙ e; frozen = refl; reserved = refl }
+  unfolding listed
+  clear-none f g e =
+      record {
+        other = sym (same-listed v none) ∙ e;
+        frozen = ap (listed v) (tabulate-none f);
+        reserved = ap (listed v) (tabulate-none g);
+      }
 
   pub clear-more : (f g : ℕ → Version) (q : ℕ) → Clear f g q → (listed v (f q ∷ []) || listed v (g q ∷ [])) ≡ false → Clear f g (q + 1)
-  unfolding tabulate
   clear-more f g q c e =
       let x = or-false (listed v (f q ∷ [])) (listed v (g q ∷ [])) e in
-      let z : q + 1 ≡ suc q = omega arith in
       record {
         other = c .other;
-        frozen = ap (λ (k : ℕ). listed v (tabulate k f)) z ∙ listed-append v (tabulate q f) (f q ∷ []) ∙ ap₂ (λ (a b : Bool). a || b) (c .frozen) (x .0);
-        reserved = ap (λ (k : ℕ). listed v (tabulate k g)) z ∙ listed-append v (tabulate q g) (g q ∷ []) ∙ ap₂ (λ (a b : Bool). a || b) (c .reserved) (x .1);
+        frozen = listed-next f ∙ ap₂ (λ (a b : Bool). a || b) (c .frozen) (x .0);
+        reserved = listed-next g ∙ ap₂ (λ (a b : Bool). a || b) (c .reserved) (x .1);
       }
+    where
+      listed-next : (h : ℕ → Version) → listed v (tabulate (q + 1) h) ≡ (listed v (tabulate q h) || listed v (h q ∷ []))
+      listed-next h =
+          let z : q + 1 ≡ suc q = omega arith in
+          ap (λ (k : ℕ). listed v (tabulate k h)) z ∙ ap (listed v) (tabulate-more q h) ∙ listed-append v (tabulate q h) (h q ∷ [])
 
   module _ (s : Measures) (map : ℕ) (x : Retained) (new : Version) where
     abbrev stayed : Bool

@@ -9,7 +9,7 @@ use lib.Seq.{paste, drop-at, take-take, take-append-le, length-take-le}
 use Rattle.coding.specs.Bytes.{Bytes}
 use Rattle.coding.specs.Nodes.{nodesOf}
 use Rattle.coding.proofs.BytesLaws.{getD-tabulate}
-use Rattle.coding.proofs.NodesLaws.{nodes-skip, nodes-more, nodes-few, nodes-within}
+use Rattle.coding.proofs.NodesLaws.{nodes-start, nodes-skip, nodes-more, nodes-few, nodes-within}
 use Rattle.protocol.specs.declared.measures.Measures.{Measures}
 use Rattle.protocol.specs.Format.{writeNumber, writeMany}
 use Rattle.protocol.specs.Measures.{passes, pointerSize}
@@ -50,6 +50,10 @@ gathered n map t at i = writeMany (λ d. d) (each (λ j. getD (digestsIn n t at)
 module _ (n map : ℕ) (t : List ℕ) (at : ℕ) where
   abbrev digest : ℕ → List ℕ
   digest j = getD (digestsIn n t at) (j - 1) []
+
+  gathered-none : gathered n map t at 0 ≡ []
+  unfolding writeMany
+  gathered-none = ap (λ (l : List ℕ). writeMany (λ d. d) (each digest l)) (nodes-start map)
 
   gathered-skip : (i : ℕ) → stands map (i + 1) ≡ false → gathered n map t at (i + 1) ≡ gathered n map t at i
   gathered-skip i e = ap (λ (l : List ℕ). writeMany (λ d. d) (each digest l)) (nodes-skip map i (sym (bit-of map i) ∙ e))
@@ -93,13 +97,12 @@ pub record Gathered (n map : ℕ) (t : List ℕ) (at : ℕ) (u : List ℕ) (from
 
 module _ (n map : ℕ) (t : List ℕ) (at : ℕ) (ht : at + 7 + 32 * n ≤ length t) where
   pub walk-none : Gathered n map t at t (at + 7) (at + 7) 0
-  unfolding writeMany nodesOf
   walk-none =
       record {
         within = omega arith;
         source = omega arith;
-        target = omega arith;
-        moved = splice-self t (at + 7) 0 (omega arith);
+        target = omega (arith, ap length (gathered-none n map t at));
+        moved = splice-self t (at + 7) 0 (omega arith) ∙ ap (splice t (at + 7)) (sym (gathered-none n map t at));
       }
 
   module _ (u : List ℕ) (from to i : ℕ) (w : Gathered n map t at u from to i) where

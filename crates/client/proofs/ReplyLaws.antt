@@ -16,6 +16,7 @@ use Rattle.coding.specs.Join.{JoinEnd, join}
 use Rattle.coding.specs.Nodes.{all, nodesOf}
 use Rattle.coding.proofs.BytesLaws.{length-tabulate, getD-tabulate, tabulate-ext}
 use Rattle.coding.proofs.Cases.{and-true}
+use Rattle.coding.proofs.RefusalLaws.{join-kept}
 use Rattle.protocol.specs.declared.measures.Measures.{Measures}
 use Rattle.protocol.specs.declared.version.Version.{Version}
 use Rattle.protocol.specs.Format.{Read, writeNumber, writeMany, writeArea}
@@ -42,7 +43,6 @@ use Rattle.client.specs.Reply.{repliedEnd, mapsAt, lengthsAt, standingAt
 use Rattle.client.proofs.ClientFormLaws.{sizes}
 use Rattle.client.proofs.ClientRecordLaws.{Shown, written-parts, area-length, idle-work, turned-written}
 use Rattle.client.proofs.GateLaws.{work-within, Opened, found, found-reads, found-shows}
-use Rattle.client.proofs.JoinWithLaws.{refused-kept}
 use Rattle.client.proofs.MatchLaws.{rank-below, digest-found}
 use Rattle.records.proofs.PlaceLaws.{number-there, version-there}
 use Rattle.records.proofs.SpliceLaws.{paste-all, splice-parts, drop-past, paste-past, many-part, many-put}
@@ -615,7 +615,7 @@ module _ (s : Measures) (p : Phase) (area : List ℕ) (opened : Opened s p area)
               kept-out : z .out ≡ out
               kept-out =
                   ap (λ (x : JoinEnd). x .out) joined
-                  ∙ refused-kept (s .n) (s .k) (s .f) (withNode (held .matching) i) (areas s all-pieces) (lengths all-pieces) out r (sym (ap (λ (x : JoinEnd). x .outcome) joined) ∙ g)
+                  ∙ join-kept (s .n) (s .k) (s .f) (withNode (held .matching) i) (areas s all-pieces) (lengths all-pieces) out r (sym (ap (λ (x : JoinEnd). x .outcome) joined) ∙ g)
 
       -- as the code reads it
       module _ (x : Standing) (xe : x ≡ standingAt area (workAt s) (mapsAt s)) where

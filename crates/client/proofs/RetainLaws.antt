@@ -8,7 +8,7 @@ use native.Mathlib.Omega.{arith}
 use lib.ListN.{length, getD, take, drop, set, replicate, length-append, length-set, length-replicate, take-append-drop}
 use lib.Seq.{paste, take-at, drop-at, take-all, drop-cons, set-at, append-snoc, drop-length, length-take-le}
 use Rattle.coding.specs.Bytes.{tabulate}
-use Rattle.coding.proofs.BytesLaws.{length-tabulate}
+use Rattle.coding.proofs.BytesLaws.{tabulate-none, tabulate-more, length-tabulate}
 use Rattle.protocol.specs.declared.measures.Measures.{Measures}
 use Rattle.protocol.specs.declared.version.ReadingIndex.{ReadingIndex}
 use Rattle.protocol.specs.declared.version.Version.{Version}
@@ -209,14 +209,13 @@ module _ {A : Type 0} (st : ℕ → Bool) (f : ℕ → A) (d : A) (l : List A) w
   upTo i = tabulate i chosen ++ drop i l
 
   up-none : l ≡ upTo 0
-  unfolding tabulate
-  up-none = refl
+  up-none = ap (λ (u : List A). u ++ l) (sym (tabulate-none chosen))
 
   up-next : (i : ℕ) (a : A) → a ≡ chosen i → tabulate i chosen ++ (a ∷ drop (suc i) l) ≡ upTo (i + 1)
-  unfolding tabulate
   up-next i a e =
       let n : suc i ≡ i + 1 = omega arith in
-      ap (λ (x : A). tabulate i chosen ++ (x ∷ drop (suc i) l)) e ∙ sym (append-snoc (tabulate i chosen) (chosen i) (drop (suc i) l)) ∙ ap upTo n
+      ap (λ (x : A). tabulate i chosen ++ (x ∷ drop (suc i) l)) e ∙ sym (append-snoc (tabulate i chosen) (chosen i) (drop (suc i) l))
+      ∙ ap (λ (u : List A). u ++ drop (suc i) l) (sym (tabulate-more i chosen)) ∙ ap upTo n
 
   module _ (i : ℕ) (h : i < length l) where
     up-cons : upTo i ≡ tabulate i chosen ++ (getD l i d ∷ drop (suc i) l)

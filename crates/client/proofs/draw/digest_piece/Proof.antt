@@ -1,6 +1,6 @@
 use borrow.Author.Needs.{needs}
 use mathlib.Core.Path.{_∙_}
-use Rattle.client.proofs.DrawLaws.{digest-is}
+use Rattle.coding.proofs.DigestLaws.{digest-is}
 use Rattle.client.proofs.draw.digest_piece.Statement.{statement}
 use Rattle.client.proofs.draw.digest_piece.Tie as tie
 
