@@ -1,0 +1,357 @@
+#!/usr/bin/env python3
+"""An independent account of document 01's pieces, split and join, and the lines that `pieces_vectors` is held to.
+
+    pieces.py FOLDER    writes FOLDER/stdout, a line for each case
+
+Written from document 01 and, for what it leaves open, docs/DECISIONS.md (1, 3, 5, 6, 8): products by shifts and reduction modulo hex 11D, joining by
+Lagrange's form, no tables of powers and no grid. Its author had read the program `pieces_vectors`, for its cases and the form of its lines, and
+not the code or the definitions that it calls. What the lines mean stands at the top of that program. A room or an output is at first `poison`; an
+absent piece has a length that no piece may have."""
+import sys
+
+
+# The field.
+
+def times_two(a):
+    a <<= 1
+    return a ^ 0x11D if a & 0x100 else a
+
+
+def product(a, b):
+    p = 0
+    while b:
+        if b & 1:
+            p ^= a
+        a, b = times_two(a), b >> 1
+    return p
+
+
+TIMES = [[product(a, b) for b in range(256)] for a in range(256)]
+INVERSE = [0] + [TIMES[a].index(1) for a in range(1, 256)]
+
+
+# Pieces and frames.
+
+def proper(n, k, f):
+    return 1 <= n <= 16 and 1 <= k <= n and 1 <= f <= 4096 and k * f >= 4
+
+
+def cut(k, frame, i):
+    """Piece i of a frame of a multiple of k bytes."""
+    powers = [1]
+    while len(powers) < k:
+        powers.append(product(powers[-1], i))
+    piece = bytearray(len(frame) // k)
+    for r, power in enumerate(powers):
+        row = TIMES[power]
+        for j in range(len(piece)):
+            piece[j] ^= row[frame[j * k + r]]
+    return bytes(piece)
+
+
+def framed(k, page):
+    frame = len(page).to_bytes(4, 'big') + page
+    return frame + bytes(-len(frame) % k)
+
+
+def weights(nodes):
+    """For each node the polynomial that is 1 there and 0 at the others, lowest power first."""
+    found = []
+    for x in nodes:
+        polynomial, below = [1], 1
+        for y in nodes:
+            if y != x:
+                higher = [0] + polynomial
+                lower = [product(y, c) for c in polynomial] + [0]
+                polynomial = [a ^ b for a, b in zip(higher, lower)]
+                below = product(below, x ^ y)
+        found.append([product(INVERSE[below], c) for c in polynomial])
+    return found
+
+
+def interpolated(nodes, pieces):
+    """The frame that has these pieces at as many nodes."""
+    k = len(nodes)
+    frame = bytearray(k * len(pieces[0]))
+    for polynomial, piece in zip(weights(nodes), pieces):
+        for r in range(k):
+            row = TIMES[polynomial[r]]
+            for j, b in enumerate(piece):
+                frame[j * k + r] ^= row[b]
+    return bytes(frame)
+
+
+def unframed(k, frame):
+    """The page, or None if the frame has no true length, not the fewest zeros, or another filling."""
+    if len(frame) < 4:
+        return None
+    length, rest = int.from_bytes(frame[:4], 'big'), frame[4:]
+    if length > len(rest) or len(rest) - length >= k or any(rest[length:]):
+        return None
+    return rest[:length]
+
+
+# The two calls: a refusal's number or 0, the length answered, and what was lent after the call.
+
+def split(n, k, f, page, room):
+    if not proper(n, k, f):
+        return 1, 0, room
+    if len(room) < n * f:
+        return 2, 0, room
+    if len(page) > k * f - 4:
+        return 6, 0, room
+    frame = framed(k, page)
+    length = len(frame) // k
+    for i in range(1, n + 1):
+        at = (i - 1) * f
+        room = room[:at] + cut(k, frame, i) + room[at + length:]
+    return 0, length, room
+
+
+def join(n, k, f, nodes, room, lengths, out):
+    if not proper(n, k, f):
+        return 1, 0, out
+    if len(room) < n * f or len(lengths) < n or len(out) < k * f - 4:
+        return 2, 0, out
+    present = [i for i in range(1, 17) if nodes >> (i - 1) & 1]
+    if any(i > n for i in present):
+        return 4, 0, out
+    had = {lengths[i - 1] for i in present}
+    if len(had) > 1 or any(not 1 <= l <= f for l in had):
+        return 4, 0, out
+    if len(present) < k:
+        return 9, 0, out
+    lowest, length = present[:k], had.pop()
+    page = unframed(k, interpolated(lowest, [room[(i - 1) * f:(i - 1) * f + length] for i in lowest]))
+    if page is None:
+        return 4, 0, out
+    return 0, len(page), page + out[len(page):]
+
+
+# What the cases work on.
+
+def checksum(data):
+    h = 0
+    for b in data:
+        h = (h * 257 + b + 1) % 2 ** 32
+    return h
+
+
+def poison(n):
+    return bytes((i % 256 * 13 + 170) % 256 for i in range(n))
+
+
+def some_page(n):
+    return bytes((i % 256 * 7 + i // 256 % 256 + 3) % 256 for i in range(n))
+
+
+def spoiled(n, k, f, nodes, room):
+    """Every byte is changed, but for those in the areas of the k lowest nodes of the map."""
+    keep = [i for i in range(n) if nodes >> i & 1][:k]
+    return bytes(b if at // f in keep or at // f >= n else b ^ 255 for at, b in enumerate(room))
+
+
+def lengths_of(nodes, length):
+    return [length if nodes >> i & 1 else 65535 for i in range(16)]
+
+
+class Lines:
+    def __init__(self):
+        self.lines = []
+
+    def split(self, n, k, f, page, size):
+        number, length, room = split(n, k, f, page, poison(size))
+        line = 'split %d %d %d %d %d:' % (n, k, f, len(page), size)
+        if number:
+            line += ' refused %d' % number
+        else:
+            line += ' pieces %d' % length
+            if len(page) < 18:
+                for at in range(0, size, f):
+                    line += ' ' + room[at:at + f][:length].hex()
+        self.lines.append(line + ' sum %d' % checksum(room))
+        return room
+
+    def join(self, n, k, f, nodes, room, lengths, size):
+        number, length, out = join(n, k, f, nodes, room, lengths, poison(size))
+        line = 'join %d %d %d %04x %d %d %d:' % (n, k, f, nodes, len(room), len(lengths), size)
+        if number:
+            line += ' refused %d' % number
+        else:
+            line += ' page %d' % length
+            if length < 18:
+                line += ' ' + out[:length].hex()
+        self.lines.append(line + ' %d sum %d' % (checksum(room), checksum(out)))
+        return out
+
+    def rejoin(self, n, k, length, nodes):
+        """Of the pieces of a page only those stay whole that are to be used."""
+        _, size, room = split(n, k, 40, some_page(length), poison(n * 40))
+        self.join(n, k, 40, nodes, spoiled(n, k, 40, nodes, room), lengths_of(nodes, size)[:n], k * 40 - 4)
+
+
+class Digits:
+    """A line that has a digit for each call, and one sum over what was lent in all of them."""
+
+    def __init__(self, head):
+        self.text, self.sum = head, 0
+
+    def put(self, number, data):
+        self.text += str(number)
+        self.sum = (self.sum * 31 + checksum(data)) % 2 ** 32
+
+    def split(self, n, k, f, length, size):
+        number, _, room = split(n, k, f, some_page(length), poison(size))
+        self.put(number, room)
+
+    def join(self, n, k, f, nodes, room, lengths, size):
+        number, _, out = join(n, k, f, nodes, room, lengths, poison(size))
+        self.put(number, out)
+
+    def joins(self, n, k, f, nodes, length, lengths, size, out):
+        """The pieces of a page; room, lengths and output as long as is needed, and each of them one shorter."""
+        self.text += ' '
+        _, _, room = split(n, k, f, some_page(length), poison(4100))
+        for i in range(8):
+            self.join(n, k, f, nodes, room[:less(size, i % 2)], lengths[:less(n, i // 2 % 2)], less(out, i // 4))
+
+    def line(self):
+        return '%s sum %d' % (self.text, self.sum)
+
+
+def less(x, yes):
+    return max(x - yes, 0)
+
+
+CODES = [(1, 1), (3, 1), (3, 2), (4, 2), (5, 3), (7, 4), (16, 8), (16, 16)]
+
+
+def page_lengths(k):
+    """Where a column, or a block of 16 columns, ends."""
+    return [0, 1, k - 1, k, k + 1, 15, 16, 17, 33, 16 * k - 5, 16 * k - 4, 16 * k - 3, 32 * k - 4, 32 * k - 3]
+
+
+def highest(n, k):
+    return 2 ** n - 2 ** (n - k)
+
+
+def splits(v):
+    # document 01's edges
+    for k, page in [(2, '030a1118'), (2, '030a11181f'), (2, ''), (2, '41'), (3, '4142')]:
+        v.split(4, k, 4, bytes.fromhex(page), 16)
+    for n, k in CODES:
+        for length in page_lengths(k):
+            v.split(n, k, 40, some_page(length), n * 40)
+        v.split(n, k, 5, some_page(k * 5 - 4), n * 5)
+        v.split(n, k, 5, some_page(k * 5 - 3), n * 5)
+        v.split(n, k, 7, some_page(3), n * 7 + 5)
+
+
+def joins(v):
+    for n, k in [(3, 1), (4, 2), (5, 3)]:
+        for nodes in range(2 ** n):
+            v.rejoin(n, k, 17, nodes)
+    for n, k, maps in [
+            (7, 4, [0x0F, 0x78, 0x55, 0x36, 0x6B, 0x7F, 0x47]),
+            (16, 8, [0x00FF, 0xFF00, 0x5555, 0xAAAA, 0x8F17, 0xFFFF, 0xF6D2]), (16, 16, [0xFFFF]), (1, 1, [0x0001]),
+            # too few nodes, or one that is not there
+            (7, 4, [0x07, 0x80, 0x8F, 0xFF0F]), (16, 8, [0x8000, 0x7F00]), (16, 16, [0x7FFF, 0xFFFE]), (1, 1, [0x0000, 0x8000])]:
+        for nodes in maps:
+            v.rejoin(n, k, 33, nodes)
+    for n, k in CODES:
+        for length in page_lengths(k):
+            v.rejoin(n, k, length, highest(n, k))
+    for n in range(1, 17):
+        for k in range(1, n + 1):
+            v.rejoin(n, k, 29, highest(n, k))
+    # each byte of a room is changed in turn
+    for at in range(20):
+        for n, k, f, length, nodes in [(4, 2, 5, 5, 0x0005), (5, 3, 4, 7, 0x001C)]:
+            _, size, room = split(n, k, f, some_page(length), poison(20))
+            v.join(n, k, f, nodes, room[:at] + bytes([room[at] ^ 0x5A]) + room[at + 1:], [size] * 16, 20)
+
+
+def measures(v):
+    counts = [0, 1, 2, 3, 4, 15, 16, 17, 2 ** 32, 2 ** 63, 2 ** 64 - 1]
+    widths = [0, 1, 2, 3, 4, 8, 4096, 4097, 2 ** 62, 2 ** 63, 2 ** 64 - 1]
+    for n in counts:
+        for f in widths:
+            d = Digits('measures %d %d:' % (n, f))
+            for k in counts:
+                d.text += ' '
+                d.split(n, k, f, 200, 0)
+                d.split(n, k, f, 200, 128)
+                d.split(n, k, f, 0, 128)
+                d.join(n, k, f, 0xFFFF, bytes(128), [], 0)
+                d.join(n, k, f, 0xFFFF, bytes(128), [0] * 16, 128)
+                d.join(n, k, f, 0, bytes(128), [0] * 16, 128)
+            v.lines.append(d.line())
+
+
+def refusals(v):
+    # the fullest page and one byte more, in a room of the needed length and in one byte less; then it is joined
+    for n, k, f, nodes in [(1, 1, 4, 0x0001), (2, 2, 2, 0x0003), (16, 16, 1, 0xFFFF), (16, 1, 9, 0x8000), (4, 2, 8, 0x000F), (5, 3, 3, 0x0015),
+                           (1, 1, 4096, 0x0001)]:
+        d, size, full = Digits('fit %d %d %d: ' % (n, k, f)), n * f, k * f - 4
+        for i in range(4):
+            d.split(n, k, f, full + i % 2, less(size, i // 2))
+        d.joins(n, k, f, nodes, full, [f] * 16, size, full)
+        v.lines.append(d.line())
+    # every order of the causes of a join's refusal, at pieces of 3 bytes: all lengths another, then one of them
+    wrong = [[length] * 16 for length in (3, 0, 1, 2, 4, 8, 9, 65535)]
+    for i in range(4):
+        wrong += [[3] * i + [length] + [3] * (15 - i) for length in (0, 2, 4, 8, 9)]
+    for nodes in (0x0007, 0x000E, 0x000F, 0x0000, 0x0001, 0x000A, 0x0010, 0x0013, 0x0017, 0x8007):
+        d = Digits('order %04x:' % nodes)
+        for lengths in wrong:
+            d.joins(4, 3, 8, nodes, 4, lengths, 32, 20)
+        v.lines.append(d.line())
+
+
+# Frames that no split makes, each with the k that its length in bytes is a multiple of.
+FRAMES = [
+    # the length: true, or more than there is
+    (1, '00000002 4142'), (1, '00000003 4142'), (2, '00000004 41424344'), (2, '00000005 41424344'),
+    (3, '00000005 4142434445'), (3, '00000006 4142434445'),
+    # each byte of the length counts
+    (1, '01000002 4142'), (1, '00010002 4142'), (1, '00000102 4142'), (1, 'ffffffff 4142'), (2, '80000004 41424344'),
+    # fewer than k bytes of filling, all zero or not
+    (2, '00000003 41424300'), (2, '00000003 41424301'), (2, '00000003 41424380'), (3, '00000004 4142434400'), (3, '00000004 4142434444'),
+    (3, '00000003 4142430000'), (3, '00000003 4142430100'), (3, '00000003 4142430001'),
+    # k bytes of filling, or more
+    (1, '00000001 4100'), (1, '00000000 0000'), (2, '00000002 41420000'), (2, '00000001 41000000'), (3, '00000002 4142000000'),
+    # the shortest, and those of fewer than 4 bytes
+    (1, '00000000'), (1, '00000001'), (1, '000000'), (1, '00'), (2, '00000000'), (2, '00000001'), (2, '0000'),
+    (3, '00000000 0000'), (3, '00000000 0100'), (3, '000000')]
+
+
+def frames(v):
+    for k, frame in FRAMES:
+        # of three the lowest node is absent; what no piece fills is hex EE
+        n, f, nodes = [(1, 6, [1]), (2, 4, [1, 2]), (4, 3, [2, 3, 4])][k - 1]
+        frame = bytes.fromhex(frame)
+        room = b''.join((cut(k, frame, i) if i in nodes else b'').ljust(f, b'\xee') for i in range(1, n + 1))
+        v.join(n, k, f, sum(1 << (i - 1) for i in nodes), room, [len(frame) // k] * 16, 16)
+
+
+def large(v):
+    """The largest areas: 16 nodes and pieces of 4,096 bytes."""
+    for k, maps in [(8, [0xFF00, 0xFFFF, 0xB5A6]), (16, [0xFFFF])]:
+        page = some_page(k * 4096 - 4)
+        room = v.split(16, k, 4096, page, 65536)
+        for nodes in maps:
+            if nodes == 0xB5A6:
+                room = spoiled(16, k, 4096, nodes, room)
+            out = v.join(16, k, 4096, nodes, room, [4096] * 16, 65532)
+            v.lines.append('equal' if out[:len(page)] == page else 'different')
+
+
+def main(folder):
+    v = Lines()
+    for part in (splits, joins, measures, refusals, frames, large):
+        part(v)
+    open(folder + '/stdout', 'w').write('\n'.join(v.lines) + '\n')
+
+
+if __name__ == '__main__':
+    main(sys.argv[1])
