@@ -4,11 +4,10 @@
     reference.py FOLDER    writes FOLDER/stdin (calls, in binary) and FOLDER/stdout (what each must print)
 
 Written from document 01, with the tags of messages and the node's room from docs/DECISIONS.md (21, 31), by the hand that wrote the definitions;
-it shares no code or text with them. A table of 65,536 bytes, at first `poison`, is kept from call to call. A call in stdin, high bytes first: kind (1 byte; 6
-puts the message at the table's front and calls nothing), whether the table after it is kept (1), m n k t F and a number (2 each), the length
-lent of the table and of a room filled with `poison` (4 each), a place of the table (4) and what its byte is changed by (1; exclusive or), the
-message's length (2) and bytes. A line of stdout: the kind, the refusal's number or the bytes answered, and the sums of table and room after the
-call."""
+it shares no code or text with them. A table of 65,536 bytes, at first `poison`, is kept from call to call. A call in stdin, high bytes first: kind
+(1 byte), whether the table after it is kept (1), m n k t F and a number (2 each), the length lent of the table and of a room filled with `poison`
+(4 each), a place of the table (4) and what its byte is changed by (1; exclusive or), the message's length (2) and bytes. A line of stdout: the
+kind, the refusal's number or the bytes answered, and the sums of table and room after the call."""
 import random
 import struct
 import sys
@@ -271,9 +270,6 @@ class Vectors:
 
     def add(self, kind, s, own, length, message=b'', room=0, damage=(0, 0), keep=False):
         self.calls.append(struct.pack('>BB6HIIIBH', kind, keep, s.m, s.n, s.k, s.t, s.f, own, length, room, damage[0], damage[1], len(message)) + message)
-        if kind == 6:
-            self.table = message + self.table[len(message):]
-            return
         at, change = damage
         whole = self.table[:at] + bytes([self.table[at] ^ change]) + self.table[at + 1:]
         table, room = whole[:length], poison(room)
@@ -355,7 +351,7 @@ def store(q, c, piece):
 
 
 def node_vectors(v, r):
-    for s in [Measures(1, 1, 1, 0, 4), Measures(2, 4, 2, 1, 8), Measures(3, 5, 1, 2, 20), Measures(2, 16, 2, 7, 300)]:
+    for s in [Measures(1, 1, 1, 0, 4), Measures(2, 4, 2, 1, 8), Measures(3, 5, 1, 2, 20), Measures(2, 16, 2, 7, 300), Measures(8, 16, 8, 4, 400)]:
         size, room = s.table(), 7 + s.f + 3
         for n in (size - 1, size, size + 3):
             v.add(4, s, 0, n)
@@ -366,7 +362,8 @@ def node_vectors(v, r):
         v.add(5, s, 0, size - 1, b'\7', room)
         v.add(5, s, 0, size, b'\7', room)
         # a table filled to its end in some order: before the first, between, after the last
-        versions = [(q, c) for q in (1, 2, 255, 256, 65536, 2 ** 24, 2 ** 32 - 2, 2 ** 32 - 1, 7, 8, 9, 10) for c in range(s.m)][:s.places()]
+        sequences = (1, 2, 255, 256, 65536, 2 ** 24, 2 ** 32 - 2, 2 ** 32 - 1, 7, 8, 9, 10, 11, 12, 13, 14)
+        versions = [(q, c) for q in sequences for c in range(s.m)][:s.places()]
         r.shuffle(versions)
         for q, c in versions:
             v.add(5, s, 1, size + 2, store(q, c, r.randbytes(r.choice([1, s.f, r.randint(1, s.f)]))), room, keep=True)
@@ -386,8 +383,14 @@ def node_vectors(v, r):
         good = [store(5, 0, b'abc'[:s.f]), b'\2' + struct.pack('>IB', 5, 0), b'\3' + version_list([(5, 0), (6, 0)])]
         for message in [b'', b'\0', b'\4', b'\5', b'\6', b'\1', b'\2', store(5, 0, b''), store(5, 0, bytes(s.f + 1)), store(5, 0, bytes(s.f)), store(0, 0, b'x'),
                         store(5, s.m, b'x'), b'\3' + version_list([(5, 0), (5, 0)]), b'\3' + version_list([(6, 0), (5, 0)]), b'\3' + version_list([(5, s.m)]),
-                        b'\2' + struct.pack('>IB', 5, 0) + b'\0'] + [g[:-1] for g in good]:
+                        b'\2' + struct.pack('>IB', 5, 0) + b'\0', b'\2' + struct.pack('>IB', 5, s.m)] + [g[:-1] for g in good]:
             v.add(5, s, 1, size, message, room)
+        # sequence 0, and nothing else that is wrong; the last two have it at none's version
+        for c in (0, s.m - 1):
+            for message in [store(0, c, b'x'), b'\2' + struct.pack('>IB', 0, c), b'\3' + version_list([(0, c)]), b'\3' + version_list([(0, c), (5, 0)])]:
+                v.add(5, s, 1, size, message, room)
+        v.add(5, s, 1, size, b'\2' + struct.pack('>IB', 0, 255), room)
+        v.add(5, s, 1, size, b'\3' + version_list([(0, 255)]), room)
         for g in good:
             for d in damages(r, len(g), 5):
                 v.add(5, s, 1, size, spoiled(g, d), room)
@@ -404,10 +407,45 @@ def node_vectors(v, r):
         v.add(5, Measures(m, n, k, t, f), 99, 0)
 
 
+def pointer_vectors(v, r):
+    """Each clause of a pointer's form is broken alone: in an update's record, then in the rows."""
+    for s in [Measures(3, 4, 2, 1, 8), Measures(2, 12, 3, 2, 4), Measures(1, 15, 1, 0, 4)]:
+        size, bits = s.directory(), s.t + s.k
+
+        def pointer(sequence, client, nodes):
+            return (sequence, client, sum(1 << (i - 1) for i in nodes), [r.randbytes(32) for _ in nodes])
+
+        # all pointers of all rows name the highest nodes
+        named = range(s.n - bits + 1, s.n + 1)
+        good = [[pointer(q + 1, q % s.m, named)] + [pointer(q + 2, 0, named) for _ in range(s.m)] for q in range(s.m)]
+        v.add(1, s, 0, size, keep=True)
+        for own in range(s.m):
+            v.add(2, s, own, size, write_fields([good[own][:1], good[own][1:], [0] * s.m, [0]]), keep=True)
+        lowest = list(range(1, bits))
+        tried = [pointer(7, 0, lowest + [i]) for i in range(bits, 17)]
+        tried += [pointer(0, 0, named), pointer(0, 255, named), pointer(7, s.m, named), pointer(7, 255, named), pointer(7, 0, lowest),
+                  pointer(7, 0, lowest + [s.n - 1, s.n]), pointer(7, 0, []), pointer(0, 0, []), pointer(7, 255, []), pointer(0, 255, [])]
+        for p in tried:
+            for at in range(s.m + 1):
+                pointers = [p if i == at else x for i, x in enumerate(good[0])]
+                v.add(2, s, 0, size, write_fields([pointers[:1], pointers[1:], None, None]))
+        # in a row node n is exchanged for another that the same byte can name, below it or above
+        byte = range(1, 9) if s.n < 9 else range(9, 17)
+        for own in range(s.m):
+            for at in range(s.m + 1):
+                place = own * s.row() + 1 + at * (7 + 32 * bits) + (6 if s.n < 9 else 5)
+                for i in byte:
+                    if i not in named:
+                        change = (1 << (s.n - byte[0])) ^ (1 << (i - byte[0]))
+                        v.add(2, s, s.m - 1, size, b'\0', damage=(place, change))
+                        v.add(3, s, 0, size, room=size, damage=(place, change))
+
+
 def main(folder):
     v, r = Vectors(), random.Random(1)
     directory_vectors(v, r)
     node_vectors(v, r)
+    pointer_vectors(v, random.Random(2))
     open(folder + '/stdin', 'wb').write(b''.join(v.calls))
     open(folder + '/stdout', 'w').write('\n'.join(v.lines) + '\n')
     kinds = {}

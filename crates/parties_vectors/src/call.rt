@@ -90,10 +90,6 @@ fn lend(
 }
 
 fn carry(h: Call, table: &mut [u8], before: &mut [u8], message: &[u8], room: &mut [u8]) -> bool {
-    if h.kind == 6 {
-        put(table, message);
-        return true;
-    }
     put(before, table);
     damage(table, h.place, h.change);
     let done = lend(h, h.table, h.room, table, message, room);
