@@ -1,4 +1,5 @@
 // One call, and its line.
+use crate::events;
 use crate::input;
 use crate::input::Call;
 use crate::space;
@@ -79,7 +80,7 @@ fn print(kind: u8, t: Turned, area: &[u8], room: &[u8], out: &[u8]) {
     vectors::word(b"\n");
 }
 
-fn turned(
+fn by_turn(
     h: Call,
     p: Phase,
     area: &mut [u8],
@@ -103,6 +104,47 @@ fn turned(
         return turn::scan_answer(p, h.measures, h.own, area, bytes, room);
     }
     turn::message(p, h.measures, h.own, h.node, area, bytes, room, out)
+}
+
+fn by_event(
+    h: Call,
+    p: Phase,
+    area: &mut [u8],
+    bytes: &[u8],
+    room: &mut [u8],
+    out: &mut [u8],
+) -> Turned {
+    if h.kind == 1 {
+        return events::fresh(p, h.measures, area);
+    }
+    if h.kind == 2 {
+        return events::deposit(p, h.measures, h.own, area, bytes);
+    }
+    if h.kind == 3 {
+        return events::read(p, h.measures, h.own, area, room);
+    }
+    if h.kind == 4 {
+        return events::updated(p, h.measures, h.own, area, room);
+    }
+    if h.kind == 5 {
+        return events::scanned(p, h.measures, h.own, area, bytes, room);
+    }
+    events::receive(p, h.measures, h.own, h.node, area, bytes, room, out)
+}
+
+// The phase is lent if the record is kept, and goes by value if not.
+fn turned(
+    h: Call,
+    p: Phase,
+    area: &mut [u8],
+    bytes: &[u8],
+    room: &mut [u8],
+    out: &mut [u8],
+) -> Turned {
+    if h.keep {
+        return by_event(h, p, area, bytes, room, out);
+    }
+    by_turn(h, p, area, bytes, room, out)
 }
 
 fn lent(
