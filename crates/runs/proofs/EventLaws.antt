@@ -26,8 +26,9 @@ use Rattle.runs.specs.declared.answer.Happened.{Happened}
 use Rattle.runs.specs.declared.event.Readiness.{Readiness}
 use Rattle.runs.specs.declared.parcels.Found.{Found}
 use Rattle.runs.specs.Parcels.{Parcel, bodies, FindsAt, Finds, Within, Appended, Removed}
-use Rattle.runs.specs.Event.{Capable, Readies, body, tagged, Serves}
-use Rattle.runs.specs.Happens.{needed, liesIn, honestIn, Happens}
+use Rattle.runs.specs.Acts.{Lent, body, tagged, Serves}
+use Rattle.runs.specs.Event.{Readies}
+use Rattle.runs.specs.Happens.{Capable, needed, liesIn, honestIn, Happens}
 
 -- ---- dishonest nodes
 
@@ -128,11 +129,10 @@ serves-served kind c i front room post used at end after a len e part left to mi
 pub ready-yes : (s : Measures) (c i post used room : ℕ) (r : Readiness) → Readies s c i post used room r → r ≡ Readiness.Yes → Capable s c i post used room
 ready-yes s c i post used room r h e = rw e at h
 
-pub ready-no : (s : Measures) (honest : ℕ → Bool) (e : Event) (c i room used : ℕ) (memory post out : List ℕ) (r : Readiness)
-    → Readies s c i (length post) used room r → (x : Refusal) → r ≡ Readiness.No x
-    → Happens s honest e c i room used (record { memory = memory; post = post; out = out }) (record { memory = memory; post = post; out = out })
-    (record { used = used; what = Happened.Refused x })
-ready-no s honest e c i room used memory post out r h x q = Happens.unready x (rw q at h) refl refl refl
+pub ready-no : {s : Measures} {honest : ℕ → Bool} {e : Event} {c i used : ℕ} {x : Lent} {r : Readiness}
+    → Readies s c i (length (x .post)) used (length (x .room)) r → (n : Refusal) → r ≡ Readiness.No n
+    → Happens s honest e c i used x x (record { used = used; what = Happened.Refused n })
+ready-no h n q = Happens.unready n (rw q at h) refl
 
 -- what a client's part of an event asks
 pub capable-first : (s : Measures) (c i post used room room′ : ℕ) → Capable s c i post used room → room′ ≡ room → Capable s c 1 post used room′

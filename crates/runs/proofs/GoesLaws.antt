@@ -36,8 +36,8 @@ use Rattle.runs.specs.declared.answer.Turn.{Turn}
 use Rattle.runs.specs.Parcels.{Parcel, properAll, Listed, keyed, bodies, FindsAt, Removed}
 use Rattle.runs.specs.Sent.{sent}
 use Rattle.runs.specs.UnderWay.{callOf, returnOf, UnderWay, After}
-use Rattle.runs.specs.Happens.{answerOf, outDelivered, outAfter, Goes}
-use Rattle.runs.specs.Event.{Capable, body, tagged, Sends, Takes, Serves}
+use Rattle.runs.specs.Happens.{Capable, answerOf, outDelivered, outAfter, roomCarried, roomHanded, roomBrought, roomDelivered, roomAfter, Goes}
+use Rattle.runs.specs.Acts.{body, behind, tagged, Sends, Takes, Serves}
 use Rattle.runs.proofs.PostLaws.{bodies-append}
 use Rattle.runs.proofs.ParcelLaws.{body-keyed, body-other, found-bodies, other-bodies, keyed-by, not-kind, not-client, not-two}
 use Rattle.runs.proofs.ParcelLaws.{proper-by, proper-one, listed-appended, listed-removed, found-body}
@@ -274,7 +274,7 @@ module _ (q : List Parcel) (st : State) (post : List ℕ) (used : ℕ) (l : List
           })
 
 -- a start of a deposit sends nothing from a room
-deposit-room : (s : Measures) (c : ℕ) (b page : List ℕ) → startDeposit s c b page .room ≡ []
+pub deposit-room : (s : Measures) (c : ℕ) (b page : List ℕ) → startDeposit s c b page .room ≡ []
 unfolding startDeposit beginDeposit
 deposit-room s c b page = go (passes s) (leb (clientSize s) (length b)) (ltb c (s .m)) (readClient s b)
   where
@@ -323,7 +323,7 @@ drop-one (suc n) (x ∷ l) = ap (λ (k : ℕ). take k l) (suc-sub-one n)
     suc-sub-one : (n : ℕ) → n ≡ suc n - 1
     suc-sub-one n = omega arith
 
-behind-tag : (post : List ℕ) (at end : ℕ) → drop 1 (body post at end) ≡ take (end - (at + 8)) (drop (at + 8) post)
+behind-tag : (post : List ℕ) (at end : ℕ) → drop 1 (body post at end) ≡ behind post at end
 behind-tag post at end =
     let m : end - (at + 7) - 1 ≡ end - (at + 8) = omega arith in
     let n : at + 7 + 1 ≡ at + 8 = omega arith in
@@ -366,15 +366,17 @@ module _ (s : Measures) (ok : passes s ≡ true) (honest : ℕ → Bool) (es : L
         underWay = subst⁻¹ (UnderWay q) (run-last s honest es e (fresh s)) u;
       }
 
-  goes-by : (e : Event) (r : Result) (turn : Turn) (memory′ after out : List ℕ) → carryOut s honest e (run s honest es (fresh s)) ≡ r
-      → Handed s honest e (run s honest es (fresh s)) memory memory′ → Outcome r turn after → out ≡ outAfter s honest e (run s honest es (fresh s))
-      → Goes s honest es e turn memory′ after out
-  goes-by e r turn memory′ after out k g o w =
+  goes-by : (e : Event) (r : Result) (turn : Turn) (memory′ after room out : List ℕ) → carryOut s honest e (run s honest es (fresh s)) ≡ r
+      → Handed s honest e (run s honest es (fresh s)) memory memory′ → Outcome r turn after
+      → room ≡ roomAfter s honest e (run s honest es (fresh s)) → out ≡ outAfter s honest e (run s honest es (fresh s))
+      → Goes s honest es e turn memory′ after room out
+  goes-by e r turn memory′ after room out k g o m w =
       record {
         after =
             next-after e memory′ after (o .parcels) (turn .used) g (o .listed)
             (subst⁻¹ (λ (x : Result). UnderWay (o .parcels) (x .state)) k (o .underWay));
         answer = o .answer ∙ ap (λ (x : Result). some (x .answer)) (sym k);
+        written = m;
         output = w;
       }
 
@@ -385,17 +387,18 @@ module _ (s : Measures) (ok : passes s ≡ true) (honest : ℕ → Bool) (es : L
       → answered a ≡ startDeposit s c (recordIn s c memory) page .answer
       → Put memory (recordAt s c) (recordIn s c memory) (startDeposit s c (recordIn s c memory) page .client) memory′
       → Sends s c a [] post used after turn
-      → Goes s honest es (deposit c page) turn memory′ after []
+      → Goes s honest es (deposit c page) turn memory′ after [] []
   unfolding carryOut
   deposit-goes c page a memory′ after turn v k p w =
       let st = run s honest es (fresh s) in
       let o = shown .clients c (v .client) in
       let e = startDeposit s c (st .clients c) page in
       let fits : 16 + length {A = ℕ} [] ≤ 4294967295 = omega arith in
-      goes-by (deposit c page) (starts s c (some page) e st) turn memory′ after [] refl p
+      goes-by (deposit c page) (starts s c (some page) e st) turn memory′ after [] [] refl p
       (sends-outcome (h .parcels) st post used (h .listed) (h .underWay) s c a [] after e _ _
       (k ∙ ap (λ (x : List ℕ). startDeposit s c x page .answer) o) (sym (deposit-room s c (st .clients c) page))
       (sent-proper s c (answered a) [] ok (v .client) fits) turn w)
+      refl
       refl
 
   pub reading-goes : (c : ℕ) (room room′ : List ℕ) (a : ClientAnswer) (memory′ after : List ℕ) (turn : Turn)
@@ -405,41 +408,44 @@ module _ (s : Measures) (ok : passes s ≡ true) (honest : ℕ → Bool) (es : L
       → room′ ≡ startReading s c (recordIn s c memory) room .room
       → length room′ ≡ length room
       → Sends s c a room′ post used after turn
-      → Goes s honest es (reading c room) turn memory′ after []
+      → Goes s honest es (reading c room) turn memory′ after room′ []
   unfolding carryOut
   reading-goes c room room′ a memory′ after turn v k p m n w =
       let st = run s honest es (fresh s) in
       let o = shown .clients c (v .client) in
       let e = startReading s c (st .clients c) room in
       let fits : 16 + length room′ ≤ 4294967295 = omega (arith, room-fits s c 1 (length post) used (length room) v) in
-      goes-by (reading c room) (starts s c none e st) turn memory′ after [] refl p
+      goes-by (reading c room) (starts s c none e st) turn memory′ after room′ [] refl p
       (sends-outcome (h .parcels) st post used (h .listed) (h .underWay) s c a room′ after e _ _
       (k ∙ ap (λ (x : List ℕ). startReading s c x room .answer) o) (m ∙ ap (λ (x : List ℕ). startReading s c x room .room) o)
       (sent-proper s c (answered a) room′ ok (v .client) fits) turn w)
+      (m ∙ ap (λ (x : List ℕ). startReading s c x room .room) o)
       refl
 
   -- ---- nothing is under way
 
   pub carry-none : (c : ℕ) (room : List ℕ) → bodies 0 c 0 (h .parcels) ≡ []
-      → Goes s honest es (carry c room) (record { used = used; what = Happened.Nothing }) memory post []
+      → Goes s honest es (carry c room) (record { used = used; what = Happened.Nothing }) memory post room []
   carry-none c room e =
       let st = run s honest es (fresh s) in
       let k = h .underWay .calls c ∙ ap (map callOf) e in
-      goes-by (carry c room) (stays nothing (tick (st .history)) st) (record { used = used; what = Happened.Nothing }) memory post []
+      goes-by (carry c room) (stays nothing (tick (st .history)) st) (record { used = used; what = Happened.Nothing }) memory post room []
       (none-called s honest st c room k)
       (subst⁻¹ (λ (x : List Call). Called s c x memory memory) k refl)
       (stays-outcome (h .parcels) st post used (h .listed) (h .underWay) nothing (tick (st .history)) _ post refl refl refl)
+      (sym (ap (roomCarried s (st .directory) room) k))
       refl
 
   pub hand-none : (c : ℕ) (room : List ℕ) → bodies 1 c 0 (h .parcels) ≡ []
-      → Goes s honest es (hand c room) (record { used = used; what = Happened.Nothing }) memory post []
+      → Goes s honest es (hand c room) (record { used = used; what = Happened.Nothing }) memory post room []
   hand-none c room e =
       let st = run s honest es (fresh s) in
       let k = h .underWay .returns c ∙ ap (map returnOf) e in
-      goes-by (hand c room) (stays nothing (tick (st .history)) st) (record { used = used; what = Happened.Nothing }) memory post []
+      goes-by (hand c room) (stays nothing (tick (st .history)) st) (record { used = used; what = Happened.Nothing }) memory post room []
       (none-returned s honest st c room k)
       (subst⁻¹ (λ (x : List Return). Returned s c room x memory memory) k refl)
       (stays-outcome (h .parcels) st post used (h .listed) (h .underWay) nothing (tick (st .history)) _ post refl refl refl)
+      (sym (ap (roomHanded s c (st .clients c) room) k))
       refl
 
   brought-none : (b : Bool) (i : ℕ) (room : List ℕ) → Brought s b i room [] memory memory
@@ -447,25 +453,27 @@ module _ (s : Measures) (ok : passes s ≡ true) (honest : ℕ → Bool) (es : L
   brought-none false i room = refl
 
   pub bring-none : (c i : ℕ) (room : List ℕ) → bodies 2 c i (h .parcels) ≡ []
-      → Goes s honest es (bring c i room) (record { used = used; what = Happened.Nothing }) memory post []
+      → Goes s honest es (bring c i room) (record { used = used; what = Happened.Nothing }) memory post room []
   bring-none c i room e =
       let st = run s honest es (fresh s) in
       let k = h .underWay .toNode c i ∙ e in
-      goes-by (bring c i room) (stays nothing (tick (st .history)) st) (record { used = used; what = Happened.Nothing }) memory post []
+      goes-by (bring c i room) (stays nothing (tick (st .history)) st) (record { used = used; what = Happened.Nothing }) memory post room []
       (none-to-node s honest st c i room k)
       (subst⁻¹ (λ (x : List (List ℕ)). Brought s (honest i) i room x memory memory) k (brought-none (honest i) i room))
       (stays-outcome (h .parcels) st post used (h .listed) (h .underWay) nothing (tick (st .history)) _ post refl refl refl)
+      (sym (ap (roomBrought s (honest i) i (st .nodes i) room) k))
       refl
 
   pub deliver-none : (i c : ℕ) (room out : List ℕ) → bodies 3 c i (h .parcels) ≡ []
-      → Goes s honest es (deliver i c room out) (record { used = used; what = Happened.Nothing }) memory post out
+      → Goes s honest es (deliver i c room out) (record { used = used; what = Happened.Nothing }) memory post room out
   deliver-none i c room out e =
       let st = run s honest es (fresh s) in
       let k = h .underWay .toClient i c ∙ e in
-      goes-by (deliver i c room out) (stays nothing (tick (st .history)) st) (record { used = used; what = Happened.Nothing }) memory post out
+      goes-by (deliver i c room out) (stays nothing (tick (st .history)) st) (record { used = used; what = Happened.Nothing }) memory post room out
       (none-to-client s honest st i c room out k)
       (subst⁻¹ (λ (x : List (List ℕ)). Delivered s c i room out x memory memory) k refl)
       (stays-outcome (h .parcels) st post used (h .listed) (h .underWay) nothing (tick (st .history)) _ post refl refl refl)
+      (sym (ap (roomDelivered s i c (st .clients c) room out) k))
       (sym (ap (outDelivered s i c (st .clients c) room out) k))
 
   -- ---- a call
@@ -474,24 +482,25 @@ module _ (s : Measures) (ok : passes s ≡ true) (honest : ℕ → Bool) (es : L
       → Capable s c 1 (length post) used (length room)
       → FindsAt 0 c 0 (h .parcels) at end
       → tagged (body post at end) ≡ true
-      → served a ≡ directoryUpdate s c (directoryIn s memory) (take (end - (at + 8)) (drop (at + 8) post)) .answer
-      → Put memory 0 (directoryIn s memory) (directoryUpdate s c (directoryIn s memory) (take (end - (at + 8)) (drop (at + 8) post)) .table) memory′
+      → served a ≡ directoryUpdate s c (directoryIn s memory) (behind post at end) .answer
+      → Put memory 0 (directoryIn s memory) (directoryUpdate s c (directoryIn s memory) (behind post at end) .table) memory′
       → Serves 1 c 0 (0 ∷ []) [] post used at end after a turn
-      → Goes s honest es (carry c room) turn memory′ after []
+      → Goes s honest es (carry c room) turn memory′ after room []
   carry-update-goes c room at end a memory′ after turn v f t k p w =
       let st = run s honest es (fresh s) in
-      let fields = take (end - (at + 8)) (drop (at + 8) post) in
+      let fields = behind post at end in
       let q = map callOf (bodies 0 c 0 (f .before ++ f .rest)) in
       let e = directoryUpdate s c (st .directory) fields in
       let x = sym (found-body 0 c 0 (h .parcels) used post at end (h .listed) f) in
       let call = ap callOf x ∙ update-by (body post at end) t ∙ ap updateCall (behind-tag post at end) in
       let first : st .calls c ≡ updateCall fields ∷ q =
       h .underWay .calls c ∙ ap (map callOf) (first-own 0 c 0 (h .parcels) at end f) ∙ ap (λ (y : Call). y ∷ q) call in
-      goes-by (carry c room) (updateBy s c fields q e st) turn memory′ after [] (head-update s honest st c room fields q first)
+      goes-by (carry c room) (updateBy s c fields q e st) turn memory′ after room [] (head-update s honest st c room fields q first)
       (subst⁻¹ (λ (y : List Call). Called s c y memory memory′) first p)
       (carried-outcome (h .parcels) st post used (h .listed) (h .underWay) c at end f (0 ∷ []) [] after e updated _ _
       (client-small s c 1 (length post) used (length room) v) (omega arith) (omega arith) a turn
       (k ∙ ap (λ (y : List ℕ). directoryUpdate s c y fields .answer) (shown .directory)) refl w)
+      (sym (ap (roomCarried s (st .directory) room) first))
       refl
 
   pub carry-scan-goes : (c : ℕ) (room room′ : List ℕ) (at end : ℕ) (a : Service) (after : List ℕ) (turn : Turn)
@@ -502,7 +511,7 @@ module _ (s : Measures) (ok : passes s ≡ true) (honest : ℕ → Bool) (es : L
       → room′ ≡ directoryScan s (directoryIn s memory) room .room
       → length room′ ≡ length room
       → Serves 1 c 0 (1 ∷ []) room′ post used at end after a turn
-      → Goes s honest es (carry c room) turn memory after []
+      → Goes s honest es (carry c room) turn memory after room′ []
   carry-scan-goes c room room′ at end a after turn v f t k m n w =
       let st = run s honest es (fresh s) in
       let q = map callOf (bodies 0 c 0 (f .before ++ f .rest)) in
@@ -514,11 +523,12 @@ module _ (s : Measures) (ok : passes s ≡ true) (honest : ℕ → Bool) (es : L
       let k′ : served a ≡ e .answer = k ∙ ap (λ (y : List ℕ). directoryScan s y room .answer) (shown .directory) in
       let m′ : room′ ≡ e .room = m ∙ ap (λ (y : List ℕ). directoryScan s y room .room) (shown .directory) in
       let fits : 16 + length room′ ≤ 4294967295 = omega (arith, room-fits s c 1 (length post) used (length room) v) in
-      goes-by (carry c room) (scanBy c q e st) turn memory after [] (head-scan s honest st c room q first)
+      goes-by (carry c room) (scanBy c q e st) turn memory after room′ [] (head-scan s honest st c room q first)
       (subst⁻¹ (λ (y : List Call). Called s c y memory memory) first refl)
       (carried-outcome (h .parcels) st post used (h .listed) (h .underWay) c at end f (1 ∷ []) room′ after e
       (rows (take (lengthOf (e .answer)) (e .room))) _ _
       (client-small s c 1 (length post) used (length room) v) (omega arith) fits a turn k′ (λ j. rows (take (lengthOf (k′ j)) (m′ j))) w)
+      (m′ ∙ sym (ap (roomCarried s (st .directory) room) first))
       refl
 
   -- ---- the answer of a call
@@ -552,7 +562,7 @@ module _ (s : Measures) (ok : passes s ≡ true) (honest : ℕ → Bool) (es : L
       → room′ ≡ updateAnswer s c (recordIn s c memory) room .room
       → length room′ ≡ length room
       → Takes s c a room′ post used at end after turn
-      → Goes s honest es (hand c room) turn memory′ after []
+      → Goes s honest es (hand c room) turn memory′ after room′ []
   hand-updated-goes c room room′ at end a memory′ after turn v f t k p m n w =
       let st = run s honest es (fresh s) in
       let q = map returnOf (bodies 1 c 0 (f .before ++ f .rest)) in
@@ -563,25 +573,26 @@ module _ (s : Measures) (ok : passes s ≡ true) (honest : ℕ → Bool) (es : L
       h .underWay .returns c ∙ ap (map returnOf) (first-own 1 c 0 (h .parcels) at end f) ∙ ap (λ (y : Return). y ∷ q) r in
       let o = shown .clients c (v .client) in
       let fits : 16 + length room′ ≤ 4294967295 = omega (arith, room-fits s c 1 (length post) used (length room) v) in
-      goes-by (hand c room) (returned s c q e st) turn memory′ after [] (head-updated s honest st c room q first)
+      goes-by (hand c room) (returned s c q e st) turn memory′ after room′ [] (head-updated s honest st c room q first)
       (subst⁻¹ (λ (y : List Return). Returned s c room y memory memory′) first p)
       (taken-return c room′ at end a after turn f e _ _ (k ∙ ap (λ (y : List ℕ). updateAnswer s c y room .answer) o) (m ∙ ap (λ (y : List ℕ). updateAnswer s c y room .room) o)
       (sent-proper s c (answered a) room′ ok (v .client) fits) w)
+      (m ∙ ap (λ (y : List ℕ). updateAnswer s c y room .room) o ∙ sym (ap (roomHanded s c (st .clients c) room) first))
       refl
 
   pub hand-rows-goes : (c : ℕ) (room room′ : List ℕ) (at end : ℕ) (a : ClientAnswer) (memory′ after : List ℕ) (turn : Turn)
       → Capable s c 1 (length post) used (length room)
       → FindsAt 1 c 0 (h .parcels) at end
       → tagged (body post at end) ≡ true
-      → answered a ≡ scanAnswer s c (recordIn s c memory) (take (end - (at + 8)) (drop (at + 8) post)) room .answer
-      → Put memory (recordAt s c) (recordIn s c memory) (scanAnswer s c (recordIn s c memory) (take (end - (at + 8)) (drop (at + 8) post)) room .client) memory′
-      → room′ ≡ scanAnswer s c (recordIn s c memory) (take (end - (at + 8)) (drop (at + 8) post)) room .room
+      → answered a ≡ scanAnswer s c (recordIn s c memory) (behind post at end) room .answer
+      → Put memory (recordAt s c) (recordIn s c memory) (scanAnswer s c (recordIn s c memory) (behind post at end) room .client) memory′
+      → room′ ≡ scanAnswer s c (recordIn s c memory) (behind post at end) room .room
       → length room′ ≡ length room
       → Takes s c a room′ post used at end after turn
-      → Goes s honest es (hand c room) turn memory′ after []
+      → Goes s honest es (hand c room) turn memory′ after room′ []
   hand-rows-goes c room room′ at end a memory′ after turn v f t k p m n w =
       let st = run s honest es (fresh s) in
-      let b = take (end - (at + 8)) (drop (at + 8) post) in
+      let b = behind post at end in
       let q = map returnOf (bodies 1 c 0 (f .before ++ f .rest)) in
       let e = scanAnswer s c (st .clients c) b room in
       let x = sym (found-body 1 c 0 (h .parcels) used post at end (h .listed) f) in
@@ -590,10 +601,11 @@ module _ (s : Measures) (ok : passes s ≡ true) (honest : ℕ → Bool) (es : L
       h .underWay .returns c ∙ ap (map returnOf) (first-own 1 c 0 (h .parcels) at end f) ∙ ap (λ (y : Return). y ∷ q) r in
       let o = shown .clients c (v .client) in
       let fits : 16 + length room′ ≤ 4294967295 = omega (arith, room-fits s c 1 (length post) used (length room) v) in
-      goes-by (hand c room) (returned s c q e st) turn memory′ after [] (head-rows s honest st c room b q first)
+      goes-by (hand c room) (returned s c q e st) turn memory′ after room′ [] (head-rows s honest st c room b q first)
       (subst⁻¹ (λ (y : List Return). Returned s c room y memory memory′) first p)
       (taken-return c room′ at end a after turn f e _ _ (k ∙ ap (λ (y : List ℕ). scanAnswer s c y b room .answer) o) (m ∙ ap (λ (y : List ℕ). scanAnswer s c y b room .room) o)
       (sent-proper s c (answered a) room′ ok (v .client) fits) w)
+      (m ∙ ap (λ (y : List ℕ). scanAnswer s c y b room .room) o ∙ sym (ap (roomHanded s c (st .clients c) room) first))
       refl
 
   -- ---- a message to a node
@@ -607,7 +619,7 @@ module _ (s : Measures) (ok : passes s ≡ true) (honest : ℕ → Bool) (es : L
       → room′ ≡ nodeMessage s i (tableIn s i memory) (body post at end) room .room
       → length room′ ≡ length room
       → Serves 3 c i [] room′ post used at end after a turn
-      → Goes s honest es (bring c i room) turn memory′ after []
+      → Goes s honest es (bring c i room) turn memory′ after room′ []
   bring-honest-goes c i room room′ at end a memory′ after turn t v f k p m n w =
       let st = run s honest es (fresh s) in
       let q = bodies 2 c i (f .before ++ f .rest) in
@@ -618,30 +630,32 @@ module _ (s : Measures) (ok : passes s ≡ true) (honest : ℕ → Bool) (es : L
       ∙ ap (λ (y : List ℕ). y ∷ q) (sym (found-body 2 c i (h .parcels) used post at end (h .listed) f)) in
       let o = shown .nodes i (v .first) (v .last) in
       let fits : 16 + length room′ ≤ 4294967295 = omega (arith, room-fits s c i (length post) used (length room) v) in
-      goes-by (bring c i room) (keeps c i q e (e .answer) st) turn memory′ after [] (head-to-node s honest st c i room b q t first)
+      goes-by (bring c i room) (keeps c i q e (e .answer) st) turn memory′ after room′ [] (head-to-node s honest st c i room b q t first)
       (subst⁻¹ (λ (x : Bool). Brought s x i room (st .toNode c i) memory memory′) t (subst⁻¹ (λ (y : List (List ℕ)). Brought s true i room y memory memory′) first p))
       (keeps-outcome (h .parcels) st post used (h .listed) (h .underWay) c i at end f room′ after e
       (m ∙ ap (λ (y : List ℕ). nodeMessage s i y b room .room) o)
       (client-small s c i (length post) used (length room) v) (node-small s c i (length post) used (length room) v) fits a turn
       (k ∙ ap (λ (y : List ℕ). nodeMessage s i y b room .answer) o) w)
+      (m ∙ ap (λ (y : List ℕ). nodeMessage s i y b room .room) o ∙ sym (λ j. roomBrought s (t j) i (st .nodes i) room (first j)))
       refl
 
   pub bring-dishonest-goes : (c i : ℕ) (room : List ℕ) (at end : ℕ) (after : List ℕ) (left : ℕ)
       → honest i ≡ false
       → FindsAt 2 c i (h .parcels) at end
       → Removed at end post used after left
-      → Goes s honest es (bring c i room) (record { used = left; what = Happened.Taken }) memory after []
+      → Goes s honest es (bring c i room) (record { used = left; what = Happened.Taken }) memory after room []
   unfolding carryOut
   bring-dishonest-goes c i room at end after left t f d =
       let st = run s honest es (fresh s) in
       let q = bodies 2 c i (f .before ++ f .rest) in
       let b = f .parcel .bytes in
       let first : st .toNode c i ≡ b ∷ q = h .underWay .toNode c i ∙ first-own 2 c i (h .parcels) at end f in
-      goes-by (bring c i room) (lost c i q st) (record { used = left; what = Happened.Taken }) memory after []
+      goes-by (bring c i room) (lost c i q st) (record { used = left; what = Happened.Taken }) memory after room []
       (ap (λ (y : List (List ℕ)). brought s honest c i room y st) first
       ∙ ap (λ (x : Bool). cond x (keeps c i q (nodeMessage s i (st .nodes i) b room) (nodeMessage s i (st .nodes i) b room .answer) st) (lost c i q st)) t)
       (subst⁻¹ (λ (x : Bool). Brought s x i room (st .toNode c i) memory memory) t refl)
       (lost-outcome (h .parcels) st post used (h .listed) (h .underWay) c i at end f after left d)
+      (sym (λ j. roomBrought s (t j) i (st .nodes i) room (first j)))
       refl
 
   -- ---- a message to a client
@@ -655,7 +669,7 @@ module _ (s : Measures) (ok : passes s ≡ true) (honest : ℕ → Bool) (es : L
       → out′ ≡ clientMessage s c i (recordIn s c memory) (body post at end) room out .out
       → length room′ ≡ length room
       → Takes s c a room′ post used at end after turn
-      → Goes s honest es (deliver i c room out) turn memory′ after out′
+      → Goes s honest es (deliver i c room out) turn memory′ after room′ out′
   deliver-goes i c room out room′ out′ at end a memory′ after turn v f k p m w′ n w =
       let st = run s honest es (fresh s) in
       let u = h .underWay in
@@ -668,7 +682,7 @@ module _ (s : Measures) (ok : passes s ≡ true) (honest : ℕ → Bool) (es : L
       ∙ ap (λ (y : List ℕ). y ∷ q) (sym (found-body 3 c i (h .parcels) used post at end (h .listed) f)) in
       let o = shown .clients c (v .client) in
       let fits : 16 + length room′ ≤ 4294967295 = omega (arith, room-fits s c i (length post) used (length room) v) in
-      goes-by (deliver i c room out) (told s c b (upd₂ (st .toClient) i c q) e st) turn memory′ after out′ (head-to-client s honest st i c room out b q first)
+      goes-by (deliver i c room out) (told s c b (upd₂ (st .toClient) i c q) e st) turn memory′ after room′ out′ (head-to-client s honest st i c room out b q first)
       (subst⁻¹ (λ (y : List (List ℕ)). Delivered s c i room out y memory memory′) first p)
       (takes-outcome (h .parcels) st post used (h .listed) u s c a room′ after e _ _
       (k ∙ ap (λ (y : List ℕ). clientMessage s c i y b room out .answer) o) (m ∙ ap (λ (y : List ℕ). clientMessage s c i y b room out .room) o)
@@ -678,6 +692,7 @@ module _ (s : Measures) (ok : passes s ≡ true) (honest : ℕ → Bool) (es : L
       (λ d j. u .toNode d j ∙ other-kind 3 c i (h .parcels) at end f 2 d j (λ z. omega arith))
       (two-way (st .toClient) (λ j d. bodies 3 d j l) i c q refl (λ j d y. u .toClient j d ∙ other-two 3 c i (h .parcels) at end f 3 d j (λ z x. y x z)))
       w)
+      (m ∙ ap (λ (y : List ℕ). clientMessage s c i y b room out .room) o ∙ sym (ap (roomDelivered s i c (st .clients c) room out) first))
       (w′ ∙ ap (λ (y : List ℕ). clientMessage s c i y b room out .out) o ∙ sym (ap (outDelivered s i c (st .clients c) room out) first))
 
   -- ---- dishonest bytes
@@ -691,29 +706,31 @@ module _ (s : Measures) (ok : passes s ≡ true) (honest : ℕ → Bool) (es : L
       → out′ ≡ clientMessage s c i (recordIn s c memory) bytes room out .out
       → length room′ ≡ length room
       → Sends s c a room′ post used after turn
-      → Goes s honest es (lie i c bytes room out) turn memory′ after out′
+      → Goes s honest es (lie i c bytes room out) turn memory′ after room′ out′
   unfolding carryOut
   lie-goes i c bytes room out room′ out′ a memory′ after turn t v k p m w′ n w =
       let st = run s honest es (fresh s) in
       let e = clientMessage s c i (st .clients c) bytes room out in
       let o = shown .clients c (v .client) in
       let fits : 16 + length room′ ≤ 4294967295 = omega (arith, room-fits s c i (length post) used (length room) v) in
-      goes-by (lie i c bytes room out) (told s c bytes (st .toClient) e st) turn memory′ after out′
+      goes-by (lie i c bytes room out) (told s c bytes (st .toClient) e st) turn memory′ after room′ out′
       (ap (λ (x : Bool). cond x (stays nothing (tick (st .history)) st) (told s c bytes (st .toClient) e st)) t)
       (subst⁻¹ (λ (x : Bool). Lied s x c i bytes room out memory memory′) t p)
       (sends-outcome (h .parcels) st post used (h .listed) (h .underWay) s c a room′ after e _ _
       (k ∙ ap (λ (y : List ℕ). clientMessage s c i y bytes room out .answer) o) (m ∙ ap (λ (y : List ℕ). clientMessage s c i y bytes room out .room) o)
       (sent-proper s c (answered a) room′ ok (v .client) fits) turn w)
+      (m ∙ ap (λ (y : List ℕ). clientMessage s c i y bytes room out .room) o ∙ sym (ap (λ (x : Bool). cond x room (e .room)) t))
       (w′ ∙ ap (λ (y : List ℕ). clientMessage s c i y bytes room out .out) o ∙ sym (ap (λ (x : Bool). cond x out (e .out)) t))
 
   pub lie-honest : (i c : ℕ) (bytes room out : List ℕ) → honest i ≡ true
-      → Goes s honest es (lie i c bytes room out) (record { used = used; what = Happened.Nothing }) memory post out
+      → Goes s honest es (lie i c bytes room out) (record { used = used; what = Happened.Nothing }) memory post room out
   unfolding carryOut
   lie-honest i c bytes room out t =
       let st = run s honest es (fresh s) in
       let e = clientMessage s c i (st .clients c) bytes room out in
-      goes-by (lie i c bytes room out) (stays nothing (tick (st .history)) st) (record { used = used; what = Happened.Nothing }) memory post out
+      goes-by (lie i c bytes room out) (stays nothing (tick (st .history)) st) (record { used = used; what = Happened.Nothing }) memory post room out
       (ap (λ (x : Bool). cond x (stays nothing (tick (st .history)) st) (told s c bytes (st .toClient) e st)) t)
       (subst⁻¹ (λ (x : Bool). Lied s x c i bytes room out memory memory) t refl)
       (stays-outcome (h .parcels) st post used (h .listed) (h .underWay) nothing (tick (st .history)) _ post refl refl refl)
+      (sym (ap (λ (x : Bool). cond x room (e .room)) t))
       (sym (ap (λ (x : Bool). cond x out (e .out)) t))

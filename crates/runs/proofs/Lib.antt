@@ -4,5 +4,6 @@ pub mod ParcelLaws
 pub mod SentLaws
 pub mod GoesLaws
 pub mod EventLaws
+pub mod StartLaws
 pub mod OldestLaws
 pub mod RunClaim

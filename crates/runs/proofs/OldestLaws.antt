@@ -7,7 +7,8 @@ use Rattle.protocol.specs.Run.{Event, deliver}
 use Rattle.protocol.specs.Claim.{AllLent, Lent as Given}
 use Rattle.runs.specs.declared.answer.Turn.{Turn}
 use Rattle.runs.specs.UnderWay.{After}
-use Rattle.runs.specs.Happens.{Lent, Happens}
+use Rattle.runs.specs.Acts.{Lent}
+use Rattle.runs.specs.Happens.{Happens}
 use Rattle.runs.specs.Oldest.{honestAll, Oldest, Continues}
 
 append-none : (es : List Event) → es ++ [] ≡ es
@@ -40,19 +41,19 @@ module _ (s : Measures) where
         after = subst (λ (l : List Event). After s honestAll l memory′ post′ used′) (append-more es (c .more) (d .more)) (d .after);
       }
 
-  pub happens-continues : (e : Event) (c i room used : ℕ) (x y : Lent) (turn : Turn) → Happens s honestAll e c i room used x y turn → Given e
+  pub happens-continues : (e : Event) (c i used : ℕ) (x y : Lent) (turn : Turn) → Happens s honestAll e c i used x y turn → Given e
       → (es : List Event) → After s honestAll es (x .memory) (x .post) used → Continues s es (y .memory) (y .post) (turn .used)
-  happens-continues e c i room used x y turn (Happens.unready r u m p o) g es h =
-      continues-same es (x .memory) (x .post) (y .memory) (y .post) used m p h
-  happens-continues e c i room used x y turn (Happens.happens t l f) g es h = record { more = e ∷ []; lent = (g, tt); after = f es h .after }
+  happens-continues e c i used x y turn (Happens.unready r u q) g es h =
+      rw q (continues-same es (x .memory) (x .post) (x .memory) (x .post) used refl refl h)
+  happens-continues e c i used x y turn (Happens.happens t r l w f) g es h = record { more = e ∷ []; lent = (g, tt); after = f es h .after }
 
   -- the room and the output have bytes in them: so has each event's that the parcel in front may be for
-  pub oldest-continues : (used : ℕ) (room : List ℕ) (x y : Lent) (turn : Turn) → Oldest s used room x y turn → Given (deliver 0 0 room (x .out))
+  pub oldest-continues : (used : ℕ) (x y : Lent) (turn : Turn) → Oldest s used x y turn → Given (deliver 0 0 (x .room) (x .out))
       → (es : List Event) → After s honestAll es (x .memory) (x .post) used → Continues s es (y .memory) (y .post) (turn .used)
-  oldest-continues used room x y turn (Oldest.measures u e) g es h = rw e (continues-same es (x .memory) (x .post) (x .memory) (x .post) used refl refl h)
-  oldest-continues used room x y turn (Oldest.short o u e) g es h = rw e (continues-same es (x .memory) (x .post) (x .memory) (x .post) used refl refl h)
-  oldest-continues used room x y turn (Oldest.none o w u e) g es h = rw e (continues-same es (x .memory) (x .post) (x .memory) (x .post) used refl refl h)
-  oldest-continues used room x y turn (Oldest.call t k o p) g es h = happens-continues _ _ _ _ used _ _ turn p (g .0) es h
-  oldest-continues used room x y turn (Oldest.return t k o p) g es h = happens-continues _ _ _ _ used _ _ turn p (g .0) es h
-  oldest-continues used room x y turn (Oldest.toNode t k o p) g es h = happens-continues _ _ _ _ used _ _ turn p (g .0) es h
-  oldest-continues used room x y turn (Oldest.toClient t k p) g es h = happens-continues _ _ _ _ used _ _ turn p g es h
+  oldest-continues used x y turn (Oldest.measures u e) g es h = rw e (continues-same es (x .memory) (x .post) (x .memory) (x .post) used refl refl h)
+  oldest-continues used x y turn (Oldest.short o u e) g es h = rw e (continues-same es (x .memory) (x .post) (x .memory) (x .post) used refl refl h)
+  oldest-continues used x y turn (Oldest.none o w u e) g es h = rw e (continues-same es (x .memory) (x .post) (x .memory) (x .post) used refl refl h)
+  oldest-continues used x y turn (Oldest.call t l k o p) g es h = happens-continues _ _ _ used _ _ turn p (g .0) es h
+  oldest-continues used x y turn (Oldest.return t l k o p) g es h = happens-continues _ _ _ used _ _ turn p (g .0) es h
+  oldest-continues used x y turn (Oldest.toNode t l k o p) g es h = happens-continues _ _ _ used _ _ turn p (g .0) es h
+  oldest-continues used x y turn (Oldest.toClient t l k p) g es h = happens-continues _ _ _ used _ _ turn p g es h

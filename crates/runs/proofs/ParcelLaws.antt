@@ -14,7 +14,7 @@ use Rattle.protocol.proofs.Cells.{by-eq}
 use Rattle.protocol.proofs.PointerLaws.{length-number}
 use Rattle.records.proofs.SpliceLaws.{many-append}
 use Rattle.runs.specs.Parcels.{Parcel, writeParcel, writeParcels, proper, properAll, Listed, keyed, bodies, FindsAt, Appended, Removed}
-use Rattle.runs.specs.Event.{body}
+use Rattle.runs.specs.Acts.{body}
 use Rattle.runs.proofs.PostLaws.{bodies-append, length-parcel}
 
 -- ---- what is under way of a kind between a client and a node

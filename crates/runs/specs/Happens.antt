@@ -9,14 +9,18 @@ use lib.ListN.{length}
 use Rattle.protocol.specs.declared.measures.Measures.{Measures}
 use Rattle.protocol.specs.Measures.{passes}
 use Rattle.protocol.specs.Nodes.{stands}
-use Rattle.protocol.specs.ClientEvents.{clientMessage}
-use Rattle.protocol.specs.Run.{State, Event, deposit, reading, carry, hand, bring, deliver, lie, Answered, nothing, byClient, byServer, carryOut, fresh, run}
+use Rattle.protocol.specs.ClientEvents.{startReading, updateAnswer, scanAnswer, clientMessage}
+use Rattle.protocol.specs.DirectoryEvents.{directoryScan}
+use Rattle.protocol.specs.NodeEvents.{nodeMessage}
+use Rattle.protocol.specs.Run.{State, Call, scanCall, updateCall, Return, updated, rows, Event, deposit, reading, carry, hand, bring, deliver, lie}
+use Rattle.protocol.specs.Run.{Answered, nothing, byClient, byServer, carryOut, fresh, run}
 use Rattle.records.specs.Answer.{number as numberOf}
 use Rattle.parties.specs.Answer.{served}
 use Rattle.client.specs.Answer.{answered}
 use Rattle.runs.specs.declared.answer.Happened.{Happened}
 use Rattle.runs.specs.declared.answer.Turn.{Turn}
 use Rattle.runs.specs.UnderWay.{After}
+use Rattle.runs.specs.Acts.{Lent, Acts}
 
 -- the dishonest nodes of a bit map
 abbrev pub liesIn : ℕ → ℕ → Bool
@@ -29,12 +33,22 @@ honestIn liars i = not (liesIn liars i)
 abbrev pub needed : Measures → ℕ → ℕ
 needed s room = (s .n + 1) * (16 + room)
 
--- an event is not carried out: 1, 2 for a slice of parcels without room for more (or of 2^32 bytes), 3
+-- an event is carried out
+pub record Capable (s : Measures) (c i post used room : ℕ) : Type 0 where
+  pub measures : passes s ≡ true
+  pub enough : used + needed s room ≤ post
+  pub small : post ≤ 4294967295
+  pub client : c < s .m
+  pub first : 1 ≤ i
+  pub last : i ≤ s .n
+
+-- or it is not: 1, 2 for a slice of parcels without room for more (or of 2^32 bytes), 3
 pub data Unready (s : Measures) (c i post used room : ℕ) : ℕ → Type 0 where
   measures : passes s ≡ false → Unready s c i post used room 1
   short : passes s ≡ true → post < used + needed s room → Unready s c i post used room 2
   huge : passes s ≡ true → 4294967295 < post → Unready s c i post used room 2
-  number : passes s ≡ true → (ltb c (s .m) && (leb 1 i && leb i (s .n))) ≡ false → Unready s c i post used room 3
+  number : passes s ≡ true → used + needed s room ≤ post → post ≤ 4294967295 → (ltb c (s .m) && (leb 1 i && leb i (s .n))) ≡ false
+      → Unready s c i post used room 3
 
 -- what an answer says of the run's event
 abbrev pub answerOf : Happened → Option Answered
@@ -58,22 +72,46 @@ outAfter s honest (bring c i room) st = []
 outAfter s honest (deliver i c room out) st = outDelivered s i c (st .clients c) room out (st .toClient i c)
 outAfter s honest (lie i c bytes room out) st = cond (honest i) out (clientMessage s c i (st .clients c) bytes room out .out)
 
--- after a list of events, one more: memory, parcels, answer and output are the run's
-pub record Goes (s : Measures) (honest : ℕ → Bool) (es : List Event) (e : Event) (turn : Turn) (memory post out : List ℕ) : Type 0 where
+-- the room after an event: what a party wrote there
+abbrev pub roomCarried : Measures → List ℕ → List ℕ → List Call → List ℕ
+roomCarried s directory room [] = room
+roomCarried s directory room (scanCall ∷ q) = directoryScan s directory room .room
+roomCarried s directory room (updateCall fields ∷ q) = room
+
+abbrev pub roomHanded : Measures → ℕ → List ℕ → List ℕ → List Return → List ℕ
+roomHanded s c client room [] = room
+roomHanded s c client room (updated ∷ q) = updateAnswer s c client room .room
+roomHanded s c client room (rows b ∷ q) = scanAnswer s c client b room .room
+
+abbrev pub roomBrought : Measures → Bool → ℕ → List ℕ → List ℕ → List (List ℕ) → List ℕ
+roomBrought s honest i table room [] = room
+roomBrought s honest i table room (m ∷ q) = cond honest (nodeMessage s i table m room .room) room
+
+abbrev pub roomDelivered : Measures → ℕ → ℕ → List ℕ → List ℕ → List ℕ → List (List ℕ) → List ℕ
+roomDelivered s i c client room out [] = room
+roomDelivered s i c client room out (m ∷ q) = clientMessage s c i client m room out .room
+
+abbrev pub roomAfter : Measures → (ℕ → Bool) → Event → State → List ℕ
+roomAfter s honest (deposit c page) st = []
+roomAfter s honest (reading c room) st = startReading s c (st .clients c) room .room
+roomAfter s honest (carry c room) st = roomCarried s (st .directory) room (st .calls c)
+roomAfter s honest (hand c room) st = roomHanded s c (st .clients c) room (st .returns c)
+roomAfter s honest (bring c i room) st = roomBrought s (honest i) i (st .nodes i) room (st .toNode c i)
+roomAfter s honest (deliver i c room out) st = roomDelivered s i c (st .clients c) room out (st .toClient i c)
+roomAfter s honest (lie i c bytes room out) st = cond (honest i) room (clientMessage s c i (st .clients c) bytes room out .room)
+
+-- after a list of events, one more: memory, parcels, answer, room and output are the run's
+pub record Goes (s : Measures) (honest : ℕ → Bool) (es : List Event) (e : Event) (turn : Turn) (memory post room out : List ℕ) : Type 0 where
   pub after : After s honest (es ++ (e ∷ [])) memory post (turn .used)
   pub answer : answerOf (turn .what) ≡ some (carryOut s honest e (run s honest es (fresh s)) .answer)
+  pub written : room ≡ roomAfter s honest e (run s honest es (fresh s))
   pub output : out ≡ outAfter s honest e (run s honest es (fresh s))
 
--- what is lent before and after
-pub record Lent : Type 0 where
-  pub memory : List ℕ
-  pub post : List ℕ
-  pub out : List ℕ
-
--- an event with client c and node i (1 if it has none) and a room of so many bytes: nothing changes, or it is the run's next
-pub data Happens (s : Measures) (honest : ℕ → Bool) (e : Event) (c i room used : ℕ) (x y : Lent) : Turn → Type 0 where
-  unready : (r : _) → Unready s c i (length (x .post)) used room (numberOf r) → y .memory ≡ x .memory → y .post ≡ x .post → y .out ≡ x .out
-      → Happens s honest e c i room used x y (record { used = used; what = Happened.Refused r })
-  happens : (turn : Turn) → length (y .post) ≡ length (x .post)
-      → ((es : List Event) → After s honest es (x .memory) (x .post) used → Goes s honest es e turn (y .memory) (y .post) (y .out))
-      → Happens s honest e c i room used x y turn
+-- an event with client c and node i (1 if it has none): nothing changes, or it is the run's next
+pub data Happens (s : Measures) (honest : ℕ → Bool) (e : Event) (c i used : ℕ) (x y : Lent) : Turn → Type 0 where
+  unready : (r : _) → Unready s c i (length (x .post)) used (length (x .room)) (numberOf r) → y ≡ x
+      → Happens s honest e c i used x y (record { used = used; what = Happened.Refused r })
+  happens : (turn : Turn) → Capable s c i (length (x .post)) used (length (x .room)) → length (y .post) ≡ length (x .post)
+      → Acts s honest used x y e turn
+      → ((es : List Event) → After s honest es (x .memory) (x .post) used → Goes s honest es e turn (y .memory) (y .post) (y .room) (y .out))
+      → Happens s honest e c i used x y turn

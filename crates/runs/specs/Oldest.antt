@@ -12,7 +12,8 @@ use Rattle.runs.specs.declared.answer.Happened.{Happened}
 use Rattle.runs.specs.declared.answer.Turn.{Turn}
 use Rattle.protocol.specs.Claim.{AllLent}
 use Rattle.runs.specs.UnderWay.{After}
-use Rattle.runs.specs.Happens.{Lent, Happens, honestIn}
+use Rattle.runs.specs.Acts.{Lent}
+use Rattle.runs.specs.Happens.{Happens, honestIn}
 
 -- every node is honest
 abbrev pub honestAll : ℕ → Bool
@@ -27,21 +28,25 @@ nodeIn x = getD (x .post) 2 0
 
 -- where an event has no output, the one that is lent stays
 abbrev pub without : Lent → Lent
-without x = record { memory = x .memory; post = x .post; out = [] }
+without x = record { memory = x .memory; post = x .post; room = x .room; out = [] }
 
-pub data Oldest (s : Measures) (used : ℕ) (room : List ℕ) (x y : Lent) : Turn → Type 0 where
-  measures : passes s ≡ false → y ≡ x → Oldest s used room x y (record { used = used; what = Happened.Refused Refusal.Measures })
-  short : passes s ≡ true → length (x .post) < used → y ≡ x → Oldest s used room x y (record { used = used; what = Happened.Refused Refusal.Short })
+-- nor a room
+abbrev pub alone : Lent → Lent
+alone x = record { memory = x .memory; post = x .post; room = []; out = [] }
+
+pub data Oldest (s : Measures) (used : ℕ) (x y : Lent) : Turn → Type 0 where
+  measures : passes s ≡ false → y ≡ x → Oldest s used x y (record { used = used; what = Happened.Refused Refusal.Measures })
+  short : passes s ≡ true → length (x .post) < used → y ≡ x → Oldest s used x y (record { used = used; what = Happened.Refused Refusal.Short })
   -- no parcel is under way
-  none : passes s ≡ true → used ≤ length (x .post) → used < 7 → y ≡ x → Oldest s used room x y (record { used = used; what = Happened.Nothing })
-  call : (turn : Turn) → getD (x .post) 0 0 ≡ 0 → y .out ≡ x .out
-      → Happens s honestAll (carry (clientIn x) room) (clientIn x) 1 (length room) used (without x) (without y) turn → Oldest s used room x y turn
-  return : (turn : Turn) → getD (x .post) 0 0 ≡ 1 → y .out ≡ x .out
-      → Happens s honestAll (hand (clientIn x) room) (clientIn x) 1 (length room) used (without x) (without y) turn → Oldest s used room x y turn
-  toNode : (turn : Turn) → getD (x .post) 0 0 ≡ 2 → y .out ≡ x .out
-      → Happens s honestAll (bring (clientIn x) (nodeIn x) room) (clientIn x) (nodeIn x) (length room) used (without x) (without y) turn → Oldest s used room x y turn
-  toClient : (turn : Turn) → 2 < getD (x .post) 0 0
-      → Happens s honestAll (deliver (nodeIn x) (clientIn x) room (x .out)) (clientIn x) (nodeIn x) (length room) used x y turn → Oldest s used room x y turn
+  none : passes s ≡ true → used ≤ length (x .post) → used < 7 → y ≡ x → Oldest s used x y (record { used = used; what = Happened.Nothing })
+  call : (turn : Turn) → 7 ≤ used → getD (x .post) 0 0 ≡ 0 → y .out ≡ x .out
+      → Happens s honestAll (carry (clientIn x) (x .room)) (clientIn x) 1 used (without x) (without y) turn → Oldest s used x y turn
+  return : (turn : Turn) → 7 ≤ used → getD (x .post) 0 0 ≡ 1 → y .out ≡ x .out
+      → Happens s honestAll (hand (clientIn x) (x .room)) (clientIn x) 1 used (without x) (without y) turn → Oldest s used x y turn
+  toNode : (turn : Turn) → 7 ≤ used → getD (x .post) 0 0 ≡ 2 → y .out ≡ x .out
+      → Happens s honestAll (bring (clientIn x) (nodeIn x) (x .room)) (clientIn x) (nodeIn x) used (without x) (without y) turn → Oldest s used x y turn
+  toClient : (turn : Turn) → 7 ≤ used → 2 < getD (x .post) 0 0
+      → Happens s honestAll (deliver (nodeIn x) (clientIn x) (x .room) (x .out)) (clientIn x) (nodeIn x) used x y turn → Oldest s used x y turn
 
 -- a run goes on, with every node honest
 pub record Continues (s : Measures) (es : List Event) (memory post : List ℕ) (used : ℕ) : Type 0 where

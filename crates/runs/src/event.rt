@@ -29,8 +29,9 @@ ghost use Rattle.protocol.specs.Measures.{passes};
 ghost use Rattle.protocol.specs.Run.{isRefused};
 ghost use Rattle.protocol.specs.Run.{deposit as depositEvent, reading as readingEvent, carry as carryEvent, hand as handEvent, bring as bringEvent, deliver as deliverEvent, lie as lieEvent};
 ghost use Rattle.client.specs.Answer.{answered};
-ghost use Rattle.runs.specs.Event.{Readies, Capable, body, tagged as taggedWith, Sends, Takes, Serves, Carried};
-ghost use Rattle.runs.specs.Happens.{Happens, liesIn, honestIn};
+ghost use Rattle.runs.specs.Acts.{body, tagged as taggedWith, Sends, Takes, Serves};
+ghost use Rattle.runs.specs.Event.{Readies, Carried};
+ghost use Rattle.runs.specs.Happens.{Capable, Happens, liesIn, honestIn};
 
 pub enum Readiness {
     Yes,
@@ -176,7 +177,9 @@ fn carry_update(
 ) -> Turn
     requires { ⌜ Capable s c 1 (length (now post)) used (length (now room)) × (at + 7 ≤ end) × (end ≤ used) × (taggedWith (body (now post) at end) ≡ true) ⌝ }
     ensures { λ r. ⌜ (length (now (post .exit)) ≡ length (now (post .entry)))
-        × ((honest : ℕ → Bool) → Carried s honest 0 c 0 at end (carryEvent c (now (room .entry))) (now (memory .entry)) (now (post .entry)) used r (now (memory .exit)) (now (post .exit)) []) ⌝ }
+        × ((honest : ℕ → Bool) → Carried s honest 0 c 0 at end (carryEvent c (now (room .entry))) used
+        (record { memory = now (memory .entry); post = now (post .entry); room = now (room .entry); out = [] })
+        (record { memory = now (memory .exit); post = now (post .exit); room = now (room .exit); out = [] }) r) ⌝ }
 {
     let from = at + 8;
     let a = update(s, c, memory, &post[from..end]);
@@ -196,7 +199,9 @@ fn carry_scan(
 ) -> Turn
     requires { ⌜ Capable s c 1 (length (now post)) used (length (now room)) × (at + 7 ≤ end) × (end ≤ used) × (taggedWith (body (now post) at end) ≡ false) ⌝ }
     ensures { λ r. ⌜ (length (now (post .exit)) ≡ length (now (post .entry)))
-        × ((honest : ℕ → Bool) → Carried s honest 0 c 0 at end (carryEvent c (now (room .entry))) (now (memory .entry)) (now (post .entry)) used r (now (memory .exit)) (now (post .exit)) []) ⌝ }
+        × ((honest : ℕ → Bool) → Carried s honest 0 c 0 at end (carryEvent c (now (room .entry))) used
+        (record { memory = now (memory .entry); post = now (post .entry); room = now (room .entry); out = [] })
+        (record { memory = now (memory .exit); post = now (post .exit); room = now (room .exit); out = [] }) r) ⌝ }
 {
     let a = scan(s, memory, room);
     serves(1, c, 0, a, &[1u8], room, post, used, at, end)
@@ -215,7 +220,9 @@ fn hand_updated(
 ) -> Turn
     requires { ⌜ Capable s c 1 (length (now post)) used (length (now room)) × (at + 7 ≤ end) × (end ≤ used) × (taggedWith (body (now post) at end) ≡ false) ⌝ }
     ensures { λ r. ⌜ (length (now (post .exit)) ≡ length (now (post .entry)))
-        × ((honest : ℕ → Bool) → Carried s honest 1 c 0 at end (handEvent c (now (room .entry))) (now (memory .entry)) (now (post .entry)) used r (now (memory .exit)) (now (post .exit)) []) ⌝ }
+        × ((honest : ℕ → Bool) → Carried s honest 1 c 0 at end (handEvent c (now (room .entry))) used
+        (record { memory = now (memory .entry); post = now (post .entry); room = now (room .entry); out = [] })
+        (record { memory = now (memory .exit); post = now (post .exit); room = now (room .exit); out = [] }) r) ⌝ }
 {
     let a = updated(s, c, memory, room);
     takes(s, c, a, room, post, used, at, end)
@@ -234,7 +241,9 @@ fn hand_rows(
 ) -> Turn
     requires { ⌜ Capable s c 1 (length (now post)) used (length (now room)) × (at + 7 ≤ end) × (end ≤ used) × (taggedWith (body (now post) at end) ≡ true) ⌝ }
     ensures { λ r. ⌜ (length (now (post .exit)) ≡ length (now (post .entry)))
-        × ((honest : ℕ → Bool) → Carried s honest 1 c 0 at end (handEvent c (now (room .entry))) (now (memory .entry)) (now (post .entry)) used r (now (memory .exit)) (now (post .exit)) []) ⌝ }
+        × ((honest : ℕ → Bool) → Carried s honest 1 c 0 at end (handEvent c (now (room .entry))) used
+        (record { memory = now (memory .entry); post = now (post .entry); room = now (room .entry); out = [] })
+        (record { memory = now (memory .exit); post = now (post .exit); room = now (room .exit); out = [] }) r) ⌝ }
 {
     let from = at + 8;
     let a = scanned(s, c, memory, &post[from..end], room);
@@ -255,7 +264,9 @@ fn bring_honest(
 ) -> Turn
     requires { ⌜ Capable s c i (length (now post)) used (length (now room)) × (at + 7 ≤ end) × (end ≤ used) ⌝ }
     ensures { λ r. ⌜ (length (now (post .exit)) ≡ length (now (post .entry)))
-        × ((honest : ℕ → Bool) → honest i ≡ true → Carried s honest 2 c i at end (bringEvent c i (now (room .entry))) (now (memory .entry)) (now (post .entry)) used r (now (memory .exit)) (now (post .exit)) []) ⌝ }
+        × ((honest : ℕ → Bool) → honest i ≡ true → Carried s honest 2 c i at end (bringEvent c i (now (room .entry))) used
+        (record { memory = now (memory .entry); post = now (post .entry); room = now (room .entry); out = [] })
+        (record { memory = now (memory .exit); post = now (post .exit); room = now (room .exit); out = [] }) r) ⌝ }
 {
     let from = at + 7;
     let a = to_node(s, i, memory, &post[from..end], room);
@@ -277,7 +288,9 @@ fn bring_dishonest(
 ) -> Turn
     requires { ⌜ Capable s c i (length (now post)) used (length (now room)) × (at + 7 ≤ end) × (end ≤ used) ⌝ }
     ensures { λ r. ⌜ (length (now (post .exit)) ≡ length (now (post .entry)))
-        × ((honest : ℕ → Bool) → honest i ≡ false → Carried s honest 2 c i at end (bringEvent c i (now (room .entry))) (now (memory .entry)) (now (post .entry)) used r (now (memory .exit)) (now (post .exit)) []) ⌝ }
+        × ((honest : ℕ → Bool) → honest i ≡ false → Carried s honest 2 c i at end (bringEvent c i (now (room .entry))) used
+        (record { memory = now (memory .entry); post = now (post .entry); room = now (room .entry); out = [] })
+        (record { memory = now (memory .exit); post = now (post .exit); room = now (room .exit); out = [] }) r) ⌝ }
 {
     let left = remove(post, used, at, end);
     Turn {
@@ -301,7 +314,9 @@ fn deliver_message(
 ) -> Turn
     requires { ⌜ Capable s c i (length (now post)) used (length (now room)) × (at + 7 ≤ end) × (end ≤ used) ⌝ }
     ensures { λ r. ⌜ (length (now (post .exit)) ≡ length (now (post .entry)))
-        × ((honest : ℕ → Bool) → Carried s honest 3 c i at end (deliverEvent i c (now (room .entry)) (now (out .entry))) (now (memory .entry)) (now (post .entry)) used r (now (memory .exit)) (now (post .exit)) (now (out .exit))) ⌝ }
+        × ((honest : ℕ → Bool) → Carried s honest 3 c i at end (deliverEvent i c (now (room .entry)) (now (out .entry))) used
+        (record { memory = now (memory .entry); post = now (post .entry); room = now (room .entry); out = now (out .entry) })
+        (record { memory = now (memory .exit); post = now (post .exit); room = now (room .exit); out = now (out .exit) }) r) ⌝ }
 {
     let from = at + 7;
     let a = to_client(s, c, i, memory, &post[from..end], room, out);
@@ -317,9 +332,9 @@ pub fn deposit(
     post: &mut [u8],
     used: usize,
 ) -> Turn
-    ensures { λ r. ⌜ ((honest : ℕ → Bool) → Happens s honest (depositEvent c (now (page .entry))) c 1 0 used
-        (record { memory = now (memory .entry); post = now (post .entry); out = [] })
-        (record { memory = now (memory .exit); post = now (post .exit); out = [] }) r) ⌝ }
+    ensures { λ r. ⌜ ((honest : ℕ → Bool) → Happens s honest (depositEvent c (now (page .entry))) c 1 used
+        (record { memory = now (memory .entry); post = now (post .entry); room = []; out = [] })
+        (record { memory = now (memory .exit); post = now (post .exit); room = []; out = [] }) r) ⌝ }
 {
     match ready(s, c, 1, post.len(), used, 0) {
         Readiness::No(x) => Turn {
@@ -343,9 +358,9 @@ pub fn reading(
     post: &mut [u8],
     used: usize,
 ) -> Turn
-    ensures { λ r. ⌜ ((honest : ℕ → Bool) → Happens s honest (readingEvent c (now (room .entry))) c 1 (length (now (room .entry))) used
-        (record { memory = now (memory .entry); post = now (post .entry); out = [] })
-        (record { memory = now (memory .exit); post = now (post .exit); out = [] }) r) ⌝ }
+    ensures { λ r. ⌜ ((honest : ℕ → Bool) → Happens s honest (readingEvent c (now (room .entry))) c 1 used
+        (record { memory = now (memory .entry); post = now (post .entry); room = now (room .entry); out = [] })
+        (record { memory = now (memory .exit); post = now (post .exit); room = now (room .exit); out = [] }) r) ⌝ }
 {
     match ready(s, c, 1, post.len(), used, room.len()) {
         Readiness::No(x) => Turn {
@@ -368,9 +383,9 @@ pub fn carry(
     post: &mut [u8],
     used: usize,
 ) -> Turn
-    ensures { λ r. ⌜ ((honest : ℕ → Bool) → Happens s honest (carryEvent c (now (room .entry))) c 1 (length (now (room .entry))) used
-        (record { memory = now (memory .entry); post = now (post .entry); out = [] })
-        (record { memory = now (memory .exit); post = now (post .exit); out = [] }) r) ⌝ }
+    ensures { λ r. ⌜ ((honest : ℕ → Bool) → Happens s honest (carryEvent c (now (room .entry))) c 1 used
+        (record { memory = now (memory .entry); post = now (post .entry); room = now (room .entry); out = [] })
+        (record { memory = now (memory .exit); post = now (post .exit); room = now (room .exit); out = [] }) r) ⌝ }
 {
     match ready(s, c, 1, post.len(), used, room.len()) {
         Readiness::No(x) => Turn {
@@ -404,9 +419,9 @@ pub fn hand(
     post: &mut [u8],
     used: usize,
 ) -> Turn
-    ensures { λ r. ⌜ ((honest : ℕ → Bool) → Happens s honest (handEvent c (now (room .entry))) c 1 (length (now (room .entry))) used
-        (record { memory = now (memory .entry); post = now (post .entry); out = [] })
-        (record { memory = now (memory .exit); post = now (post .exit); out = [] }) r) ⌝ }
+    ensures { λ r. ⌜ ((honest : ℕ → Bool) → Happens s honest (handEvent c (now (room .entry))) c 1 used
+        (record { memory = now (memory .entry); post = now (post .entry); room = now (room .entry); out = [] })
+        (record { memory = now (memory .exit); post = now (post .exit); room = now (room .exit); out = [] }) r) ⌝ }
 {
     match ready(s, c, 1, post.len(), used, room.len()) {
         Readiness::No(x) => Turn {
@@ -442,9 +457,9 @@ pub fn bring(
     post: &mut [u8],
     used: usize,
 ) -> Turn
-    ensures { λ r. ⌜ Happens s (honestIn liars) (bringEvent c i (now (room .entry))) c i (length (now (room .entry))) used
-        (record { memory = now (memory .entry); post = now (post .entry); out = [] })
-        (record { memory = now (memory .exit); post = now (post .exit); out = [] }) r ⌝ }
+    ensures { λ r. ⌜ Happens s (honestIn liars) (bringEvent c i (now (room .entry))) c i used
+        (record { memory = now (memory .entry); post = now (post .entry); room = now (room .entry); out = [] })
+        (record { memory = now (memory .exit); post = now (post .exit); room = now (room .exit); out = [] }) r ⌝ }
 {
     match ready(s, c, i, post.len(), used, room.len()) {
         Readiness::No(x) => Turn {
@@ -480,9 +495,9 @@ pub fn deliver(
     post: &mut [u8],
     used: usize,
 ) -> Turn
-    ensures { λ r. ⌜ ((honest : ℕ → Bool) → Happens s honest (deliverEvent i c (now (room .entry)) (now (out .entry))) c i (length (now (room .entry))) used
-        (record { memory = now (memory .entry); post = now (post .entry); out = now (out .entry) })
-        (record { memory = now (memory .exit); post = now (post .exit); out = now (out .exit) }) r) ⌝ }
+    ensures { λ r. ⌜ ((honest : ℕ → Bool) → Happens s honest (deliverEvent i c (now (room .entry)) (now (out .entry))) c i used
+        (record { memory = now (memory .entry); post = now (post .entry); room = now (room .entry); out = now (out .entry) })
+        (record { memory = now (memory .exit); post = now (post .exit); room = now (room .exit); out = now (out .exit) }) r) ⌝ }
 {
     match ready(s, c, i, post.len(), used, room.len()) {
         Readiness::No(x) => Turn {
@@ -516,9 +531,9 @@ pub fn lie(
     post: &mut [u8],
     used: usize,
 ) -> Turn
-    ensures { λ r. ⌜ Happens s (honestIn liars) (lieEvent i c (now (bytes .entry)) (now (room .entry)) (now (out .entry))) c i (length (now (room .entry))) used
-        (record { memory = now (memory .entry); post = now (post .entry); out = now (out .entry) })
-        (record { memory = now (memory .exit); post = now (post .exit); out = now (out .exit) }) r ⌝ }
+    ensures { λ r. ⌜ Happens s (honestIn liars) (lieEvent i c (now (bytes .entry)) (now (room .entry)) (now (out .entry))) c i used
+        (record { memory = now (memory .entry); post = now (post .entry); room = now (room .entry); out = now (out .entry) })
+        (record { memory = now (memory .exit); post = now (post .exit); room = now (room .exit); out = now (out .exit) }) r ⌝ }
 {
     match ready(s, c, i, post.len(), used, room.len()) {
         Readiness::No(x) => Turn {

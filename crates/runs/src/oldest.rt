@@ -7,7 +7,6 @@ use crate::event::deliver;
 use crate::event::hand;
 use protocol::measures::Measures;
 use records::answer::Refusal;
-ghost use lib.ListN.{length};
 ghost use Rattle.runs.specs.Oldest.{Oldest};
 
 // The oldest parcel of all is carried to where it goes.
@@ -19,9 +18,9 @@ pub fn oldest(
     post: &mut [u8],
     used: usize,
 ) -> Turn
-    ensures { λ r. ⌜ Oldest s used (now (room .entry))
-        (record { memory = now (memory .entry); post = now (post .entry); out = now (out .entry) })
-        (record { memory = now (memory .exit); post = now (post .exit); out = now (out .exit) }) r ⌝ }
+    ensures { λ r. ⌜ Oldest s used
+        (record { memory = now (memory .entry); post = now (post .entry); room = now (room .entry); out = now (out .entry) })
+        (record { memory = now (memory .exit); post = now (post .exit); room = now (room .exit); out = now (out .exit) }) r ⌝ }
 {
     if !s.pass() {
         return Turn {

@@ -3,10 +3,12 @@ use mathlib.Core.Path.{_≡_, refl}
 use mathlib.Core.Bool.{Bool, true, false}
 use mathlib.Core.List.{List, [], _∷_, _++_}
 use Prim.Native.Nat.{ℕ, zero, suc, _+_, _≤_, _<_}
+use native.Mathlib.Numerals.{add-one}
 use native.Mathlib.Omega.{arith}
 use borrow.Author.Tests.{leb-true}
 use lib.Dec.{leb}
 use lib.ListN.{length, take, getD}
+use lib.Seq.{take-suc, take-all}
 use Rattle.protocol.specs.declared.measures.Measures.{Measures}
 use Rattle.protocol.specs.Measures.{passes}
 use Rattle.protocol.specs.Answer.{Served, refuses, serves}
@@ -20,13 +22,14 @@ use Rattle.title.proofs.Service.{fresh-serves}
 use Rattle.runs.specs.declared.answer.Turn.{Turn}
 use Rattle.runs.specs.Parcels.{Listed, properAll, bodies}
 use Rattle.runs.specs.UnderWay.{UnderWay, After}
-use Rattle.runs.specs.Happens.{Lent, Happens}
-use Rattle.runs.specs.Oldest.{honestAll}
+use Rattle.runs.specs.Acts.{Lent}
+use Rattle.runs.specs.Happens.{Happens}
+use Rattle.runs.specs.Oldest.{honestAll, Continues}
 use Rattle.runs.proofs.OldestLaws.{continues-more, happens-continues, lent-more}
 use Rattle.session.specs.declared.session.Session.{Session}
 use Rattle.session.specs.declared.settle.Settled.{Settled}
 use Rattle.session.specs.Settle.{Settles}
-use Rattle.session.specs.Session.{Runs, Live}
+use Rattle.session.specs.Session.{Runs, Live, Held, LiveIn, held, Feeds, FeedsAll}
 use Rattle.session.proofs.SettleLaws.{settles-continue}
 
 -- ---- a run begins
@@ -73,9 +76,6 @@ fresh-runs x s memory after post a k m u ok e f g =
 pub runs-same : (x y : Session) (memory post : List ℕ) → y .measures ≡ x .measures → y .used ≡ x .used → Runs x memory post → Runs y memory post
 runs-same x y memory post m u r = record { events = r .events; lent = r .lent; measures = rw m (r .measures); after = rw (m, u) (r .after) }
 
-pub live-as : (x y : Session) (memory post page : List ℕ) → y ≡ x → Live x memory post page → Live y memory post page
-live-as x y memory post page e l = rw e l
-
 -- a part of a slice has bytes in it, as the slice has
 pub front-bytes : (n : ℕ) (b : List ℕ) → ((i : ℕ) → getD b i 0 < 256) → (i : ℕ) → getD (take n b) i 0 < 256
 front-bytes zero b h i = omega arith
@@ -84,14 +84,30 @@ front-bytes (suc n) (a ∷ b) h zero = h 0
 front-bytes (suc n) (a ∷ b) h (suc i) = front-bytes n b (λ j. h (suc j)) i
 
 -- an operation: its start is an event of the run, and so is each parcel that is handed over
-pub operation-runs : (x y : Session) (s : Measures) (used c i room wide : ℕ) (e : Event) (before after end : Lent) (turn : Turn) (text text′ : List ℕ) (r : Settled) (out : List ℕ)
+pub operation-runs : (x y : Session) (s : Measures) (used c i : ℕ) (e : Event) (before after : Lent) (mid end : Lent) (turn : Turn) (text text′ : List ℕ) (r : Settled)
     → x .measures ≡ s → x .used ≡ used → Runs x (before .memory) (before .post) → y .measures ≡ s → y .used ≡ r .used
-    → ((honest : ℕ → Bool) → Happens s honest e c i room used before after turn) → Given e
-    → Settles s c wide turn (record { memory = after .memory; post = after .post; out = out }) text end text′ r → Runs y (end .memory) (end .post)
-operation-runs x y s used c i room wide e before after end turn text text′ r out m u h n v o g p =
+    → ((honest : ℕ → Bool) → Happens s honest e c i used before after turn) → Given e → mid .memory ≡ after .memory → mid .post ≡ after .post
+    → Settles s c turn mid text end text′ r → Runs y (end .memory) (end .post)
+operation-runs x y s used c i e before after mid end turn text text′ r m u h n v o g q w p =
     let a : After s honestAll (h .events) (before .memory) (before .post) used = rw (m, u) at (h .after) in
-    let d = happens-continues s e c i room used before after turn (o honestAll) g (h .events) a in
+    let d : Continues s (h .events) (mid .memory) (mid .post) (turn .used) = rw (q, w) (happens-continues s e c i used before after turn (o honestAll) g (h .events) a) in
     let f =
-    continues-more s (h .events) (after .memory) (after .post) (end .memory) (end .post) (turn .used) (r .used) d
-    (settles-continue s c wide turn (record { memory = after .memory; post = after .post; out = out }) text end text′ r p (h .events ++ d .more)) in
+    continues-more s (h .events) (mid .memory) (mid .post) (end .memory) (end .post) (turn .used) (r .used) d
+    (settles-continue s c turn mid text end text′ r p (h .events ++ d .more)) in
     record { events = h .events ++ f .more; lent = lent-more (h .events) (f .more) (h .lent) (f .lent); measures = rw (n, ← m) (h .measures); after = rw (n, v) (f .after) }
+
+-- ---- bytes of the input
+
+pub feeds-live : (x : Held) (bytes : List ℕ) (y : Held) → FeedsAll x bytes y → LiveIn x → LiveIn y
+feeds-live x bytes y FeedsAll.begun l = l
+feeds-live x bytes z (FeedsAll.more b a len y w h f) l = f .live (feeds-live x b y h l)
+
+-- one byte more
+pub feeds-more : (x y : Held) (lent : Lent) (page text input : List ℕ) (z w : Session) (i len : ℕ) → i < length input → FeedsAll x (take i input) y → w ≡ z
+    → Feeds y (getD input i 0) (held z lent page text) len → FeedsAll x (take (i + 1) input) (held w lent page text)
+feeds-more x y lent page text input z w i len l h e f =
+    rw (add-one i, take-suc input i 0 l, e) (FeedsAll.more (take i input) (getD input i 0) len y (held z lent page text) h f)
+
+pub feeds-whole : (x y : Held) (input : List ℕ) (i : ℕ) → i ≤ length input → (i < length input → ⊥) → FeedsAll x (take i input) y → FeedsAll x input y
+feeds-whole x y input i l n h =
+    let e : length input ≤ i = omega arith in rw (take-all i input e) at h

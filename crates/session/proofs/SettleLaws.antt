@@ -11,31 +11,31 @@ use Rattle.protocol.specs.declared.measures.Measures.{Measures}
 use Rattle.protocol.specs.Run.{Event}
 use Rattle.runs.specs.declared.answer.Turn.{Turn}
 use Rattle.runs.specs.UnderWay.{After}
-use Rattle.runs.specs.Happens.{Lent}
+use Rattle.runs.specs.Acts.{Lent}
 use Rattle.runs.specs.Oldest.{honestAll, Continues}
 use Rattle.runs.proofs.OldestLaws.{continues-same, continues-more, oldest-continues}
 use Rattle.session.specs.declared.settle.Settled.{Settled}
 use Rattle.session.specs.Say.{happenedLine, Says}
-use Rattle.session.specs.Settle.{Desk, Hands, Settles}
+use Rattle.session.specs.Settle.{Desk, desk, Hands, Settles}
 
 -- ---- what a run makes of it
 
-module _ (s : Measures) (c room : ℕ) where
-  pub hands-continue : (x : Desk) (n : ℕ) (y : Desk) → Hands s c room x n y → (es : List Event) → After s honestAll es (x .lent .memory) (x .lent .post) (x .used)
+module _ (s : Measures) (c : ℕ) where
+  pub hands-continue : (x : Desk) (n : ℕ) (y : Desk) → Hands s c x n y → (es : List Event) → After s honestAll es (x .lent .memory) (x .lent .post) (x .used)
       → Continues s es (y .lent .memory) (y .lent .post) (y .used)
   hands-continue x n y Hands.begun es a =
       continues-same s es (x .lent .memory) (x .lent .post) (x .lent .memory) (x .lent .post) (x .used) refl refl a
-  hands-continue x n z (Hands.goes m y e bytes turn h q g o u t) es a =
+  hands-continue x n z (Hands.goes m y e turn h g o u t) es a =
       let d = hands-continue x m y h es a in
       continues-more s es (y .lent .memory) (y .lent .post) (z .lent .memory) (z .lent .post) (y .used) (z .used) d
       (λ b. subst (λ (k : ℕ). Continues s (es ++ d .more) (z .lent .memory) (z .lent .post) k) (sym u)
-      (oldest-continues s (y .used) bytes (y .lent) (z .lent) turn o g (es ++ d .more) b))
+      (oldest-continues s (y .used) (y .lent) (z .lent) turn o g (es ++ d .more) b))
 
-  pub settles-continue : (start : Turn) (x : Lent) (text : List ℕ) (y : Lent) (text′ : List ℕ) (r : Settled) → Settles s c room start x text y text′ r
+  pub settles-continue : (start : Turn) (x : Lent) (text : List ℕ) (y : Lent) (text′ : List ℕ) (r : Settled) → Settles s c start x text y text′ r
       → (es : List Event) → After s honestAll es (x .memory) (x .post) (start .used) → Continues s es (y .memory) (y .post) (r .used)
   settles-continue start x text y text′ r h es a =
-      hands-continue (record { lent = x; used = start .used; text = h .said; len = h .len }) (h .events)
-      (record { lent = y; used = r .used; text = text′; len = r .len }) (h .hands) es a
+      hands-continue (desk x (start .used) (h .said) (h .len)) (h .events)
+      (desk y (r .used) text′ (r .len)) (h .hands) es a
 
 -- ---- the latest line
 
@@ -53,23 +53,22 @@ latest-first (suc n) = latest-some (suc n) 0 (λ e. omega arith)
 
 -- ---- the loop: so many turns are left
 
-pub record Settling (s : Measures) (c room : ℕ) (x y : Desk) (left : ℕ) : Type 0 where
+pub record Settling (s : Measures) (c : ℕ) (x y : Desk) (left : ℕ) : Type 0 where
   pub events : ℕ
   pub count : events + left ≡ 128
-  pub hands : Hands s c room x events y
+  pub hands : Hands s c x events y
 
-module _ (s : Measures) (c room : ℕ) where
-  pub settling-begins : (x : Desk) → Settling s c room x x 128
+module _ (s : Measures) (c : ℕ) where
+  pub settling-begins : (x : Desk) → Settling s c x x 128
   settling-begins x = record { events = 0; count = refl; hands = Hands.begun }
 
-  pub settling-more : (x y z : Desk) (left room′ : ℕ) → room′ ≡ room → 0 < left → Settling s c room x y left
-      → ((start : Desk) (n : ℕ) → Hands s c room′ start n y → Hands s c room′ start (n + 1) z) → Settling s c room x z (left - 1)
-  settling-more x y z left room′ e l h f =
-      record { events = h .events + 1; count = omega (arith, h .count); hands = rw e at (f x (h .events) (rw e (h .hands))) }
+  pub settling-more : (x y z : Desk) (left : ℕ) → 0 < left → Settling s c x y left
+      → ((start : Desk) (n : ℕ) → Hands s c start n y → Hands s c start (n + 1) z) → Settling s c x z (left - 1)
+  settling-more x y z left l h f = record { events = h .events + 1; count = omega (arith, h .count); hands = f x (h .events) (h .hands) }
 
   pub settling-ends : (start : Turn) (x y : Lent) (text said text′ : List ℕ) (len left : ℕ) (r : Settled) → Says (happenedLine c (start .what) (x .out)) text said len
-      → Settling s c room (record { lent = x; used = start .used; text = said; len = len }) (record { lent = y; used = r .used; text = text′; len = r .len }) left
-      → (r .used ≡ 0) ⊎ (left ≡ 0) → Settles s c room start x text y text′ r
+      → Settling s c (desk x (start .used) said len) (desk y (r .used) text′ (r .len)) left
+      → (r .used ≡ 0) ⊎ (left ≡ 0) → Settles s c start x text y text′ r
   settling-ends start x y text said text′ len left r o h d =
       record {
         said = said;

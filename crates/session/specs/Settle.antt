@@ -5,13 +5,12 @@ use mathlib.Core.Logic.{_⊎_}
 use mathlib.Core.List.{List}
 use Prim.Native.Nat.{ℕ, _+_, _≤_}
 use lib.Dec.{ltb}
-use lib.ListN.{length as long}
 use Rattle.protocol.specs.declared.measures.Measures.{Measures}
 use Rattle.protocol.specs.Run.{deliver}
 use Rattle.protocol.specs.Claim.{Lent as Given}
 use Rattle.runs.specs.declared.answer.Happened.{Happened}
 use Rattle.runs.specs.declared.answer.Turn.{Turn}
-use Rattle.runs.specs.Happens.{Lent}
+use Rattle.runs.specs.Acts.{Lent}
 use Rattle.runs.specs.Oldest.{Oldest}
 use Rattle.session.specs.declared.settle.Settled.{Settled}
 use Rattle.session.specs.Say.{happenedLine, Says}
@@ -23,26 +22,32 @@ pub record Desk : Type 0 where
   pub text : List ℕ
   pub len : ℕ
 
+abbrev pub lend : List ℕ → List ℕ → List ℕ → List ℕ → Lent
+lend memory post room out = record { memory = memory; post = post; room = room; out = out }
+
+abbrev pub desk : Lent → ℕ → List ℕ → ℕ → Desk
+desk lent used text len = record { lent = lent; used = used; text = text; len = len }
+
 -- the line of an answer, if it has one, takes the place of the one before
 pub record Tells (c : ℕ) (what : Happened) (out text : List ℕ) (len : ℕ) (text′ : List ℕ) (len′ : ℕ) : Type 0 where
   pub n : ℕ
   pub says : Says (happenedLine c what out) text text′ n
   pub length : len′ ≡ cond (ltb 0 n) n len
 
--- so many parcels are handed over, each with a room of so many bytes; the room and the output have bytes in them
-pub data Hands (s : Measures) (c room : ℕ) (x : Desk) : ℕ → Desk → Type 0 where
-  begun : Hands s c room x 0 x
-  goes : (n : ℕ) (y z : Desk) (bytes : List ℕ) (turn : Turn) → Hands s c room x n y → long bytes ≡ room → Given (deliver 0 0 bytes (y .lent .out))
-      → Oldest s (y .used) bytes (y .lent) (z .lent) turn → z .used ≡ turn .used → Tells c (turn .what) (z .lent .out) (y .text) (y .len) (z .text) (z .len)
-      → Hands s c room x (n + 1) z
+-- so many parcels are handed over, the oldest first; the room and the output have bytes in them
+pub data Hands (s : Measures) (c : ℕ) (x : Desk) : ℕ → Desk → Type 0 where
+  begun : Hands s c x 0 x
+  goes : (n : ℕ) (y z : Desk) (turn : Turn) → Hands s c x n y → Given (deliver 0 0 (y .lent .room) (y .lent .out))
+      → Oldest s (y .used) (y .lent) (z .lent) turn → z .used ≡ turn .used → Tells c (turn .what) (z .lent .out) (y .text) (y .len) (z .text) (z .len)
+      → Hands s c x (n + 1) z
 
 -- the start's line, then parcels until none is under way, at most 128
-pub record Settles (s : Measures) (c room : ℕ) (start : Turn) (x : Lent) (text : List ℕ) (y : Lent) (text′ : List ℕ) (r : Settled) : Type 0 where
+pub record Settles (s : Measures) (c : ℕ) (start : Turn) (x : Lent) (text : List ℕ) (y : Lent) (text′ : List ℕ) (r : Settled) : Type 0 where
   pub said : List ℕ
   pub len : ℕ
   pub starts : Tells c (start .what) (x .out) text 0 said len
   pub events : ℕ
   pub most : events ≤ 128
   pub done : (r .used ≡ 0) ⊎ (events ≡ 128)
-  pub hands : Hands s c room (record { lent = x; used = start .used; text = said; len = len }) events
-      (record { lent = y; used = r .used; text = text′; len = r .len })
+  pub hands : Hands s c (desk x (start .used) said len) events
+      (desk y (r .used) text′ (r .len))

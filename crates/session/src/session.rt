@@ -10,6 +10,7 @@ use lines::text::header;
 use lines::text::refused;
 use parties::answer::Service;
 use protocol::measures::Measures;
+use records::form::row_size;
 use runs::event::deposit;
 use runs::event::reading;
 use runs::least::least;
@@ -18,12 +19,12 @@ ghost use mathlib.Core.Path.{_≡_};
 ghost use mathlib.Core.Bool.{true, false};
 ghost use mathlib.Core.List.{List};
 ghost use Prim.Native.Nat.{ℕ};
-ghost use lib.ListN.{length, take};
-ghost use Rattle.protocol.specs.Run.{Event};
+ghost use Rattle.protocol.specs.Measures.{passes};
 ghost use Rattle.lines.specs.Line.{Kept};
 ghost use Rattle.lines.specs.Read.{Read};
 ghost use Rattle.lines.specs.Command.{standLine};
-ghost use Rattle.session.specs.Session.{Runs, Live, NewLine, desk, Still, small as fits, opens, Replies, First, Operates, Later, Ends, Takes};
+ghost use Rattle.session.specs.Settle.{lend, desk};
+ghost use Rattle.session.specs.Session.{Runs, Live, NewLine, held, small as fits, ample as suffice, opens, Replies, First, Reads, Deposits, Operates, deposited, Later, Ends, Feeds, Closes};
 
 pub struct Session {
     // 0 before the first line, 1 after a `config`, 2 after a first line that was refused.
@@ -40,6 +41,15 @@ pub struct Answer {
     pub session: Session,
     // The length of the line that answers, or 0.
     pub len: usize,
+}
+
+// How long the slices are that are lent with the memory.
+pub struct Lengths {
+    pub room: usize,
+    pub out: usize,
+    pub post: usize,
+    pub page: usize,
+    pub text: usize,
 }
 
 pub fn start() -> Session
@@ -87,16 +97,51 @@ fn small(s: Measures) -> bool
     s.f <= 64
 }
 
+// Whether the slices suffice for such measures.
+fn ample(s: Measures, l: Lengths) -> bool
+    requires { ⌜ passes s ≡ true ⌝ }
+    ensures { λ r. ⌜ r ≡ suffice s l ⌝ }
+{
+    let row = row_size(s);
+    let frame = s.k * s.f;
+    if l.room < row + (6 + s.n * s.f) {
+        return false;
+    }
+    if l.room < s.m * row {
+        return false;
+    }
+    if l.out < frame - 4 {
+        return false;
+    }
+    if l.page <= frame - 4 {
+        return false;
+    }
+    if l.text < 2 * frame + 32 {
+        return false;
+    }
+    if 4294967295 < l.post {
+        return false;
+    }
+    if l.post < l.room {
+        return false;
+    }
+    2 * ((s.n + 1) * (16 + l.room)) <= l.post
+}
+
 // Measures out of bounds come before those that are too big.
-fn config(s: Measures, memory: &mut [u8], text: &mut [u8]) -> Answer
+fn config(s: Measures, l: Lengths, memory: &mut [u8], text: &mut [u8]) -> Answer
     ensures { λ r. ⌜ ((post page : List ℕ) → Live (r .session) (now (memory .exit)) post page)
-        × Replies (opens s (now (memory .entry))) (now (text .entry)) (now (memory .exit)) (now (text .exit)) (r .session) (r .len) × (r .session .measures ≡ s) ⌝ }
+        × Replies (opens s l (now (memory .entry))) (now (text .entry)) (now (memory .exit)) (now (text .exit)) (r .session) (r .len) × (r .session .measures ≡ s) ⌝ }
 {
     if !s.pass() {
         let n = refused(text, 1);
         return at_stage(2, s, 0, n);
     }
     if !small(s) {
+        let n = refused(text, 2);
+        return at_stage(2, s, 0, n);
+    }
+    if !ample(s, l) {
         let n = refused(text, 2);
         return at_stage(2, s, 0, n);
     }
@@ -113,13 +158,13 @@ fn config(s: Measures, memory: &mut [u8], text: &mut [u8]) -> Answer
 }
 
 // The first line.
-fn first(x: Session, memory: &mut [u8], text: &mut [u8]) -> Answer
+fn first(x: Session, l: Lengths, memory: &mut [u8], text: &mut [u8]) -> Answer
     ensures { λ r. ⌜ ((post page : List ℕ) → Live (r .session) (now (memory .exit)) post page)
-        × ((p page : List ℕ) → Read p (x .reading) page → First (standLine p) (now (memory .entry)) (now (text .entry)) (now (memory .exit)) (now (text .exit)) (r .session) (r .len)) ⌝ }
+        × ((p page : List ℕ) → Read p (x .reading) page → First (standLine p) l (now (memory .entry)) (now (text .entry)) (now (memory .exit)) (now (text .exit)) (r .session) (r .len)) ⌝ }
 {
     let r = x.reading;
     match asked(ended(r)) {
-        Command::Config(m, n, k, t, f) => config(Measures { m, n, k, t, f }, memory, text),
+        Command::Config(m, n, k, t, f) => config(Measures { m, n, k, t, f }, l, memory, text),
         _ => {
             let s = x.measures;
             let n = refused(text, 4);
@@ -139,9 +184,9 @@ fn read(
     text: &mut [u8],
 ) -> Answer
     ensures { λ r. ⌜ ((page : List ℕ) (x : Session) → x .measures ≡ s → x .used ≡ used → Runs x (now (memory .entry)) (now (post .entry)) → Live (r .session) (now (memory .exit)) (now (post .exit)) page)
-        × Operates s c (length (now (room .entry))) (length (now (room .entry))) (Event.reading c (now (room .entry)))
-        (desk (now (memory .entry)) (now (post .entry)) (now (out .entry)) (now (text .entry)) used 0)
-        (desk (now (memory .exit)) (now (post .exit)) (now (out .exit)) (now (text .exit)) (r .session .used) (r .len))
+        × Operates s c (Reads s c used (lend (now (memory .entry)) (now (post .entry)) (now (room .entry)) (now (out .entry))))
+        (desk (lend (now (memory .entry)) (now (post .entry)) (now (room .entry)) (now (out .entry))) used (now (text .entry)) 0)
+        (desk (lend (now (memory .exit)) (now (post .exit)) (now (room .exit)) (now (out .exit))) (r .session .used) (now (text .exit)) (r .len))
         × NewLine (r .session) 1 × (r .session .measures ≡ s) ⌝ }
 {
     let turn = reading(s, c, memory, room, post, used);
@@ -162,9 +207,9 @@ fn put(
     text: &mut [u8],
 ) -> Answer
     ensures { λ r. ⌜ ((sheet : List ℕ) (x : Session) → x .measures ≡ s → x .used ≡ used → Runs x (now (memory .entry)) (now (post .entry)) → Live (r .session) (now (memory .exit)) (now (post .exit)) sheet)
-        × ((given : List ℕ) → Kept given bytes (now (page .entry)) → Operates s c 0 (length (now (room .entry))) (Event.deposit c (take (length (now (page .entry))) given))
-        (desk (now (memory .entry)) (now (post .entry)) (now (out .entry)) (now (text .entry)) used 0)
-        (desk (now (memory .exit)) (now (post .exit)) (now (out .exit)) (now (text .exit)) (r .session .used) (r .len)))
+        × ((given : List ℕ) → Kept given bytes (now (page .entry)) → Operates s c (Deposits s c used (deposited s (now (page .entry)) given) (lend (now (memory .entry)) (now (post .entry)) (now (room .entry)) (now (out .entry))))
+        (desk (lend (now (memory .entry)) (now (post .entry)) (now (room .entry)) (now (out .entry))) used (now (text .entry)) 0)
+        (desk (lend (now (memory .exit)) (now (post .exit)) (now (room .exit)) (now (out .exit))) (r .session .used) (now (text .exit)) (r .len)))
         × NewLine (r .session) 1 × (r .session .measures ≡ s) ⌝ }
 {
     let n = least(bytes, page.len());
@@ -184,9 +229,9 @@ fn later(
     text: &mut [u8],
 ) -> Answer
     ensures { λ r. ⌜ (x .stage ≡ 1 → Live x (now (memory .entry)) (now (post .entry)) (now (page .entry)) → Live (r .session) (now (memory .exit)) (now (post .exit)) (now (page .entry)))
-        × ((p : List ℕ) → Read p (x .reading) (now (page .entry)) → Later (standLine p) (x .measures) (now (room .entry)) (now (page .entry))
-        (desk (now (memory .entry)) (now (post .entry)) (now (out .entry)) (now (text .entry)) (x .used) 0)
-        (desk (now (memory .exit)) (now (post .exit)) (now (out .exit)) (now (text .exit)) (r .session .used) (r .len)))
+        × ((p : List ℕ) → Read p (x .reading) (now (page .entry)) → Later (standLine p) (x .measures) (now (page .entry))
+        (desk (lend (now (memory .entry)) (now (post .entry)) (now (room .entry)) (now (out .entry))) (x .used) (now (text .entry)) 0)
+        (desk (lend (now (memory .exit)) (now (post .exit)) (now (room .exit)) (now (out .exit))) (r .session .used) (now (text .exit)) (r .len)))
         × NewLine (r .session) 1 × (r .session .measures ≡ x .measures) ⌝ }
 {
     let r = x.reading;
@@ -214,12 +259,18 @@ fn line(
     text: &mut [u8],
 ) -> Answer
     ensures { λ r. ⌜ (Live x (now (memory .entry)) (now (post .entry)) (now (page .entry)) → Live (r .session) (now (memory .exit)) (now (post .exit)) (now (page .entry)))
-        × ((p : List ℕ) → Read p (x .reading) (now (page .entry)) → Ends x p (now (room .entry)) (now (page .entry))
-        (desk (now (memory .entry)) (now (post .entry)) (now (out .entry)) (now (text .entry)) (x .used) 0)
-        (desk (now (memory .exit)) (now (post .exit)) (now (out .exit)) (now (text .exit)) (r .session .used) (r .len)) (r .session)) ⌝ }
+        × ((p : List ℕ) → Read p (x .reading) (now (page .entry)) → Ends (held x (lend (now (memory .entry)) (now (post .entry)) (now (room .entry)) (now (out .entry))) (now (page .entry)) (now (text .entry))) p
+        (held (r .session) (lend (now (memory .exit)) (now (post .exit)) (now (room .exit)) (now (out .exit))) (now (page .entry)) (now (text .exit))) (r .len)) ⌝ }
 {
     if x.stage == 0 {
-        return first(x, memory, text);
+        let l = Lengths {
+            room: room.len(),
+            out: out.len(),
+            post: post.len(),
+            page: page.len(),
+            text: text.len(),
+        };
+        return first(x, l, memory, text);
     }
     if x.stage == 1 {
         return later(x, memory, room, out, post, page, text);
@@ -238,13 +289,8 @@ pub fn feed(
     page: &mut [u8],
     text: &mut [u8],
 ) -> Answer
-    ensures { λ r. ⌜ (Live x (now (memory .entry)) (now (post .entry)) (now (page .entry)) → Live (r .session) (now (memory .exit)) (now (post .exit)) (now (page .exit)))
-        × (b ≡ 10 → (p : List ℕ) → Read p (x .reading) (now (page .entry)) → Ends x p (now (room .entry)) (now (page .entry))
-        (desk (now (memory .entry)) (now (post .entry)) (now (out .entry)) (now (text .entry)) (x .used) 0)
-        (desk (now (memory .exit)) (now (post .exit)) (now (out .exit)) (now (text .exit)) (r .session .used) (r .len)) (r .session))
-        × ((b ≡ 10 → ⊥) → Takes x b (now (page .entry))
-        (desk (now (memory .entry)) (now (post .entry)) (now (out .entry)) (now (text .entry)) (x .used) 0)
-        (desk (now (memory .exit)) (now (post .exit)) (now (out .exit)) (now (text .exit)) (r .session .used) (r .len)) (now (page .exit)) (r .session)) ⌝ }
+    ensures { λ r. ⌜ Feeds (held x (lend (now (memory .entry)) (now (post .entry)) (now (room .entry)) (now (out .entry))) (now (page .entry)) (now (text .entry))) b
+        (held (r .session) (lend (now (memory .exit)) (now (post .exit)) (now (room .exit)) (now (out .exit))) (now (page .exit)) (now (text .exit))) (r .len) ⌝ }
 {
     if b == 10 {
         return line(x, memory, room, out, post, page, text);
@@ -274,13 +320,8 @@ pub fn close(
     page: &[u8],
     text: &mut [u8],
 ) -> Answer
-    ensures { λ r. ⌜ (Live x (now (memory .entry)) (now (post .entry)) (now (page .entry)) → Live (r .session) (now (memory .exit)) (now (post .exit)) (now (page .entry)))
-        × (x .open ≡ true → (p : List ℕ) → Read p (x .reading) (now (page .entry)) → Ends x p (now (room .entry)) (now (page .entry))
-        (desk (now (memory .entry)) (now (post .entry)) (now (out .entry)) (now (text .entry)) (x .used) 0)
-        (desk (now (memory .exit)) (now (post .exit)) (now (out .exit)) (now (text .exit)) (r .session .used) (r .len)) (r .session))
-        × (x .open ≡ false → Still x
-        (desk (now (memory .entry)) (now (post .entry)) (now (out .entry)) (now (text .entry)) (x .used) 0)
-        (desk (now (memory .exit)) (now (post .exit)) (now (out .exit)) (now (text .exit)) (r .session .used) (r .len)) (r .session)) ⌝ }
+    ensures { λ r. ⌜ Closes (held x (lend (now (memory .entry)) (now (post .entry)) (now (room .entry)) (now (out .entry))) (now (page .entry)) (now (text .entry)))
+        (held (r .session) (lend (now (memory .exit)) (now (post .exit)) (now (room .exit)) (now (out .exit))) (now (page .entry)) (now (text .exit))) (r .len) ⌝ }
 {
     if x.open {
         return line(x, memory, room, out, post, page, text);

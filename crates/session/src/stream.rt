@@ -5,7 +5,8 @@ use crate::session::close;
 use crate::session::feed;
 use libc::STDOUT_FILENO;
 ghost use mathlib.Core.Path.{_≡_};
-ghost use Rattle.session.specs.Session.{Live};
+ghost use Rattle.session.specs.Settle.{lend};
+ghost use Rattle.session.specs.Session.{held, FeedsAll, Closed};
 
 // The answer's line is written.
 fn put(a: Answer, text: &[u8]) -> Session
@@ -28,7 +29,8 @@ pub fn feed_all(
     page: &mut [u8],
     text: &mut [u8],
 ) -> Session
-    ensures { λ r. ⌜ (Live x (now (memory .entry)) (now (post .entry)) (now (page .entry)) → Live r (now (memory .exit)) (now (post .exit)) (now (page .exit))) ⌝ }
+    ensures { λ r. ⌜ FeedsAll (held x (lend (now (memory .entry)) (now (post .entry)) (now (room .entry)) (now (out .entry))) (now (page .entry)) (now (text .entry))) (now (input .entry))
+        (held r (lend (now (memory .exit)) (now (post .exit)) (now (room .exit)) (now (out .exit))) (now (page .exit)) (now (text .exit))) ⌝ }
 {
     let mut y = x;
     for i in 0..input.len() {
@@ -48,7 +50,8 @@ pub fn end(
     page: &[u8],
     text: &mut [u8],
 ) -> Session
-    ensures { λ r. ⌜ (Live x (now (memory .entry)) (now (post .entry)) (now (page .entry)) → Live r (now (memory .exit)) (now (post .exit)) (now (page .entry))) ⌝ }
+    ensures { λ r. ⌜ Closed (held x (lend (now (memory .entry)) (now (post .entry)) (now (room .entry)) (now (out .entry))) (now (page .entry)) (now (text .entry)))
+        (held r (lend (now (memory .exit)) (now (post .exit)) (now (room .exit)) (now (out .exit))) (now (page .entry)) (now (text .exit))) ⌝ }
 {
     let a = close(x, memory, room, out, post, page, text);
     put(a, text)

@@ -1,12 +1,12 @@
 use borrow.Author.Needs.{needs}
 use mathlib.Core.Path.{refl}
-use mathlib.Core.List.{List, []}
+use mathlib.Core.List.{List}
 use Prim.Native.Nat.{_+_, _≤_}
 use lib.ListN.{length}
 use Rattle.protocol.specs.Run.{bring}
 use Rattle.runs.specs.Parcels.{Parcel, Listed, FindsAt}
-use Rattle.runs.specs.Event.{Capable}
-use Rattle.runs.specs.Happens.{Happens, honestIn}
+use Rattle.runs.specs.Happens.{Capable, Happens, honestIn}
+use Rattle.runs.specs.Acts.{Acts}
 use Rattle.runs.proofs.GoesLaws.{bring-none}
 use Rattle.runs.proofs.EventLaws.{ready-yes, ready-no, found-none, found-at, found-within, dishonest, honest-one}
 use Rattle.runs.proofs.event.bring.Statement.{statement}
@@ -49,7 +49,7 @@ bring-honest-requires : tie.Need-bring-honest-requires
 bring-honest-requires c κs = let w = within (c .before .before .before .before .before .before) in (able (c .before .before .before .before .before .before .before .before .before .before), w .0, w .1)
 
 returns : tie.Need-returns
-returns c = let a = c .before .before .before .before .before .before .before .args in ready-no (a .s) (honestIn (a .liars)) (bring (a .c) (a .i) (a .room .now)) (a .c) (a .i) (length (a .room .now)) (a .used) (a .memory .now) (a .post .now) [] (c .before .before .before .ready .result) (c .before .before .before .ready .ensures) (c .before .x .given .0 .0) (c .before .x .given .1)
+returns c = ready-no (c .before .before .before .ready .ensures) (c .before .x .given .0 .0) (c .before .x .given .1)
 
 same-length : tie.Need-same-length
 same-length c = search needs
@@ -58,7 +58,7 @@ returns-2 : tie.Need-returns-2
 returns-2 c =
     let a = c .before .before .before .before .before .before .before .before .before .before .args in
     let f = c .before .before .find in
-    Happens.happens _ refl
+    Happens.happens _ (able (c .before .before .before .before)) refl (Acts.rests _ tt refl)
     (λ es h. bring-none (a .s) (able (c .before .before .before .before) .measures) (honestIn (a .liars)) es (a .memory .now) (a .post .now) (a .used) h (a .c) (a .i) (a .room .now) (found-none 2 (a .c) (a .i) (h .parcels) (f .result) (f .ensures .1 (h .parcels) (h .listed)) (c .enum-told2 .given .1)))
 
 same-length-2 : tie.Need-same-length-2
@@ -73,7 +73,8 @@ same-length-4 c = search needs
 returns-3 : tie.Need-returns-3
 returns-3 c =
     let a = c .before .before .before .before .before .before .before .before .before .before .before .before .before .before .before .before .before .before .before .before .before .before .before .args in let t = c .before .before .before .before .before .before .bring-dishonest in
-    Happens.happens (t .result) (t .ensures .0) (λ es h. t .ensures .1 (honestIn (a .liars)) (dishonest (a .liars) (a .i) (c .before .before .before .before .before .before .before .before .before .before .before .lies .result) (c .before .before .before .before .before .before .before .before .before .before .before .lies .ensures) (c .before .before .before .before .before .before .before .before .before .before .if1 .taken)) es h (oldest (c .before .before .before .before .before .before .before .before .before .before .before .before .before) (h .parcels) (h .listed)))
+    let k = t .ensures .1 (honestIn (a .liars)) (dishonest (a .liars) (a .i) (c .before .before .before .before .before .before .before .before .before .before .before .lies .result) (c .before .before .before .before .before .before .before .before .before .before .before .lies .ensures) (c .before .before .before .before .before .before .before .before .before .before .if1 .taken)) in
+    Happens.happens (t .result) (able (c .before .before .before .before .before .before .before .before .before .before .before .before .before .before .before .before .before)) (t .ensures .0) (k .0) (λ es h. k .1 es h (oldest (c .before .before .before .before .before .before .before .before .before .before .before .before .before) (h .parcels) (h .listed)))
 
 same-length-5 : tie.Need-same-length-5
 same-length-5 c = search needs
@@ -87,7 +88,8 @@ same-length-7 c = search needs
 returns-4 : tie.Need-returns-4
 returns-4 c =
     let a = c .before .before .before .before .before .before .before .before .before .before .before .before .before .before .before .before .before .before .before .before .before .before .before .args in let t = c .before .before .before .before .before .before .bring-honest in
-    Happens.happens (t .result) (t .ensures .0) (λ es h. t .ensures .1 (honestIn (a .liars)) (honest-one (a .liars) (a .i) (c .before .before .before .before .before .before .before .before .before .before .before .lies .result) (c .before .before .before .before .before .before .before .before .before .before .before .lies .ensures) (c .before .before .before .before .before .before .before .before .before .before .if1 .left)) es h (oldest (c .before .before .before .before .before .before .before .before .before .before .before .before .before) (h .parcels) (h .listed)))
+    let k = t .ensures .1 (honestIn (a .liars)) (honest-one (a .liars) (a .i) (c .before .before .before .before .before .before .before .before .before .before .before .lies .result) (c .before .before .before .before .before .before .before .before .before .before .before .lies .ensures) (c .before .before .before .before .before .before .before .before .before .before .if1 .left)) in
+    Happens.happens (t .result) (able (c .before .before .before .before .before .before .before .before .before .before .before .before .before .before .before .before .before)) (t .ensures .0) (k .0) (λ es h. k .1 es h (oldest (c .before .before .before .before .before .before .before .before .before .before .before .before .before) (h .parcels) (h .listed)))
 
 pub bring-spec : {M : Type 1} → statement M
 bring-spec =

@@ -1,13 +1,13 @@
 use borrow.Author.Needs.{needs}
 use mathlib.Core.Path.{refl, sym, _∙_}
-use mathlib.Core.List.{List, []}
+use mathlib.Core.List.{List}
 use Prim.Native.Nat.{_+_, _≤_}
 use native.Mathlib.Omega.{arith}
 use lib.ListN.{length}
 use Rattle.protocol.specs.Run.{carry}
 use Rattle.runs.specs.Parcels.{Parcel, Listed, FindsAt}
-use Rattle.runs.specs.Event.{Capable}
-use Rattle.runs.specs.Happens.{Happens}
+use Rattle.runs.specs.Happens.{Capable, Happens}
+use Rattle.runs.specs.Acts.{Acts}
 use Rattle.runs.proofs.GoesLaws.{carry-none}
 use Rattle.runs.proofs.EventLaws.{ready-yes, ready-no, found-none, found-at, found-within}
 use Rattle.runs.proofs.event.carry.Statement.{statement}
@@ -50,7 +50,7 @@ carry-scan-requires : tie.Need-carry-scan-requires
 carry-scan-requires c κs = let w = within (c .before .before .before .before .before .before .before) in (able (c .before .before .before .before .before .before .before .before .before .before .before), w .0, w .1, sym (c .before .before .before .before .tagged .ensures) ∙ c .before .before .before .if1 .left)
 
 returns : tie.Need-returns
-returns c = λ honest. let a = c .before .before .before .before .before .before .before .args in ready-no (a .s) honest (carry (a .c) (a .room .now)) (a .c) 1 (length (a .room .now)) (a .used) (a .memory .now) (a .post .now) [] (c .before .before .before .ready .result) (c .before .before .before .ready .ensures) (c .before .x .given .0 .0) (c .before .x .given .1)
+returns c = λ honest. ready-no (c .before .before .before .ready .ensures) (c .before .x .given .0 .0) (c .before .x .given .1)
 
 same-length : tie.Need-same-length
 same-length c = search needs
@@ -59,7 +59,7 @@ returns-2 : tie.Need-returns-2
 returns-2 c =
     λ honest. let a = c .before .before .before .before .before .before .before .before .before .before .args in
     let f = c .before .before .find in
-    Happens.happens _ refl
+    Happens.happens _ (able (c .before .before .before .before)) refl (Acts.rests _ tt refl)
     (λ es h. carry-none (a .s) (able (c .before .before .before .before) .measures) honest es (a .memory .now) (a .post .now) (a .used) h (a .c) (a .room .now) (found-none 0 (a .c) 0 (h .parcels) (f .result) (f .ensures .1 (h .parcels) (h .listed)) (c .enum-told2 .given .1)))
 
 same-length-2 : tie.Need-same-length-2
@@ -74,7 +74,7 @@ same-length-4 c = search needs
 returns-3 : tie.Need-returns-3
 returns-3 c =
     λ honest. let t = c .before .before .before .before .before .before .carry-update in
-    Happens.happens (t .result) (t .ensures .0) (λ es h. t .ensures .1 honest es h (oldest (c .before .before .before .before .before .before .before .before .before .before .before .before .before .before) (h .parcels) (h .listed)))
+    Happens.happens (t .result) (able (c .before .before .before .before .before .before .before .before .before .before .before .before .before .before .before .before .before .before)) (t .ensures .0) (t .ensures .1 honest .0) (λ es h. t .ensures .1 honest .1 es h (oldest (c .before .before .before .before .before .before .before .before .before .before .before .before .before .before) (h .parcels) (h .listed)))
 
 same-length-5 : tie.Need-same-length-5
 same-length-5 c = search needs
@@ -88,7 +88,7 @@ same-length-7 c = search needs
 returns-4 : tie.Need-returns-4
 returns-4 c =
     λ honest. let t = c .before .before .before .before .before .before .carry-scan in
-    Happens.happens (t .result) (t .ensures .0) (λ es h. t .ensures .1 honest es h (oldest (c .before .before .before .before .before .before .before .before .before .before .before .before .before .before) (h .parcels) (h .listed)))
+    Happens.happens (t .result) (able (c .before .before .before .before .before .before .before .before .before .before .before .before .before .before .before .before .before .before)) (t .ensures .0) (t .ensures .1 honest .0) (λ es h. t .ensures .1 honest .1 es h (oldest (c .before .before .before .before .before .before .before .before .before .before .before .before .before .before) (h .parcels) (h .listed)))
 
 pub carry-spec : {M : Type 1} → statement M
 carry-spec =

@@ -5,8 +5,8 @@ use Prim.Native.Nat.{_+_, _≤_}
 use lib.ListN.{length}
 use Rattle.protocol.specs.Run.{deliver}
 use Rattle.runs.specs.Parcels.{Parcel, Listed, FindsAt}
-use Rattle.runs.specs.Event.{Capable}
-use Rattle.runs.specs.Happens.{Happens}
+use Rattle.runs.specs.Happens.{Capable, Happens}
+use Rattle.runs.specs.Acts.{Acts}
 use Rattle.runs.proofs.GoesLaws.{deliver-none}
 use Rattle.runs.proofs.EventLaws.{ready-yes, ready-no, found-none, found-at, found-within}
 use Rattle.runs.proofs.event.deliver.Statement.{statement}
@@ -43,7 +43,7 @@ deliver-message-requires : tie.Need-deliver-message-requires
 deliver-message-requires c κs = let w = within (c .before .before .before .before .before) in (able (c .before .before .before .before .before .before .before .before .before), w .0, w .1)
 
 returns : tie.Need-returns
-returns c = λ honest. let a = c .before .before .before .before .before .before .before .before .args in ready-no (a .s) honest (deliver (a .i) (a .c) (a .room .now) (a .out .now)) (a .c) (a .i) (length (a .room .now)) (a .used) (a .memory .now) (a .post .now) (a .out .now) (c .before .before .before .ready .result) (c .before .before .before .ready .ensures) (c .before .x .given .0 .0) (c .before .x .given .1)
+returns c = λ honest. ready-no (c .before .before .before .ready .ensures) (c .before .x .given .0 .0) (c .before .x .given .1)
 
 same-length : tie.Need-same-length
 same-length c = search needs
@@ -52,7 +52,7 @@ returns-2 : tie.Need-returns-2
 returns-2 c =
     λ honest. let a = c .before .before .before .before .before .before .before .before .before .before .before .args in
     let f = c .before .before .find in
-    Happens.happens _ refl
+    Happens.happens _ (able (c .before .before .before .before)) refl (Acts.rests _ tt refl)
     (λ es h. deliver-none (a .s) (able (c .before .before .before .before) .measures) honest es (a .memory .now) (a .post .now) (a .used) h (a .i) (a .c) (a .room .now) (a .out .now) (found-none 3 (a .c) (a .i) (h .parcels) (f .result) (f .ensures .1 (h .parcels) (h .listed)) (c .enum-told2 .given .1)))
 
 same-length-2 : tie.Need-same-length-2
@@ -70,7 +70,7 @@ same-length-5 c = search needs
 returns-3 : tie.Need-returns-3
 returns-3 c =
     λ honest. let t = c .before .before .before .before .before .before .before .before .deliver-message in
-    Happens.happens (t .result) (t .ensures .0) (λ es h. t .ensures .1 honest es h (oldest (c .before .before .before .before .before .before .before .before .before .before .before .before .before .before) (h .parcels) (h .listed)))
+    Happens.happens (t .result) (able (c .before .before .before .before .before .before .before .before .before .before .before .before .before .before .before .before .before .before)) (t .ensures .0) (t .ensures .1 honest .0) (λ es h. t .ensures .1 honest .1 es h (oldest (c .before .before .before .before .before .before .before .before .before .before .before .before .before .before) (h .parcels) (h .listed)))
 
 pub deliver-spec : {M : Type 1} → statement M
 deliver-spec =

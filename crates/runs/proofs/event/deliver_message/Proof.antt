@@ -1,5 +1,6 @@
 use borrow.Author.Needs.{needs}
 use lib.ListN.{length}
+use Rattle.runs.specs.Acts.{Acts}
 use Rattle.runs.proofs.GoesLaws.{deliver-goes}
 use Rattle.runs.proofs.EventLaws.{capable-first}
 use Rattle.runs.proofs.event.deliver_message.Statement.{statement}
@@ -42,7 +43,7 @@ returns c =
     let d = c .before .before .before .before .before .before .before .before .before .before .before .to-client in
     let t = c .before .before .takes in (
       t .ensures .0,
-      λ honest es h f. deliver-goes (a .s) (p .0 .measures) honest es (a .memory .now) (a .post .now) (a .used) h (a .i) (a .c) (a .room .now) (a .out .now) (d .last .1 .1 .1 .1 .1 .0) (d .last .1 .1 .1 .1 .1 .1 .0) (a .at) (a .end) (d .result) (d .last .1 .1 .1 .0) (t .last .1 .1 .1 .1 .0) (t .result) (p .0) f (d .ensures .0) (d .ensures .1) (d .ensures .2) (d .ensures .3) (d .kept .1 .1 .1 .1 .1 .0) (t .ensures .1),
+      λ honest. (Acts.delivers (a .i) (a .c) (a .at) (a .end) (d .result) (t .result) (p .1) (p .2) (record { answer = d .ensures .0; memory = d .ensures .1; room = d .ensures .2 }) (d .ensures .3) (t .ensures .1), λ es h f. deliver-goes (a .s) (p .0 .measures) honest es (a .memory .now) (a .post .now) (a .used) h (a .i) (a .c) (a .room .now) (a .out .now) (d .last .1 .1 .1 .1 .1 .0) (d .last .1 .1 .1 .1 .1 .1 .0) (a .at) (a .end) (d .result) (d .last .1 .1 .1 .0) (t .last .1 .1 .1 .1 .0) (t .result) (p .0) f (d .ensures .0) (d .ensures .1) (d .ensures .2) (d .ensures .3) (d .kept .1 .1 .1 .1 .1 .0) (t .ensures .1)),
     )
 
 pub deliver-message-spec : {M : Type 1} → statement M

@@ -1,10 +1,10 @@
 use borrow.Author.Needs.{needs}
-use mathlib.Core.List.{[]}
+use mathlib.Core.Path.{refl, sym}
 use lib.ListN.{length}
 use Rattle.protocol.specs.Run.{deposit}
-use Rattle.runs.specs.Event.{Capable}
-use Rattle.runs.specs.Happens.{Happens}
-use Rattle.runs.proofs.GoesLaws.{deposit-goes}
+use Rattle.runs.specs.Happens.{Capable, Happens}
+use Rattle.runs.specs.Acts.{Acts}
+use Rattle.runs.proofs.GoesLaws.{deposit-room, deposit-goes}
 use Rattle.runs.proofs.EventLaws.{ready-yes, ready-no}
 use Rattle.runs.proofs.event.deposit.Statement.{statement}
 use Rattle.runs.proofs.event.deposit.Tie as tie
@@ -34,7 +34,7 @@ starts-requires : tie.Need-starts-requires
 starts-requires c κs = let a = c .before .before .before .before .before .before .before .before .before .before .before .before .before .args in able (c .before .before .before .before .before .before .before)
 
 returns : tie.Need-returns
-returns c = λ honest. let a = c .before .before .before .before .before .before .before .args in ready-no (a .s) honest (deposit (a .c) (a .page .now)) (a .c) 1 0 (a .used) (a .memory .now) (a .post .now) [] (c .before .before .before .ready .result) (c .before .before .before .ready .ensures) (c .before .x .given .0 .0) (c .before .x .given .1)
+returns c = λ honest. ready-no (c .before .before .before .ready .ensures) (c .before .x .given .0 .0) (c .before .x .given .1)
 
 same-length : tie.Need-same-length
 same-length c = search needs
@@ -49,7 +49,8 @@ returns-2 c =
     let d = c .before .before .before .before .before .before .before .before .deposit in
     let t = c .before .before .starts in
     let p = able (c .before .before .before .before .before .before .before .before .before .before) in
-    Happens.happens (t .result) (t .ensures .0)
+    Happens.happens (t .result) p (t .ensures .0)
+    (Acts.deposits (a .c) (a .page .now) (d .result) (t .result) (record { answer = d .ensures .0; memory = d .ensures .1; room = sym (deposit-room _ _ _ _) }) refl (t .ensures .1))
     (λ es h. deposit-goes (a .s) (p .measures) honest es (a .memory .now) (a .post .now) (a .used) h (a .c) (a .page .now) (d .result) (d .last .1 .1 .0) (t .last .1 .1 .1 .1 .0) (t .result) p (d .ensures .0) (d .ensures .1) (t .ensures .1))
 
 pub deposit-spec : {M : Type 1} → statement M

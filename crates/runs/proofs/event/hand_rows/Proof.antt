@@ -1,5 +1,7 @@
 use borrow.Author.Needs.{needs}
 use lib.ListN.{length}
+use mathlib.Core.Path.{refl}
+use Rattle.runs.specs.Acts.{Acts}
 use Rattle.runs.proofs.GoesLaws.{hand-rows-goes}
 use Rattle.runs.proofs.EventLaws.{capable-first, tagged-long}
 use Rattle.runs.proofs.event.hand_rows.Statement.{statement}
@@ -39,7 +41,7 @@ returns c =
     let d = c .before .before .before .before .before .before .before .before .before .scanned in
     let t = c .before .before .takes in (
       t .ensures .0,
-      λ honest es h f. hand-rows-goes (a .s) (p .0 .measures) honest es (a .memory .now) (a .post .now) (a .used) h (a .c) (a .room .now) (d .last .1 .1 .1 .1 .0) (a .at) (a .end) (d .result) (d .last .1 .1 .0) (t .last .1 .1 .1 .1 .0) (t .result) (p .0) f (p .3) (d .ensures .0) (d .ensures .1) (d .ensures .2) (d .kept .1 .1 .1 .1 .0) (t .ensures .1),
+      λ honest. (Acts.shows (a .c) (a .at) (a .end) (d .result) (t .result) (p .1) (p .2) (p .3) (record { answer = d .ensures .0; memory = d .ensures .1; room = d .ensures .2 }) refl (t .ensures .1), λ es h f. hand-rows-goes (a .s) (p .0 .measures) honest es (a .memory .now) (a .post .now) (a .used) h (a .c) (a .room .now) (d .last .1 .1 .1 .1 .0) (a .at) (a .end) (d .result) (d .last .1 .1 .0) (t .last .1 .1 .1 .1 .0) (t .result) (p .0) f (p .3) (d .ensures .0) (d .ensures .1) (d .ensures .2) (d .kept .1 .1 .1 .1 .0) (t .ensures .1)),
     )
 
 pub hand-rows-spec : {M : Type 1} → statement M

@@ -2,8 +2,8 @@ use borrow.Author.Needs.{needs}
 use mathlib.Core.Path.{refl}
 use lib.ListN.{length}
 use Rattle.protocol.specs.Run.{lie}
-use Rattle.runs.specs.Event.{Capable}
-use Rattle.runs.specs.Happens.{Happens, honestIn}
+use Rattle.runs.specs.Happens.{Capable, Happens, honestIn}
+use Rattle.runs.specs.Acts.{Acts}
 use Rattle.runs.proofs.GoesLaws.{lie-goes, lie-honest}
 use Rattle.runs.proofs.EventLaws.{ready-yes, ready-no, capable-first, dishonest, honest-one}
 use Rattle.runs.proofs.event.lie.Statement.{statement}
@@ -31,7 +31,7 @@ starts-requires : tie.Need-starts-requires
 starts-requires c κs = let a = c .before .before .before .before .before .before .before .before .before .before .before .before .before .before .before .before .before .before .before .before .before .before .args in capable-first (a .s) (a .c) (a .i) (length (a .post .now)) (a .used) (length (a .room .now)) _ (able (c .before .before .before .before .before .before .before .before .before .before .before .before .before .before)) (c .before .before .before .before .before .before .before .before .to-client .kept .1 .1 .1 .1 .1 .0)
 
 returns : tie.Need-returns
-returns c = let a = c .before .before .before .before .before .before .before .before .before .args in ready-no (a .s) (honestIn (a .liars)) (lie (a .i) (a .c) (a .bytes .now) (a .room .now) (a .out .now)) (a .c) (a .i) (length (a .room .now)) (a .used) (a .memory .now) (a .post .now) (a .out .now) (c .before .before .before .ready .result) (c .before .before .before .ready .ensures) (c .before .x .given .0 .0) (c .before .x .given .1)
+returns c = ready-no (c .before .before .before .ready .ensures) (c .before .x .given .0 .0) (c .before .x .given .1)
 
 same-length : tie.Need-same-length
 same-length c = search needs
@@ -51,16 +51,19 @@ returns-2 c =
     let d = c .before .before .before .before .before .before .before .before .before .before .before .to-client in
     let t = c .before .before .starts in
     let p = able (c .before .before .before .before .before .before .before .before .before .before .before .before .before .before .before .before .before) in
-    Happens.happens (t .result) (t .ensures .0)
+    let z = dishonest (a .liars) (a .i) (c .before .before .before .before .before .before .before .before .before .before .before .before .before .before .before .before .lies .result) (c .before .before .before .before .before .before .before .before .before .before .before .before .before .before .before .before .lies .ensures) (c .before .before .before .before .before .before .before .before .before .before .before .before .before .before .before .if1 .taken) in
+    Happens.happens (t .result) p (t .ensures .0)
+    (Acts.lies (a .i) (a .c) (a .bytes .now) (d .result) (t .result) z (record { answer = d .ensures .0; memory = d .ensures .1; room = d .ensures .2 }) (d .ensures .3) (t .ensures .1))
     (λ es h. lie-goes (a .s) (p .measures) (honestIn (a .liars)) es (a .memory .now) (a .post .now) (a .used) h (a .i) (a .c) (a .bytes .now) (a .room .now) (a .out .now) (d .last .1 .1 .1 .1 .1 .0) (d .last .1 .1 .1 .1 .1 .1 .0) (d .result) (d .last .1 .1 .1 .0) (t .last .1 .1 .1 .1 .0) (t .result)
-    (dishonest (a .liars) (a .i) (c .before .before .before .before .before .before .before .before .before .before .before .before .before .before .before .before .lies .result) (c .before .before .before .before .before .before .before .before .before .before .before .before .before .before .before .before .lies .ensures) (c .before .before .before .before .before .before .before .before .before .before .before .before .before .before .before .if1 .taken)) p (d .ensures .0) (d .ensures .1) (d .ensures .2) (d .ensures .3) (d .kept .1 .1 .1 .1 .1 .0) (t .ensures .1))
+    z p (d .ensures .0) (d .ensures .1) (d .ensures .2) (d .ensures .3) (d .kept .1 .1 .1 .1 .1 .0) (t .ensures .1))
 
 returns-3 : tie.Need-returns-3
 returns-3 c =
     let a = c .before .before .before .before .before .before .before .before .before .before .args in
     let p = able (c .before .before) in
-    Happens.happens _ refl
-    (λ es h. lie-honest (a .s) (p .measures) (honestIn (a .liars)) es (a .memory .now) (a .post .now) (a .used) h (a .i) (a .c) (a .bytes .now) (a .room .now) (a .out .now) (honest-one (a .liars) (a .i) (c .before .lies .result) (c .before .lies .ensures) (c .if1 .left)))
+    let z = honest-one (a .liars) (a .i) (c .before .lies .result) (c .before .lies .ensures) (c .if1 .left) in
+    Happens.happens _ p refl (Acts.rests _ z refl)
+    (λ es h. lie-honest (a .s) (p .measures) (honestIn (a .liars)) es (a .memory .now) (a .post .now) (a .used) h (a .i) (a .c) (a .bytes .now) (a .room .now) (a .out .now) z)
 
 pub lie-spec : {M : Type 1} → statement M
 lie-spec =

@@ -1,9 +1,9 @@
 use borrow.Author.Needs.{needs}
-use mathlib.Core.List.{[]}
+use mathlib.Core.Path.{refl}
 use lib.ListN.{length}
 use Rattle.protocol.specs.Run.{reading}
-use Rattle.runs.specs.Event.{Capable}
-use Rattle.runs.specs.Happens.{Happens}
+use Rattle.runs.specs.Happens.{Capable, Happens}
+use Rattle.runs.specs.Acts.{Acts}
 use Rattle.runs.proofs.GoesLaws.{reading-goes}
 use Rattle.runs.proofs.EventLaws.{ready-yes, ready-no, capable-first}
 use Rattle.runs.proofs.event.reading.Statement.{statement}
@@ -28,7 +28,7 @@ starts-requires : tie.Need-starts-requires
 starts-requires c κs = let a = c .before .before .before .before .before .before .before .before .before .before .before .before .before .before .before .args in capable-first (a .s) (a .c) 1 (length (a .post .now)) (a .used) (length (a .room .now)) _ (able (c .before .before .before .before .before .before .before .before .before)) (c .before .before .before .before .before .before .read .kept .1 .1 .1 .0)
 
 returns : tie.Need-returns
-returns c = λ honest. let a = c .before .before .before .before .before .before .before .args in ready-no (a .s) honest (reading (a .c) (a .room .now)) (a .c) 1 (length (a .room .now)) (a .used) (a .memory .now) (a .post .now) [] (c .before .before .before .ready .result) (c .before .before .before .ready .ensures) (c .before .x .given .0 .0) (c .before .x .given .1)
+returns c = λ honest. ready-no (c .before .before .before .ready .ensures) (c .before .x .given .0 .0) (c .before .x .given .1)
 
 same-length : tie.Need-same-length
 same-length c = search needs
@@ -46,7 +46,8 @@ returns-2 c =
     let d = c .before .before .before .before .before .before .before .before .before .read in
     let t = c .before .before .starts in
     let p = able (c .before .before .before .before .before .before .before .before .before .before .before .before) in
-    Happens.happens (t .result) (t .ensures .0)
+    Happens.happens (t .result) p (t .ensures .0)
+    (Acts.reads (a .c) (d .result) (t .result) (record { answer = d .ensures .0; memory = d .ensures .1; room = d .ensures .2 }) refl (t .ensures .1))
     (λ es h. reading-goes (a .s) (p .measures) honest es (a .memory .now) (a .post .now) (a .used) h (a .c) (a .room .now) (d .last .1 .1 .1 .0) (d .result) (d .last .1 .1 .0) (t .last .1 .1 .1 .1 .0) (t .result) p (d .ensures .0) (d .ensures .1) (d .ensures .2) (d .kept .1 .1 .1 .0) (t .ensures .1))
 
 pub reading-spec : {M : Type 1} → statement M

@@ -41,13 +41,13 @@ returns-5 : tie.Need-returns-5
 returns-5 c = Unready.short (passing (c .before .before .before .before .before)) (omega arith)
 
 returns-6 : tie.Need-returns-6
-returns-6 c = let a = c .before .before .before .before .before .before .before .before .before .args in Unready.number (passing (c .before .before .before .before .before .before .before)) (number-client (a .s) (a .c) (a .i) (c .if6 .taken))
+returns-6 c = let a = c .before .before .before .before .before .before .before .before .before .args in Unready.number (passing (c .before .before .before .before .before .before .before)) (omega arith) (omega arith) (number-client (a .s) (a .c) (a .i) (c .if6 .taken))
 
 returns-7 : tie.Need-returns-7
-returns-7 c = let a = c .before .before .before .before .before .before .before .before .before .before .args in Unready.number (passing (c .before .before .before .before .before .before .before .before)) (number-low (a .s) (a .c) (a .i) (omega arith) (c .if7 .taken))
+returns-7 c = let a = c .before .before .before .before .before .before .before .before .before .before .args in Unready.number (passing (c .before .before .before .before .before .before .before .before)) (omega arith) (omega arith) (number-low (a .s) (a .c) (a .i) (omega arith) (c .if7 .taken))
 
 returns-8 : tie.Need-returns-8
-returns-8 c = let a = c .before .before .before .before .before .before .before .before .before .before .before .before .args in Unready.number (passing (c .before .before .before .before .before .before .before .before .before .before)) (number-high (a .s) (a .c) (a .i) (omega arith) (omega arith) (c .if8 .taken))
+returns-8 c = let a = c .before .before .before .before .before .before .before .before .before .before .before .before .args in Unready.number (passing (c .before .before .before .before .before .before .before .before .before .before)) (omega arith) (omega arith) (number-high (a .s) (a .c) (a .i) (omega arith) (omega arith) (c .if8 .taken))
 
 returns-9 : tie.Need-returns-9
 returns-9 c = record { measures = passing (c .before .before .before .before .before .before .before .before .before .before); enough = omega arith; small = omega arith; client = omega arith; first = omega arith; last = omega arith }

@@ -1,6 +1,6 @@
 use borrow.Author.Needs.{needs}
 use mathlib.Core.Path.{refl, sym, _∙_}
-use Rattle.runs.specs.Event.{Sends}
+use Rattle.runs.specs.Acts.{Sends}
 use Rattle.runs.proofs.event.starts.Statement.{statement}
 use Rattle.runs.proofs.event.starts.Tie as tie
 

@@ -1,6 +1,6 @@
 use borrow.Author.Needs.{needs}
 use mathlib.Core.Path.{refl, sym, _∙_}
-use Rattle.runs.specs.Event.{Takes}
+use Rattle.runs.specs.Acts.{Takes}
 use Rattle.runs.proofs.event.takes.Statement.{statement}
 use Rattle.runs.proofs.event.takes.Tie as tie
 

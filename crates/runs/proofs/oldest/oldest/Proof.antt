@@ -52,7 +52,7 @@ same-length-3 : tie.Need-same-length-3
 same-length-3 c = search needs
 
 returns-4 : tie.Need-returns-4
-returns-4 c = Oldest.call _ (omega arith) refl (c .before .before .before .before .before .before .carry .ensures honestAll)
+returns-4 c = Oldest.call _ (omega arith) (omega arith) refl (c .before .before .before .before .before .before .carry .ensures honestAll)
 
 hand-requires : tie.Need-hand-requires
 hand-requires c κs = search needs
@@ -67,7 +67,7 @@ same-length-6 : tie.Need-same-length-6
 same-length-6 c = search needs
 
 returns-5 : tie.Need-returns-5
-returns-5 c = Oldest.return _ (omega arith) refl (c .before .before .before .before .before .before .hand .ensures honestAll)
+returns-5 c = Oldest.return _ (omega arith) (omega arith) refl (c .before .before .before .before .before .before .hand .ensures honestAll)
 
 bring-requires : tie.Need-bring-requires
 bring-requires c κs = search needs
@@ -82,7 +82,7 @@ same-length-9 : tie.Need-same-length-9
 same-length-9 c = search needs
 
 returns-6 : tie.Need-returns-6
-returns-6 c = Oldest.toNode _ (omega arith) refl (c .before .before .before .before .before .before .bring .ensures)
+returns-6 c = Oldest.toNode _ (omega arith) (omega arith) refl (c .before .before .before .before .before .before .bring .ensures)
 
 deliver-requires : tie.Need-deliver-requires
 deliver-requires c κs = search needs
@@ -100,7 +100,7 @@ same-length-13 : tie.Need-same-length-13
 same-length-13 c = search needs
 
 returns-7 : tie.Need-returns-7
-returns-7 c = Oldest.toClient _ (omega arith) (c .before .before .before .before .before .before .before .before .deliver .ensures honestAll)
+returns-7 c = Oldest.toClient _ (omega arith) (omega arith) (c .before .before .before .before .before .before .before .before .deliver .ensures honestAll)
 
 pub oldest-spec : {M : Type 1} → statement M
 oldest-spec =

@@ -24,11 +24,11 @@ same-length-5 c = search needs
 
 returns : tie.Need-returns
 returns c =
-    let k = c .before .before .before .before .before .before .before .before .before .before .line .ensures in (k .0, λ e. k .1, λ e. absurd (not-both (c .before .before .before .before .before .before .before .before .before .before .before .before .before .before .before .before .before .before .before .before .before .before .before .args .x .«open») (c .before .before .before .before .before .before .before .before .before .before .before .before .before .before .before .before .if1 .taken) e))
+    let k = c .before .before .before .before .before .before .before .before .before .before .line .ensures in record { live = k .0; ends = λ e. k .1; over = λ e. absurd (not-both (c .before .before .before .before .before .before .before .before .before .before .before .before .before .before .before .before .before .before .before .before .before .before .before .args .x .«open») (c .before .before .before .before .before .before .before .before .before .before .before .before .before .before .before .before .if1 .taken) e) }
 
 returns-2 : tie.Need-returns-2
 returns-2 c =
-    (λ l. l, λ e. absurd (not-both (c .before .before .before .before .before .before .before .args .x .«open») e (c .if1 .left)), λ e. record { len = refl; lent = refl; text = refl; session = refl })
+    record { live = λ l. l; ends = λ e. absurd (not-both (c .before .before .before .before .before .before .before .args .x .«open») e (c .if1 .left)); over = λ e. (refl, refl) }
 
 pub close-spec : {M : Type 1} → statement M
 close-spec =

@@ -28,7 +28,7 @@ same-length-6 c = search needs
 
 returns : tie.Need-returns
 returns c =
-    let k = c .before .before .before .before .before .before .before .before .before .before .line .ensures in (k .0, λ e. k .1, λ n. absurd (n (c .before .before .before .before .before .before .before .before .before .before .before .before .before .before .before .before .before .if1 .taken)))
+    let k = c .before .before .before .before .before .before .before .before .before .before .line .ensures in record { live = k .0; ends = λ e. (refl, k .1); takes = λ n. absurd (n (c .before .before .before .before .before .before .before .before .before .before .before .before .before .before .before .before .before .if1 .taken)) }
 
 next-requires : tie.Need-next-requires
 next-requires c κs = search needs
@@ -37,16 +37,17 @@ same-length-7 : tie.Need-same-length-7
 same-length-7 c = search needs
 
 returns-2 : tie.Need-returns-2
-returns-2 c = (
-  λ l.
-      record {
-        runs = λ e. runs-same _ _ _ _ refl refl (l .runs e);
-        line = l .line ++ (c .before .before .before .before .before .before .before .before .before .before .before .before .before .args .b ∷ []);
-        read = c .before .before .next .ensures (l .line) (l .read);
-      },
-  λ e. absurd (c .before .before .before .before .before .before .if1 .left e),
-  λ n. record { len = refl; lent = refl; text = refl; stage = refl; measures = refl; used = refl; opened = refl; read = c .before .before .next .ensures },
-)
+returns-2 c =
+    record {
+      live = λ l.
+          record {
+            runs = λ e. runs-same _ _ _ _ refl refl (l .runs e);
+            line = l .line ++ (c .before .before .before .before .before .before .before .before .before .before .before .before .before .args .b ∷ []);
+            read = c .before .before .next .ensures (l .line) (l .read);
+          };
+      ends = λ e. absurd (c .before .before .before .before .before .before .if1 .left e);
+      takes = λ n. (record { lent = refl; text = refl; stage = refl; measures = refl; used = refl; opened = refl; read = c .before .before .next .ensures }, refl);
+    }
 
 pub feed-spec : {M : Type 1} → statement M
 feed-spec =

@@ -33,7 +33,7 @@ returns : tie.Need-returns
 returns c =
     let k = c .before .before .before .before .config .ensures in (
       k .0,
-      λ p page h. first-config _ _ _ _ _ _ _ _ (asks-config _ page (c .before .before .before .before .before .before .before .before .before .before .asked .result) _ _ _ _ _ (c .before .before .before .before .before .before .before .before .m .given .1) (c .before .before .before .before .before .before .before .before .before .before .asked .ensures p page (c .before .before .before .before .before .before .before .before .before .before .before .ended .ensures p page h))) (k .1) (k .2),
+      λ p page h. first-config _ _ _ _ _ _ _ _ _ (asks-config _ page (c .before .before .before .before .before .before .before .before .before .before .asked .result) _ _ _ _ _ (c .before .before .before .before .before .before .before .before .m .given .1) (c .before .before .before .before .before .before .before .before .before .before .asked .ensures p page (c .before .before .before .before .before .before .before .before .before .before .before .ended .ensures p page h))) (k .1) (k .2),
     )
 
 same-length-3 : tie.Need-same-length-3
@@ -43,7 +43,7 @@ returns-2 : tie.Need-returns-2
 returns-2 c =
     let a = c .at-stage .ensures in (
       λ post page. a .4 _ post page (λ e. absurd (omega arith)),
-      λ p page h. first-refused (standLine p) _ _ _ _ _ _ (first-other (standLine p) page (c .before .before .before .before .before .before .before .asked .result) _ (c .before .before .before .before .before .before .match .keys2) (c .before .before .before .before .before .before .before .asked .ensures p page (c .before .before .before .before .before .before .before .before .ended .ensures p page h))) (c .before .before .before .refused .ensures) (a .0) (a .1) (a .3),
+      λ p page h. first-refused (standLine p) _ _ _ _ _ _ _ (first-other (standLine p) page (c .before .before .before .before .before .before .before .asked .result) _ _ (c .before .before .before .before .before .before .match .keys2) (c .before .before .before .before .before .before .before .asked .ensures p page (c .before .before .before .before .before .before .before .before .ended .ensures p page h))) (c .before .before .before .refused .ensures) (a .0) (a .1) (a .3),
     )
 
 pub first-spec : {M : Type 1} → statement M

@@ -50,7 +50,7 @@ returns c =
     let k = c .before .before .before .before .before .before .before .before .before .before .read .ensures in
     let g = c .before .before .before .before .before .before .before .before .before .before .before .before .before .before .before .before .before .before .before .before .before .before .before .before .before .before .before .before .before .args in (
       λ e l. k .0 _ _ refl refl (l .runs e),
-      λ p h. later-reads _ (g .room .now) (g .page .now) _ _ (standLine p) _ (asks-read (standLine p) (g .page .now) (c .before .before .before .before .before .before .before .before .before .before .before .before .before .before .before .before .before .before .before .asked .result) _ (c .before .before .before .before .before .before .before .before .before .before .before .before .before .before .before .before .before .c .given .1) (c .before .before .before .before .before .before .before .before .before .before .before .before .before .before .before .before .before .before .before .asked .ensures p (g .page .now) (c .before .before .before .before .before .before .before .before .before .before .before .before .before .before .before .before .before .before .before .before .ended .ensures p (g .page .now) h))) (k .1),
+      λ p h. later-reads _ (g .page .now) _ _ (standLine p) _ (asks-read (standLine p) (g .page .now) (c .before .before .before .before .before .before .before .before .before .before .before .before .before .before .before .before .before .before .before .asked .result) _ (c .before .before .before .before .before .before .before .before .before .before .before .before .before .before .before .before .before .c .given .1) (c .before .before .before .before .before .before .before .before .before .before .before .before .before .before .before .before .before .before .before .asked .ensures p (g .page .now) (c .before .before .before .before .before .before .before .before .before .before .before .before .before .before .before .before .before .before .before .before .ended .ensures p (g .page .now) h))) (k .1),
       k .2,
       k .3,
     )
@@ -75,7 +75,7 @@ returns-2 c =
     let k = c .before .before .before .before .before .before .before .before .before .before .put .ensures in
     let g = c .before .before .before .before .before .before .before .before .before .before .before .before .before .before .before .before .before .before .before .before .before .before .before .before .before .before .before .before .before .args in (
       λ e l. k .0 _ _ refl refl (l .runs e),
-      λ p h. later-deposits _ (g .room .now) (g .page .now) _ _ (standLine p) _ _ (asks-deposit (standLine p) (g .page .now) (c .before .before .before .before .before .before .before .before .before .before .before .before .before .before .before .before .before .before .before .asked .result) _ _ (c .before .before .before .before .before .before .before .before .before .before .before .before .before .before .before .before .before .c2 .given .1) (c .before .before .before .before .before .before .before .before .before .before .before .before .before .before .before .before .before .before .before .asked .ensures p (g .page .now) (c .before .before .before .before .before .before .before .before .before .before .before .before .before .before .before .before .before .before .before .before .ended .ensures p (g .page .now) h))) (k .1),
+      λ p h. later-deposits _ (g .page .now) _ _ (standLine p) _ _ (asks-deposit (standLine p) (g .page .now) (c .before .before .before .before .before .before .before .before .before .before .before .before .before .before .before .before .before .before .before .asked .result) _ _ (c .before .before .before .before .before .before .before .before .before .before .before .before .before .before .before .before .before .c2 .given .1) (c .before .before .before .before .before .before .before .before .before .before .before .before .before .before .before .before .before .before .before .asked .ensures p (g .page .now) (c .before .before .before .before .before .before .before .before .before .before .before .before .before .before .before .before .before .before .before .before .ended .ensures p (g .page .now) h))) (k .1),
       k .2,
       k .3,
     )
@@ -88,7 +88,7 @@ returns-3 c =
     let a = c .at-stage .ensures in
     let g = c .before .before .before .before .before .before .before .before .before .before .before .before .before .before .before .before .args in (
       λ e l. a .4 _ _ _ (λ f. runs-same _ _ _ _ (a .2) (a .3) (l .runs e)),
-      λ p h. later-other _ (g .room .now) (g .page .now) _ _ (standLine p) (c .before .before .before .before .before .before .asked .result) (c .before .before .before .before .before .match .keys3) (c .before .before .before .before .before .before .asked .ensures p (g .page .now) (c .before .before .before .before .before .before .before .ended .ensures p (g .page .now) h)) (refused-again _ _ _ _ _ _ _ _ (a .0) (a .3) (c .before .before .before .refused .ensures)),
+      λ p h. later-other _ (g .page .now) _ _ (standLine p) (c .before .before .before .before .before .before .asked .result) (c .before .before .before .before .before .match .keys3) (c .before .before .before .before .before .before .asked .ensures p (g .page .now) (c .before .before .before .before .before .before .before .ended .ensures p (g .page .now) h)) (refused-again _ _ _ _ _ _ _ _ (a .0) (a .3) (c .before .before .before .refused .ensures)),
       a .1,
       a .2,
     )

@@ -17,7 +17,7 @@ returns : tie.Need-returns
 returns c =
     let k = c .before .before .before .before .first .ensures in (
       λ l. k .0 _ _,
-      λ p h. record { first = λ e. (k .1 p _ h, refl, refl); later = λ e. absurd (omega arith); over = λ e. absurd (omega arith) },
+      λ p h. record { first = λ e. (k .1 p _ h, refl, refl, refl); later = λ e. absurd (omega arith); over = λ e. absurd (omega arith) },
     )
 
 later-requires : tie.Need-later-requires
@@ -48,7 +48,7 @@ returns-2 c =
 returns-3 : tie.Need-returns-3
 returns-3 c = (
   λ l. l,
-  λ p h. record { first = λ e. absurd (omega arith); later = λ e. absurd (omega arith); over = λ e. record { len = refl; lent = refl; text = refl; session = refl } },
+  λ p h. record { first = λ e. absurd (omega arith); later = λ e. absurd (omega arith); over = λ e. (refl, refl) },
 )
 
 pub line-spec : {M : Type 1} → statement M

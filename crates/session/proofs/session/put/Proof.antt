@@ -1,11 +1,9 @@
-use Prim.Native.Nat.{ℕ}
-use mathlib.Core.List.{List}
-use mathlib.Core.Path.{sym, refl, ap}
+use mathlib.Core.Path.{sym, refl}
 use native.Mathlib.Omega.{arith}
 use lib.Seq.{length-take-le}
 use borrow.Author.Needs.{needs}
-use Rattle.protocol.specs.Run.{Event}
-use Rattle.session.proofs.LineLaws.{kept-page, operates}
+use Rattle.runs.specs.Oldest.{honestAll}
+use Rattle.session.proofs.LineLaws.{kept-starts, deposits}
 use Rattle.session.proofs.SessionLaws.{front-bytes, operation-runs}
 use Rattle.session.proofs.session.put.Statement.{statement}
 use Rattle.session.proofs.session.put.Tie as tie
@@ -47,8 +45,8 @@ returns c =
     let e = c .before .before .before .before .before .before .before .before .before .before .before .settle .ensures in
     let g = c .before .before .before .before .before .before .before .before .before .before .before .before .before .before .before .before .before .before .before .before .before .before .before .before .before .before .before .before .before .before .before .before .args in
     let l = c .before .before .before .before .before .before .before .before .before .before .before .before .before .before .before .before .before .before .before .before .before .before .before .before .before .least in (
-      λ page x m u h. a .4 _ _ page (λ q. operation-runs x _ _ _ _ _ _ _ _ _ _ _ _ _ _ _ _ m u h (a .2) (a .3) o (front-bytes (l .result) (g .page .now) (λ i. c .before .before .before .before .before .before .before .before .before .before .before .before .before .before .before .before .before .before .before .before .before .before .before .before .before .before .before .shared-slice-known .given i .fits)) e),
-      λ given k. operates _ _ _ _ _ _ _ _ _ _ _ _ _ _ _ _ _ (ap (λ (b : List ℕ). Event.deposit (g .c) b) (kept-page given (g .page .now) (g .bytes) (l .result) k (l .ensures .0))) refl o refl e (a .3) (a .0),
+      λ page x m u h. a .4 _ _ page (λ q. operation-runs x _ _ _ _ _ _ _ _ _ _ _ _ _ _ m u h (a .2) (a .3) o (front-bytes (l .result) (g .page .now) (λ i. c .before .before .before .before .before .before .before .before .before .before .before .before .before .before .before .before .before .before .before .before .before .before .before .before .before .before .before .shared-slice-known .given i .fits)) refl refl e),
+      λ given k. deposits _ _ _ _ _ _ _ _ _ _ _ _ e (a .3) (a .0) _ (kept-starts _ _ _ _ _ given (g .page .now) _ _ _ _ _ k (l .ensures .0) (o honestAll)) refl refl,
       a .1,
       a .2,
     )

@@ -1,7 +1,7 @@
 use mathlib.Core.Path.{refl}
 use native.Mathlib.Omega.{arith}
 use borrow.Author.Needs.{needs}
-use Rattle.session.proofs.LineLaws.{operates}
+use Rattle.session.proofs.LineLaws.{reads}
 use Rattle.session.proofs.SessionLaws.{operation-runs}
 use Rattle.session.proofs.session.read.Statement.{statement}
 use Rattle.session.proofs.session.read.Tie as tie
@@ -35,8 +35,8 @@ returns c =
     let a = c .at-stage .ensures in
     let o = c .before .before .before .before .before .before .before .before .before .before .before .before .before .before .before .before .before .before .before .before .before .before .before .reading .ensures in
     let e = c .before .before .before .before .before .before .before .before .before .before .before .settle .ensures in (
-      λ page x m u h. a .4 _ _ page (λ g. operation-runs x _ _ _ _ _ _ _ _ _ _ _ _ _ _ _ _ m u h (a .2) (a .3) o (λ i. c .before .before .before .before .before .before .before .before .before .before .before .before .before .before .before .before .before .before .before .before .before .before .before .before .before .before .before .before .before .before .slice-known2 .given i .fits) e),
-      operates _ _ _ _ _ _ _ _ _ _ _ _ _ _ _ _ _ refl (c .before .before .before .before .before .before .before .before .before .before .before .before .before .before .before .before .before .before .before .before .room .given) o refl e (a .3) (a .0),
+      λ page x m u h. a .4 _ _ page (λ g. operation-runs x _ _ _ _ _ _ _ _ _ _ _ _ _ _ m u h (a .2) (a .3) o (λ i. c .before .before .before .before .before .before .before .before .before .before .before .before .before .before .before .before .before .before .before .before .before .before .before .before .before .before .before .before .before .before .slice-known2 .given i .fits) refl refl e),
+      reads _ _ _ _ _ _ _ _ _ _ _ _ e (a .3) (a .0) o refl,
       a .1,
       a .2,
     )

@@ -31,7 +31,7 @@ same-length-5 c = search needs
 returns : tie.Need-returns
 returns c =
     λ start n h.
-    Hands.goes n _ _ _ _ h refl (λ i. c .before .before .before .before .before .before .before .before .before .before .before .before .before .before .before .before .before .before .before .before .before .before .slice-known2 .given i .fits, λ i. c .before .before .before .before .before .before .before .before .before .before .before .before .before .before .before .before .before .before .before .before .before .slice-known3 .given i .fits) (c .before .before .before .before .before .before .before .before .before .before .before .before .before .before .oldest .ensures) refl
+    Hands.goes n _ _ _ h (λ i. c .before .before .before .before .before .before .before .before .before .before .before .before .before .before .before .before .before .before .before .before .before .before .slice-known2 .given i .fits, λ i. c .before .before .before .before .before .before .before .before .before .before .before .before .before .before .before .before .before .before .before .before .before .slice-known3 .given i .fits) (c .before .before .before .before .before .before .before .before .before .before .before .before .before .before .oldest .ensures) refl
     (record { n = c .before .before .before .say .result; says = c .before .before .before .say .ensures; length = c .latest .ensures })
 
 pub hand-over-spec : {M : Type 1} → statement M

@@ -4,14 +4,14 @@ use mathlib.Core.Logic.{inl, inr}
 use native.Mathlib.Omega.{arith}
 use lib.ListN.{length}
 use borrow.Author.Needs.{needs}
+use Rattle.session.specs.Settle.{lend, desk}
 use Rattle.session.proofs.SettleLaws.{Settling, settling-begins, settling-more, settling-ends}
 use Rattle.session.proofs.settle.settle.Statement.{statement}
 use Rattle.session.proofs.settle.settle.Tie as tie
 
 abbrev Inv-loop : tie.InvT-loop
 Inv-loop s c memory₀ room₀ out₀ post₀ text₀ len x₀ left₀ memory room out post text x left =
-    Settling s c (length room₀) (record { lent = record { memory = memory₀; post = post₀; out = out₀ }; used = x₀ .used; text = text₀; len = x₀ .len })
-    (record { lent = record { memory = memory; post = post; out = out }; used = x .used; text = text; len = x .len }) left
+    Settling s c (desk (lend memory₀ post₀ room₀ out₀) (x₀ .used) text₀ (x₀ .len)) (desk (lend memory post room out) (x .used) text (x .len)) left
     × (length memory ≡ length memory₀) × (length room ≡ length room₀) × (length out ≡ length out₀) × (length post ≡ length post₀) × (length text ≡ length text₀)
 
 abbrev μ-loop : tie.MeasureT-loop
@@ -21,7 +21,7 @@ say-requires : tie.Need-say-requires Inv-loop μ-loop
 say-requires c κs = search needs
 
 loop-holds : tie.Need-loop-holds Inv-loop μ-loop
-loop-holds c = (settling-begins _ _ _ _, refl, refl, refl, refl, refl)
+loop-holds c = (settling-begins _ _ _, refl, refl, refl, refl, refl)
 
 same-length : tie.Need-same-length Inv-loop μ-loop
 same-length c = c .before .before .before .loop .inv .1
@@ -40,7 +40,7 @@ same-length-5 c = omega (arith, c .before .before .before .loop .inv .5)
 
 returns : tie.Need-returns Inv-loop μ-loop
 returns c =
-    settling-ends _ _ _ _ _ _ _ _ _ _ _ _ (c .before .before .before .before .before .before .say .ensures) (c .before .before .before .loop .inv .0) (inl (omega arith))
+    settling-ends _ _ _ _ _ _ _ _ _ _ _ (c .before .before .before .before .before .before .say .ensures) (c .before .before .before .loop .inv .0) (inl (omega arith))
 
 hand-over-requires : tie.Need-hand-over-requires Inv-loop μ-loop
 hand-over-requires c κs = search needs
@@ -55,7 +55,7 @@ loop-again : tie.Need-loop-again Inv-loop μ-loop
 loop-again c =
     let l = c .before .before .before .before .before .before .before .before .before .before .before .before .before .before .before .before .before .before .before .loop in
     let h = l .inv in (
-      settling-more _ _ _ _ _ _ (l .left) _ (h .2) (c .before .before .before .before .before .before .before .before .before .before .before .before .before .before .before .before .before .before .loop-test .taken) (h .0) (c .before .before .before .before .before .before .before .before .before .before .hand-over .ensures),
+      settling-more _ _ _ _ _ (l .left) (c .before .before .before .before .before .before .before .before .before .before .before .before .before .before .before .before .before .before .loop-test .taken) (h .0) (c .before .before .before .before .before .before .before .before .before .before .hand-over .ensures),
       omega (arith, h .1),
       omega (arith, h .2),
       omega (arith, h .3),
@@ -80,7 +80,7 @@ same-length-10 c = omega (arith, c .before .loop .inv .5)
 
 returns-2 : tie.Need-returns-2 Inv-loop μ-loop
 returns-2 c =
-    settling-ends _ _ _ _ _ _ _ _ _ _ _ _ (c .before .before .before .before .say .ensures) (c .before .loop .inv .0) (inr (omega arith))
+    settling-ends _ _ _ _ _ _ _ _ _ _ _ (c .before .before .before .before .say .ensures) (c .before .loop .inv .0) (inr (omega arith))
 
 pub settle-spec : {M : Type 1} → statement M
 settle-spec =

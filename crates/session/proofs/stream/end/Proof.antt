@@ -1,5 +1,4 @@
 use borrow.Author.Needs.{needs}
-use Rattle.session.proofs.SessionLaws.{live-as}
 use Rattle.session.proofs.stream.end.Statement.{statement}
 use Rattle.session.proofs.stream.end.Tie as tie
 
@@ -25,7 +24,8 @@ same-length-5 : tie.Need-same-length-5
 same-length-5 c = search needs
 
 returns : tie.Need-returns
-returns c = λ l. live-as _ _ _ _ _ (c .put .ensures) (c .before .before .before .before .before .before .before .before .before .before .before .before .close .ensures .0 l)
+returns c =
+    let k = c .before .before .before .before .before .before .before .before .before .before .before .before .close in record { len = k .result .len; closes = rw (c .put .ensures) (k .ensures) }
 
 pub end-spec : {M : Type 1} → statement M
 end-spec =

@@ -1,23 +1,24 @@
 use mathlib.Core.Path.{_≡_, refl}
 use Prim.Native.Nat.{_-_, _≤_}
 use native.Mathlib.Omega.{arith}
-use lib.ListN.{length}
+use lib.ListN.{length, take}
 use borrow.Author.Needs.{needs}
-use Rattle.session.specs.Session.{Live}
-use Rattle.session.proofs.SessionLaws.{live-as}
+use Rattle.session.specs.Settle.{lend}
+use Rattle.session.specs.Session.{held, FeedsAll}
+use Rattle.session.proofs.SessionLaws.{feeds-more, feeds-whole}
 use Rattle.session.proofs.stream.feed_all.Statement.{statement}
 use Rattle.session.proofs.stream.feed_all.Tie as tie
 
 abbrev Inv-loop : tie.InvT-loop
 Inv-loop input memory₀ room₀ out₀ post₀ page₀ text₀ y₀ i₀ i-end memory room out post page text y i =
-    (i ≤ length input) × (Live y₀ memory₀ post₀ page₀ → Live y memory post page)
+    (i ≤ length input) × FeedsAll (held y₀ (lend memory₀ post₀ room₀ out₀) page₀ text₀) (take i input) (held y (lend memory post room out) page text)
     × (length memory ≡ length memory₀) × (length room ≡ length room₀) × (length out ≡ length out₀) × (length post ≡ length post₀) × (length page ≡ length page₀) × (length text ≡ length text₀)
 
 abbrev μ-loop : tie.MeasureT-loop
 μ-loop input memory₀ room₀ out₀ post₀ page₀ text₀ y₀ i₀ i-end memory room out post page text y i = length input - i
 
 loop-holds : tie.Need-loop-holds Inv-loop μ-loop
-loop-holds c = (omega arith, λ l. l, refl, refl, refl, refl, refl, refl)
+loop-holds c = (omega arith, FeedsAll.begun, refl, refl, refl, refl, refl, refl)
 
 shared-slice-read-feed : tie.Need-shared-slice-read-feed Inv-loop μ-loop
 shared-slice-read-feed c = omega arith
@@ -38,7 +39,7 @@ loop-again : tie.Need-loop-again Inv-loop μ-loop
 loop-again c =
     let h = c .before .before .before .before .before .before .before .before .before .before .before .before .before .before .before .before .before .before .before .before .before .before .before .loop .inv in (
       omega (arith, c .before .before .before .before .before .before .before .before .before .before .before .before .before .before .before .before .before .before .before .before .before .before .loop-test .taken),
-      λ l. live-as _ _ _ _ _ (c .put .ensures) (c .before .before .before .before .before .before .before .before .before .before .before .before .before .before .feed .ensures .0 (h .1 l)),
+      feeds-more _ _ _ _ _ _ _ _ _ _ (c .before .before .before .before .before .before .before .before .before .before .before .before .before .before .before .before .before .before .before .before .before .before .loop-test .taken) (h .1) (c .put .ensures) (c .before .before .before .before .before .before .before .before .before .before .before .before .before .before .feed .ensures),
       omega (arith, h .2, c .before .before .before .before .before .before .before .before .before .before .before .before .before .memory .given),
       omega (arith, h .3, c .before .before .before .before .before .before .before .before .before .before .before .room .given),
       omega (arith, h .4, c .before .before .before .before .before .before .before .before .before .out .given),
@@ -66,7 +67,7 @@ same-length-6 : tie.Need-same-length-6 Inv-loop μ-loop
 same-length-6 c = c .before .loop .inv .7
 
 returns : tie.Need-returns Inv-loop μ-loop
-returns c = c .before .loop .inv .1
+returns c = feeds-whole _ _ _ _ (c .before .loop .inv .0) (λ l. omega arith) (c .before .loop .inv .1)
 
 pub feed-all-spec : {M : Type 1} → statement M
 feed-all-spec =

@@ -1,0 +1,113 @@
+-- An event on memory and parcels of any bytes, damaged ones too: what its party makes of its part of the memory, and what is then under way.
+use mathlib.Core.Path.{_≡_}
+use mathlib.Core.Bool.{Bool, true, false}
+use mathlib.Core.List.{List, [], _∷_, _++_}
+use Prim.Native.Nat.{ℕ, zero, suc, _+_, _-_, _≤_}
+use lib.ListN.{take, drop}
+use Rattle.protocol.specs.declared.measures.Measures.{Measures}
+use Rattle.protocol.specs.ClientEvents.{ClientEnd, startDeposit, startReading, updateAnswer, scanAnswer, clientMessage}
+use Rattle.protocol.specs.DirectoryEvents.{directoryUpdate, directoryScan}
+use Rattle.protocol.specs.NodeEvents.{nodeMessage}
+use Rattle.protocol.specs.Run.{Event, deposit, reading, carry, hand, bring, deliver, lie, isRefused}
+use Rattle.parties.specs.declared.answer.Service.{Service}
+use Rattle.parties.specs.Answer.{served}
+use Rattle.client.specs.declared.answer.ClientAnswer.{ClientAnswer}
+use Rattle.client.specs.Answer.{answered}
+use Rattle.title.specs.Memory.{directoryIn, tableAt, tableIn, recordAt, recordIn, Put}
+use Rattle.runs.specs.declared.answer.Happened.{Happened}
+use Rattle.runs.specs.declared.answer.Turn.{Turn}
+use Rattle.runs.specs.Parcels.{Parcel, Appended, Removed}
+use Rattle.runs.specs.Sent.{sent}
+
+-- what is lent, before and after; where an event has no room or no output, [] stands for it
+pub record Lent : Type 0 where
+  pub memory : List ℕ
+  pub post : List ℕ
+  pub room : List ℕ
+  pub out : List ℕ
+
+-- the bytes of a parcel between two places
+abbrev pub body : List ℕ → ℕ → ℕ → List ℕ
+body post at end = take (end - (at + 7)) (drop (at + 7) post)
+
+-- those behind its first
+abbrev pub behind : List ℕ → ℕ → ℕ → List ℕ
+behind post at end = take (end - (at + 8)) (drop (at + 8) post)
+
+-- a call with fields, or an answer with rows
+abbrev pub tagged : List ℕ → Bool
+tagged [] = false
+tagged (zero ∷ b) = false
+tagged (suc t ∷ b) = true
+
+-- a client's answer to a start or to dishonest bytes: unless it refuses, what it sends is put under way
+pub data Sends (s : Measures) (c : ℕ) (a : ClientAnswer) (room post : List ℕ) (used : ℕ) (after : List ℕ) : Turn → Type 0 where
+  refuses : isRefused (answered a) ≡ true → after ≡ post → Sends s c a room post used after (record { used = used; what = Happened.ByClient a })
+  sends : (to : ℕ) → isRefused (answered a) ≡ false → Appended (sent s c (answered a) room) post used after to
+      → Sends s c a room post used after (record { used = to; what = Happened.ByClient a })
+
+-- its answer to a parcel, which is then no longer under way
+pub data Takes (s : Measures) (c : ℕ) (a : ClientAnswer) (room post : List ℕ) (used at end : ℕ) (after : List ℕ) : Turn → Type 0 where
+  refuses : isRefused (answered a) ≡ true → after ≡ post → Takes s c a room post used at end after (record { used = used; what = Happened.ByClient a })
+  takes : (left to : ℕ) (mid : List ℕ) → isRefused (answered a) ≡ false → Removed at end post used mid left → Appended (sent s c (answered a) room) mid left after to
+      → Takes s c a room post used at end after (record { used = to; what = Happened.ByClient a })
+
+-- the directory's or a node's answer to a parcel: unless it refuses, it is under way in its place, as the last one
+pub data Serves (kind c i : ℕ) (front room post : List ℕ) (used at end : ℕ) (after : List ℕ) : Service → Turn → Type 0 where
+  refuses : (r : _) → after ≡ post → Serves kind c i front room post used at end after (Service.Refused r) (record { used = used; what = Happened.ByServer (Service.Refused r) })
+  serves : (len left to : ℕ) (mid : List ℕ) → Removed at end post used mid left
+      → Appended (record { kind = kind; client = c; node = i; bytes = front ++ take len room } ∷ []) mid left after to
+      → Serves kind c i front room post used at end after (Service.Served len) (record { used = to; what = Happened.ByServer (Service.Served len) })
+
+-- a client's event on its record: the answer, the record in its place, and the room
+pub record AtClient (s : Measures) (c : ℕ) (a : ClientAnswer) (e : ClientEnd) (x y : Lent) : Type 0 where
+  pub answer : answered a ≡ e .answer
+  pub memory : Put (x .memory) (recordAt s c) (recordIn s c (x .memory)) (e .client) (y .memory)
+  pub room : y .room ≡ e .room
+
+-- the events at which nothing may be under way, or an honest node would have to lie
+abbrev pub MayRest : (ℕ → Bool) → Event → Type 0
+MayRest honest (deposit c page) = ⊥
+MayRest honest (reading c room) = ⊥
+MayRest honest (carry c room) = Unit {0}
+MayRest honest (hand c room) = Unit {0}
+MayRest honest (bring c i room) = Unit {0}
+MayRest honest (deliver i c room out) = Unit {0}
+MayRest honest (lie i c bytes room out) = honest i ≡ true
+
+-- free is which parcel is found, between `at` and `end`, where the bytes are no list of parcels
+pub data Acts (s : Measures) (honest : ℕ → Bool) (used : ℕ) (x y : Lent) : Event → Turn → Type 0 where
+  rests : (e : Event) → MayRest honest e → y ≡ x → Acts s honest used x y e (record { used = used; what = Happened.Nothing })
+  deposits : (c : ℕ) (page : List ℕ) (a : ClientAnswer) (turn : Turn) → AtClient s c a (startDeposit s c (recordIn s c (x .memory)) page) x y
+      → y .out ≡ x .out → Sends s c a (y .room) (x .post) used (y .post) turn → Acts s honest used x y (deposit c page) turn
+  reads : (c : ℕ) (a : ClientAnswer) (turn : Turn) → AtClient s c a (startReading s c (recordIn s c (x .memory)) (x .room)) x y
+      → y .out ≡ x .out → Sends s c a (y .room) (x .post) used (y .post) turn → Acts s honest used x y (reading c (x .room)) turn
+  updates : (c at end : ℕ) (a : Service) (turn : Turn) → at + 7 ≤ end → end ≤ used → tagged (body (x .post) at end) ≡ true
+      → served a ≡ directoryUpdate s c (directoryIn s (x .memory)) (behind (x .post) at end) .answer
+      → Put (x .memory) 0 (directoryIn s (x .memory)) (directoryUpdate s c (directoryIn s (x .memory)) (behind (x .post) at end) .table) (y .memory)
+      → y .room ≡ x .room → y .out ≡ x .out → Serves 1 c 0 (0 ∷ []) [] (x .post) used at end (y .post) a turn → Acts s honest used x y (carry c (x .room)) turn
+  scans : (c at end : ℕ) (a : Service) (turn : Turn) → at + 7 ≤ end → end ≤ used → tagged (body (x .post) at end) ≡ false
+      → served a ≡ directoryScan s (directoryIn s (x .memory)) (x .room) .answer → y .memory ≡ x .memory
+      → y .room ≡ directoryScan s (directoryIn s (x .memory)) (x .room) .room → y .out ≡ x .out
+      → Serves 1 c 0 (1 ∷ []) (y .room) (x .post) used at end (y .post) a turn → Acts s honest used x y (carry c (x .room)) turn
+  acknowledges : (c at end : ℕ) (a : ClientAnswer) (turn : Turn) → at + 7 ≤ end → end ≤ used → tagged (body (x .post) at end) ≡ false
+      → AtClient s c a (updateAnswer s c (recordIn s c (x .memory)) (x .room)) x y
+      → y .out ≡ x .out → Takes s c a (y .room) (x .post) used at end (y .post) turn → Acts s honest used x y (hand c (x .room)) turn
+  shows : (c at end : ℕ) (a : ClientAnswer) (turn : Turn) → at + 7 ≤ end → end ≤ used → tagged (body (x .post) at end) ≡ true
+      → AtClient s c a (scanAnswer s c (recordIn s c (x .memory)) (behind (x .post) at end) (x .room)) x y
+      → y .out ≡ x .out → Takes s c a (y .room) (x .post) used at end (y .post) turn → Acts s honest used x y (hand c (x .room)) turn
+  brings : (c i at end : ℕ) (a : Service) (turn : Turn) → honest i ≡ true → at + 7 ≤ end → end ≤ used
+      → served a ≡ nodeMessage s i (tableIn s i (x .memory)) (body (x .post) at end) (x .room) .answer
+      → Put (x .memory) (tableAt s i) (tableIn s i (x .memory)) (nodeMessage s i (tableIn s i (x .memory)) (body (x .post) at end) (x .room) .table) (y .memory)
+      → y .room ≡ nodeMessage s i (tableIn s i (x .memory)) (body (x .post) at end) (x .room) .room → y .out ≡ x .out
+      → Serves 3 c i [] (y .room) (x .post) used at end (y .post) a turn → Acts s honest used x y (bring c i (x .room)) turn
+  loses : (c i at end left : ℕ) → honest i ≡ false → at + 7 ≤ end → end ≤ used → y .memory ≡ x .memory → y .room ≡ x .room → y .out ≡ x .out
+      → Removed at end (x .post) used (y .post) left → Acts s honest used x y (bring c i (x .room)) (record { used = left; what = Happened.Taken })
+  delivers : (i c at end : ℕ) (a : ClientAnswer) (turn : Turn) → at + 7 ≤ end → end ≤ used
+      → AtClient s c a (clientMessage s c i (recordIn s c (x .memory)) (body (x .post) at end) (x .room) (x .out)) x y
+      → y .out ≡ clientMessage s c i (recordIn s c (x .memory)) (body (x .post) at end) (x .room) (x .out) .out
+      → Takes s c a (y .room) (x .post) used at end (y .post) turn → Acts s honest used x y (deliver i c (x .room) (x .out)) turn
+  lies : (i c : ℕ) (bytes : List ℕ) (a : ClientAnswer) (turn : Turn) → honest i ≡ false
+      → AtClient s c a (clientMessage s c i (recordIn s c (x .memory)) bytes (x .room) (x .out)) x y
+      → y .out ≡ clientMessage s c i (recordIn s c (x .memory)) bytes (x .room) (x .out) .out
+      → Sends s c a (y .room) (x .post) used (y .post) turn → Acts s honest used x y (lie i c bytes (x .room) (x .out)) turn
