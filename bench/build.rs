@@ -1,20 +1,23 @@
-// Links the proved archives that the features ask for. CODING_LIB, PARTIES_LIB and CLIENT_LIB name another folder with an archive of
-// that name, to measure a trial.
+// Links the proved archives. CODING_LIB, PARTIES_LIB and TITLE_LIB name another folder with an archive of that name, to measure a trial.
 use std::env;
-use std::path::PathBuf;
+use std::fs;
+use std::path::{Path, PathBuf};
 
-fn link(variable: &str, archive: &str) {
+fn link(variable: &str, archive: &str, out: &Path) {
     println!("cargo:rerun-if-env-changed={variable}");
-    let here = PathBuf::from(env::var("CARGO_MANIFEST_DIR").unwrap());
     let folder = match env::var(variable) {
         Ok(given) => PathBuf::from(given),
-        Err(_) => here.join("../target/staticlib"),
+        Err(_) => {
+            PathBuf::from(env::var("CARGO_MANIFEST_DIR").unwrap()).join("../target/staticlib")
+        }
     };
-    println!(
-        "cargo:rerun-if-changed={}",
-        folder.join(format!("lib{archive}.a")).display()
-    );
-    println!("cargo:rustc-link-search=native={}", folder.display());
+    let name = format!("lib{archive}.a");
+    let from = folder.join(&name);
+    println!("cargo:rerun-if-changed={}", from.display());
+    // One folder is searched: in several the linker could find another archive of that name first.
+    if let Err(error) = fs::copy(&from, out.join(&name)) {
+        panic!("{}: {error}; bench/run builds it", from.display());
+    }
     println!("cargo:rustc-link-lib=static={archive}");
 }
 
@@ -22,10 +25,10 @@ fn main() {
     // Without an archive nothing but this file decides.
     println!("cargo:rerun-if-changed=build.rs");
     if env::var_os("CARGO_FEATURE_ARCHIVES").is_some() {
-        link("CODING_LIB", "coding_export");
-        link("PARTIES_LIB", "parties_export");
-    }
-    if env::var_os("CARGO_FEATURE_CLIENT").is_some() {
-        link("CLIENT_LIB", "client_export");
+        let out = PathBuf::from(env::var("OUT_DIR").unwrap());
+        link("CODING_LIB", "coding_export", &out);
+        link("PARTIES_LIB", "parties_export", &out);
+        link("TITLE_LIB", "title_export", &out);
+        println!("cargo:rustc-link-search=native={}", out.display());
     }
 }

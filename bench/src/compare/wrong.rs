@@ -1,18 +1,17 @@
 //! Parties that do something else than document 01 says. Each must be caught by the clauses of random runs.
 
-use crate::client::{digest, nodes_of, read_message, Answer, Client, Message, Step};
+use crate::client::{digest, nodes_of, read_message, Client, Message, Step};
 use crate::client_calls;
-use crate::parties::{put_version, read_rows, write_rows, Bytes, Measures, Pointer, Record};
-use crate::parties::{Version, NONE};
-use crate::plain;
+use crate::parties::{pass, put_version, read_rows, write_rows, Bytes, Pointer, Record, NONE};
 use crate::random::Numbers;
 use crate::runs::{run, Counts, Fault};
 use crate::sides::{Parties, Plain};
+use jolbizna::{Answer, ClientAnswer, Measures, Version};
 use std::collections::{BTreeMap, BTreeSet};
 
 /// The record's values, where there are any.
 fn shown(s: Measures, record: &[u8]) -> Option<Client> {
-    (s.pass() && record.len() >= s.record()).then(|| Client::read(s, record))?
+    (pass(s) && record.len() >= s.record()).then(|| Client::read(s, record))?
 }
 
 /// Rows of a scan, altered.
@@ -44,10 +43,16 @@ fn freeing(list: BTreeSet<Version>) -> Vec<u8> {
 struct FreesEarly(Option<Vec<u8>>);
 
 impl Parties for FreesEarly {
-    fn updated(&mut self, s: Measures, own: usize, record: &mut [u8], room: &mut [u8]) -> Answer {
+    fn updated(
+        &mut self,
+        s: Measures,
+        own: usize,
+        record: &mut [u8],
+        room: &mut [u8],
+    ) -> ClientAnswer {
         let before = shown(s, record);
         let answer = Plain.updated(s, own, record, room);
-        if let (Answer::Scan, Some(client)) = (answer, before) {
+        if let (ClientAnswer::Scan, Some(client)) = (answer, before) {
             if let Step::Updating(_) = client.step {
                 let mut list = BTreeSet::from([client.written.version]);
                 for version in client.frozen.iter().map(|p| p.version) {
@@ -78,7 +83,7 @@ impl Parties for SkipsFrozen {
         record: &mut [u8],
         rows: &[u8],
         room: &mut [u8],
-    ) -> Answer {
+    ) -> ClientAnswer {
         let rows = match shown(s, record).map(|client| client.step) {
             Some(Step::Picking) => altered(s, rows, |_, row| {
                 if let Some(index) = row.frozen_indices.iter_mut().flatten().nth(own) {
@@ -104,7 +109,7 @@ impl Parties for CountsTwice {
         message: &[u8],
         room: &mut [u8],
         out: &mut [u8],
-    ) -> Answer {
+    ) -> ClientAnswer {
         let mut node = node;
         if let (Some(client), Some(Message::Stored(of))) =
             (shown(s, record), read_message(s, message))
@@ -133,9 +138,9 @@ impl Parties for NeverDrops {
         record: &mut [u8],
         rows: &[u8],
         room: &mut [u8],
-    ) -> Answer {
+    ) -> ClientAnswer {
         match Plain.scanned(s, own, record, rows, room) {
-            Answer::Deposited(version, _) => Answer::Deposited(version, 1),
+            ClientAnswer::Deposited(version, _) => ClientAnswer::Deposited(version, 1),
             answer => answer,
         }
     }
@@ -152,10 +157,10 @@ impl Parties for RightOnce {
         record: &mut [u8],
         rows: &[u8],
         room: &mut [u8],
-    ) -> Answer {
+    ) -> ClientAnswer {
         let first = shown(s, record).is_none_or(|client| client.written.version == NONE);
         match Plain.scanned(s, own, record, rows, room) {
-            Answer::Deposited(version, _) if !first => Answer::Deposited(version, 1),
+            ClientAnswer::Deposited(version, _) if !first => ClientAnswer::Deposited(version, 1),
             answer => answer,
         }
     }
@@ -206,24 +211,24 @@ impl Parties for PublishesAtOnce {
         record: &mut [u8],
         rows: &[u8],
         room: &mut [u8],
-    ) -> Answer {
+    ) -> ClientAnswer {
         let rows = match shown(s, record).map(|client| client.step) {
             Some(Step::Freezing(_)) => altered(s, rows, |_, row| row.reading = Some(0)),
             _ => rows.to_vec(),
         };
         let answer = Plain.scanned(s, own, record, &rows, room);
         match (answer, shown(s, record)) {
-            (Answer::Stores(..), _) => {
+            (ClientAnswer::Stores(..), _) => {
                 let rows = read_rows(s, &rows).into_iter().flatten();
                 let indices = rows.map(|row| row.reading.unwrap_or(0)).collect();
                 self.indices.insert(own, indices);
                 self.free.remove(&own);
                 answer
             }
-            (Answer::Deposited(version, len), Some(client)) => {
+            (ClientAnswer::Deposited(version, len), Some(client)) => {
                 let message = self.list(own, &client, &room[1..len]);
                 room[..message.len()].copy_from_slice(&message);
-                Answer::Deposited(version, message.len())
+                ClientAnswer::Deposited(version, message.len())
             }
             _ => answer,
         }
@@ -238,9 +243,9 @@ impl Parties for PublishesAtOnce {
         message: &[u8],
         room: &mut [u8],
         out: &mut [u8],
-    ) -> Answer {
+    ) -> ClientAnswer {
         let answer = Plain.receive(s, own, node, record, message, room, out);
-        let (Answer::Update(_), Some(mut client)) = (answer, shown(s, record)) else {
+        let (ClientAnswer::Update(_), Some(mut client)) = (answer, shown(s, record)) else {
             return answer;
         };
         let Step::Updating(pointer) = client.step.clone() else {
@@ -256,7 +261,7 @@ impl Parties for PublishesAtOnce {
         };
         let bytes = fields.write();
         room[..bytes.len()].copy_from_slice(&bytes);
-        Answer::Update(bytes.len())
+        ClientAnswer::Update(bytes.len())
     }
 }
 
@@ -271,10 +276,10 @@ impl Parties for ReservesNothing {
         record: &mut [u8],
         rows: &[u8],
         room: &mut [u8],
-    ) -> Answer {
+    ) -> ClientAnswer {
         let previous = shown(s, record).map(|client| client.written.version);
         let answer = Plain.scanned(s, own, record, rows, room);
-        if let (Answer::Deposited(version, _), Some(mut client), Some(previous)) =
+        if let (ClientAnswer::Deposited(version, _), Some(mut client), Some(previous)) =
             (answer, shown(s, record), previous)
         {
             client.reserved = vec![NONE; s.m];
@@ -282,7 +287,7 @@ impl Parties for ReservesNothing {
             let list = [previous].into_iter().filter(|v| *v != NONE);
             let message = freeing(list.collect());
             room[..message.len()].copy_from_slice(&message);
-            return Answer::Deposited(version, message.len());
+            return ClientAnswer::Deposited(version, message.len());
         }
         answer
     }
@@ -299,7 +304,7 @@ impl Parties for OwnSequence {
         record: &mut [u8],
         rows: &[u8],
         room: &mut [u8],
-    ) -> Answer {
+    ) -> ClientAnswer {
         let rows = match shown(s, record).map(|client| client.step) {
             Some(Step::Scanning { .. }) => altered(s, rows, |p, row| {
                 if p != own {
@@ -323,7 +328,7 @@ impl Parties for OneName {
         record: &mut [u8],
         rows: &[u8],
         room: &mut [u8],
-    ) -> Answer {
+    ) -> ClientAnswer {
         let own = match shown(s, record).map(|client| client.step) {
             Some(Step::Scanning { .. }) if own < s.m => 0,
             _ => own,
@@ -343,7 +348,7 @@ impl Parties for AlwaysEmpty {
         record: &mut [u8],
         rows: &[u8],
         room: &mut [u8],
-    ) -> Answer {
+    ) -> ClientAnswer {
         let rows = match shown(s, record).map(|client| client.step) {
             Some(Step::Picking) => altered(s, rows, |_, row| {
                 row.written = Some(Pointer::none());
@@ -368,7 +373,7 @@ impl Parties for TrustsPieces {
         message: &[u8],
         room: &mut [u8],
         out: &mut [u8],
-    ) -> Answer {
+    ) -> ClientAnswer {
         let before = record.to_vec();
         if let (Some(mut client), Some(Message::Reply(_, Some(piece)))) =
             (shown(s, record), read_message(s, message))
@@ -400,7 +405,7 @@ impl Parties for KeepsNothing {
         table: &mut [u8],
         message: &[u8],
         room: &mut [u8],
-    ) -> plain::Answer {
+    ) -> Answer {
         let before = table.to_vec();
         let answer = Plain.node_message(s, i, table, message, room);
         table.copy_from_slice(&before);
@@ -412,9 +417,9 @@ impl Parties for KeepsNothing {
 struct BeginsRefused;
 
 impl Parties for BeginsRefused {
-    fn deposit(&mut self, s: Measures, own: usize, record: &mut [u8], page: &[u8]) -> Answer {
+    fn deposit(&mut self, s: Measures, own: usize, record: &mut [u8], page: &[u8]) -> ClientAnswer {
         let answer = Plain.deposit(s, own, record, page);
-        if answer == Answer::Refused(6) {
+        if answer == ClientAnswer::Refused(6) {
             Plain.deposit(s, own, record, &page[..s.page()]);
         }
         answer
@@ -434,15 +439,15 @@ impl Parties for GivesUp {
         message: &[u8],
         room: &mut [u8],
         out: &mut [u8],
-    ) -> Answer {
+    ) -> ClientAnswer {
         let reading =
             shown(s, record).filter(|client| matches!(client.step, Step::Fetching { .. }));
         let missing = matches!(read_message(s, message), Some(Message::Reply(_, None)));
         let answer = Plain.receive(s, own, node, record, message, room, out);
-        if let (Answer::Waits, Some(mut client), true) = (answer, reading, missing) {
+        if let (ClientAnswer::Waits, Some(mut client), true) = (answer, reading, missing) {
             client.step = Step::Idle;
             client.write(s, record);
-            return Answer::Failed;
+            return ClientAnswer::Failed;
         }
         answer
     }
@@ -461,9 +466,9 @@ impl Parties for AltersPage {
         message: &[u8],
         room: &mut [u8],
         out: &mut [u8],
-    ) -> Answer {
+    ) -> ClientAnswer {
         let answer = Plain.receive(s, own, node, record, message, room, out);
-        if let Answer::Page(_, len @ 1..) = answer {
+        if let ClientAnswer::Page(_, len @ 1..) = answer {
             out[len - 1] ^= 1;
         }
         answer
@@ -483,9 +488,9 @@ impl Parties for ClearsOutput {
         message: &[u8],
         room: &mut [u8],
         out: &mut [u8],
-    ) -> Answer {
+    ) -> ClientAnswer {
         let answer = Plain.receive(s, own, node, record, message, room, out);
-        if let Answer::Page(_, len) = answer {
+        if let ClientAnswer::Page(_, len) = answer {
             out[len..].fill(0);
         }
         answer
@@ -505,9 +510,9 @@ impl Parties for PublishesAnother {
         message: &[u8],
         room: &mut [u8],
         out: &mut [u8],
-    ) -> Answer {
+    ) -> ClientAnswer {
         let answer = Plain.receive(s, own, node, record, message, room, out);
-        if let Answer::Update(_) = answer {
+        if let ClientAnswer::Update(_) = answer {
             // The sequence's lowest byte, after the map.
             room[4] = room[4].wrapping_add(1);
         }
@@ -528,7 +533,7 @@ impl Parties for CountsNone {
         message: &[u8],
         room: &mut [u8],
         out: &mut [u8],
-    ) -> Answer {
+    ) -> ClientAnswer {
         let before = record.to_vec();
         let room_before = room.to_vec();
         let answer = Plain.receive(s, own, node, record, message, room, out);
@@ -536,7 +541,7 @@ impl Parties for CountsNone {
         if stored && answer.number() == 0 {
             record.copy_from_slice(&before);
             room.copy_from_slice(&room_before);
-            return Answer::Waits;
+            return ClientAnswer::Waits;
         }
         answer
     }
@@ -546,9 +551,15 @@ impl Parties for CountsNone {
 struct NumberFirst;
 
 impl Parties for NumberFirst {
-    fn read(&mut self, s: Measures, own: usize, record: &mut [u8], room: &mut [u8]) -> Answer {
+    fn read(
+        &mut self,
+        s: Measures,
+        own: usize,
+        record: &mut [u8],
+        room: &mut [u8],
+    ) -> ClientAnswer {
         match Plain.read(s, own, record, room) {
-            Answer::Refused(2) if own >= s.m => Answer::Refused(3),
+            ClientAnswer::Refused(2) if own >= s.m => ClientAnswer::Refused(3),
             answer => answer,
         }
     }

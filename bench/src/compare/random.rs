@@ -1,6 +1,6 @@
 //! Numbers without order, and measures, versions and damage made from them.
 
-use crate::parties::{Measures, Version};
+use jolbizna::{Measures, Version};
 
 /// Numbers without order, the same in each run.
 pub struct Numbers(pub u64);

@@ -1,13 +1,13 @@
 //! Whole random runs: a directory, nodes and clients from fresh tables, events in any order, up to t nodes that lie, clients that stop,
 //! calls that are refused. After every event the clauses of demand 3 are tested on what it touched, and at the end on everything.
 
-use crate::client::{nodes_of, read_message, Answer, Client, Nodes, Step};
-use crate::parties::{put_version, read_rows, read_table, Bytes, Held, Measures, Pointer, Record};
-use crate::parties::{Version, NONE};
+use crate::client::{nodes_of, read_message, Client, Nodes, Step};
+use crate::parties::{put_version, read_rows, read_table, Bytes, Held, Pointer, Record, NONE};
 use crate::plain;
 use crate::random::{spoil, Numbers};
 use crate::sides::Parties;
 use crate::tally::Tally;
+use jolbizna::{Answer, ClientAnswer, Measures, Version};
 use std::collections::{BTreeMap, BTreeSet, VecDeque};
 
 // The clauses of demand 3, and what is tested beside them.
@@ -46,8 +46,8 @@ fn test(holds: bool, clause: &'static str, detail: impl FnOnce() -> String) -> V
     fault(clause, detail())
 }
 
-/// What was done, and how often each clause was tested.
-#[derive(Default)]
+/// What was done, and how often each clause was tested. The same runs of other parties that do the same have the same counts.
+#[derive(Default, PartialEq)]
 pub struct Counts {
     pub runs: usize,
     pub events: usize,
@@ -78,7 +78,7 @@ impl Counts {
         *self.met.entry(what).or_default() += 1;
     }
 
-    fn print(&self) {
+    pub fn print(&self) {
         self.tally.print();
         for (head, counts) in [("met", &self.met), ("tested", &self.tested)] {
             println!("{:<36} {head:>10}", "");
@@ -288,7 +288,7 @@ impl<'a> Run<'a> {
         }
         let mut records = vec![numbers.bytes(s.record() + spare); s.m];
         for record in &mut records {
-            assert_eq!(side.fresh(s, record), Answer::Waits);
+            assert_eq!(side.fresh(s, record), ClientAnswer::Waits);
         }
         Run {
             side,
@@ -542,7 +542,7 @@ impl<'a> Run<'a> {
         let Some(served) = served else {
             return Ok(());
         };
-        if let (Answer::Requests(version, _), Told::Rows(rows)) = (served.answer, &told) {
+        if let (ClientAnswer::Requests(version, _), Told::Rows(rows)) = (served.answer, &told) {
             self.note_older(version, rows);
         }
         self.told[c] = None;
@@ -644,7 +644,7 @@ impl<'a> Run<'a> {
     fn served(
         &mut self,
         name: &'static str,
-        answer: plain::Answer,
+        answer: Answer,
         wants: u32,
         same: bool,
     ) -> Result<bool, Fault> {
@@ -678,10 +678,10 @@ impl<'a> Run<'a> {
             self.send_all(c, &message);
         }
         match served.answer {
-            Answer::Waits => Ok(()),
-            Answer::Scan => self.ask(c, Call::Scan),
-            Answer::Update(len) => self.ask(c, Call::Update(room[..len].to_vec())),
-            Answer::Stores(version, len) => {
+            ClientAnswer::Waits => Ok(()),
+            ClientAnswer::Scan => self.ask(c, Call::Scan),
+            ClientAnswer::Update(len) => self.ask(c, Call::Update(room[..len].to_vec())),
+            ClientAnswer::Stores(version, len) => {
                 let o = self.marked(c, true)?;
                 self.operations[o].version = Some(version);
                 for i in 1..=s.n {
@@ -690,14 +690,14 @@ impl<'a> Run<'a> {
                 }
                 Ok(())
             }
-            Answer::Deposited(version, len) => {
+            ClientAnswer::Deposited(version, len) => {
                 let o = self.marked(c, true)?;
                 self.bears(o, version)?;
                 self.send_all(c, &room[..len]);
                 self.counts.met("deposits ended");
                 self.end(o)
             }
-            Answer::Requests(version, nodes) => {
+            ClientAnswer::Requests(version, nodes) => {
                 let o = self.marked(c, false)?;
                 let pointer = self.picked(c)?;
                 self.operations[o].version = Some(pointer.version);
@@ -708,14 +708,14 @@ impl<'a> Run<'a> {
                 }
                 Ok(())
             }
-            Answer::Empty => {
+            ClientAnswer::Empty => {
                 let o = self.marked(c, false)?;
                 self.operations[o].version = Some(NONE);
                 self.operations[o].pointer = Some(Pointer::none());
                 self.counts.met("readings ended empty");
                 self.end(o)
             }
-            Answer::Page(version, len) => {
+            ClientAnswer::Page(version, len) => {
                 let o = self.marked(c, false)?;
                 self.bears(o, version)?;
                 self.operations[o].given = Some(served.out[..len].to_vec());
@@ -723,7 +723,7 @@ impl<'a> Run<'a> {
                 self.end(o)
             }
             // Judged before.
-            Answer::Refused(_) | Answer::Spent | Answer::Failed => Ok(()),
+            ClientAnswer::Refused(_) | ClientAnswer::Spent | ClientAnswer::Failed => Ok(()),
         }
     }
 
@@ -1045,7 +1045,7 @@ impl<'a> Run<'a> {
 
 /// What a client's event left, if it was not refused.
 struct Served {
-    answer: Answer,
+    answer: ClientAnswer,
     room: Vec<u8>,
     out: Vec<u8>,
 }
@@ -1067,7 +1067,7 @@ impl<'r, 'a> Lent<'r, 'a> {
         self,
         name: &'static str,
         wants: u32,
-        event: impl FnOnce(&mut dyn Parties, &mut [u8], &mut [u8], &mut [u8]) -> Answer,
+        event: impl FnOnce(&mut dyn Parties, &mut [u8], &mut [u8], &mut [u8]) -> ClientAnswer,
     ) -> Result<Option<Served>, Fault> {
         let Lent {
             run,
@@ -1084,7 +1084,7 @@ impl<'r, 'a> Lent<'r, 'a> {
             return Ok(None);
         }
         let front = match answer {
-            Answer::Page(_, len) => len,
+            ClientAnswer::Page(_, len) => len,
             _ => 0,
         };
         run.counts.tested(REST, 1);
@@ -1101,9 +1101,8 @@ pub fn run(side: &mut dyn Parties, counts: &mut Counts, numbers: &mut Numbers) -
     Run::new(side, counts, numbers).go(numbers)
 }
 
-/// So many runs, in all of which every clause must hold. Gives the sum of all that was left: the same runs of other parties that do the
-/// same have the same sum.
-pub fn runs(name: &str, side: &mut dyn Parties, seed: u64, total: usize) -> u64 {
+/// So many runs, in all of which every clause must hold.
+pub fn runs(name: &str, side: &mut dyn Parties, seed: u64, total: usize) -> Counts {
     let mut numbers = Numbers(seed);
     let mut counts = Counts::default();
     for at in 0..total {
@@ -1115,6 +1114,5 @@ pub fn runs(name: &str, side: &mut dyn Parties, seed: u64, total: usize) -> u64 
         "{total} random runs of {name}, {} events: every clause holds after each",
         counts.events
     );
-    counts.print();
-    counts.sum
+    counts
 }

@@ -23,7 +23,7 @@ fn main() {
     client_calls::calls("plain Rust", &mut Plain, &mut Plain, &mut numbers, 100_000);
     println!();
     let seed = numbers.next();
-    runs::runs("plain Rust", &mut Plain, seed, runs);
+    runs::runs("plain Rust", &mut Plain, seed, runs).print();
     println!();
     wrong::wrong(&mut numbers, 3000);
 }

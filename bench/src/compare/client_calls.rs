@@ -1,7 +1,7 @@
 //! Calls without order to a client's events, valid and damaged: two implementations must answer and leave the same.
 
-use crate::client::{digest, map_of, read_message, Answer, Client, Nodes, Step};
-use crate::parties::{put_version, write_rows, Measures, Pointer, Record, Version, NONE};
+use crate::client::{digest, map_of, read_message, Client, Nodes, Step};
+use crate::parties::{put_version, write_rows, Pointer, Record, NONE};
 use crate::plain;
 use crate::random::{
     measures, number, other_measures, rare, spoil, spoil_byte, spoil_directory, version, who,
@@ -9,6 +9,7 @@ use crate::random::{
 };
 use crate::sides::Parties;
 use crate::tally::Tally;
+use jolbizna::{ClientAnswer, Measures, Version};
 use std::collections::BTreeSet;
 
 /// So many nodes of 1 to n.
@@ -126,7 +127,7 @@ struct Lent {
     whole: bool,
 }
 
-type Outcome = Result<Answer, String>;
+type Outcome = Result<ClientAnswer, String>;
 
 impl<'a> Session<'a> {
     fn new(sides: [&'a mut dyn Parties; 2], tally: &'a mut Tally, numbers: &mut Numbers) -> Self {
@@ -297,7 +298,7 @@ impl<'a> Session<'a> {
         &mut self,
         name: &'static str,
         lent: Lent,
-        call: impl Fn(&mut dyn Parties, Measures, &mut [u8], &mut [u8], &mut [u8]) -> Answer,
+        call: impl Fn(&mut dyn Parties, Measures, &mut [u8], &mut [u8], &mut [u8]) -> ClientAnswer,
     ) -> Outcome {
         let s = lent.s;
         let mut ends = Vec::new();
@@ -316,7 +317,7 @@ impl<'a> Session<'a> {
             return Err(format!("{name} {s:?}: {answer:?}, the bytes differ"));
         }
         let same = ours.1 == lent.record && ours.2 == lent.room && ours.3 == lent.out;
-        if let (Answer::Refused(_), false) = (answer, same) {
+        if let (ClientAnswer::Refused(_), false) = (answer, same) {
             return Err(format!("{name} {s:?}: {answer:?}, but the bytes changed"));
         }
         self.tally.note(name, answer.number());
@@ -374,11 +375,11 @@ impl<'a> Session<'a> {
             side.scanned(s, own, record, &rows, room)
         })?;
         match answer {
-            Answer::Stores(..) => self.tally.note("client, scanned: stores", 0),
-            Answer::Deposited(_, 1) => self.tally.note("client, scanned: frees none", 0),
-            Answer::Deposited(..) => self.tally.note("client, scanned: frees some", 0),
-            Answer::Requests(..) => self.tally.note("client, scanned: requests", 0),
-            Answer::Empty => self.tally.note("client, scanned: empty", 0),
+            ClientAnswer::Stores(..) => self.tally.note("client, scanned: stores", 0),
+            ClientAnswer::Deposited(_, 1) => self.tally.note("client, scanned: frees none", 0),
+            ClientAnswer::Deposited(..) => self.tally.note("client, scanned: frees some", 0),
+            ClientAnswer::Requests(..) => self.tally.note("client, scanned: requests", 0),
+            ClientAnswer::Empty => self.tally.note("client, scanned: empty", 0),
             _ => {}
         }
         Ok(answer)
@@ -444,9 +445,9 @@ impl<'a> Session<'a> {
             side.receive(s, own, node, record, &message, room, out)
         })?;
         match answer {
-            Answer::Update(_) => self.tally.note("client, stored: published", 0),
-            Answer::Page(..) => self.tally.note("client, reply: page", 0),
-            Answer::Refused(4) if sound => self.tally.note("client, reply: no frame", 4),
+            ClientAnswer::Update(_) => self.tally.note("client, stored: published", 0),
+            ClientAnswer::Page(..) => self.tally.note("client, reply: page", 0),
+            ClientAnswer::Refused(4) if sound => self.tally.note("client, reply: no frame", 4),
             _ => {}
         }
         Ok(answer)

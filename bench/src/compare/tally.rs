@@ -3,7 +3,7 @@
 use std::collections::{BTreeMap, BTreeSet};
 
 /// How often each call was answered in each way.
-#[derive(Default)]
+#[derive(Default, PartialEq)]
 pub struct Tally(BTreeMap<&'static str, BTreeMap<u32, usize>>);
 
 impl Tally {

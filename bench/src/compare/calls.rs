@@ -1,13 +1,13 @@
-//! Calls without order to the directory and a node, valid and damaged: the archive and plain Rust must answer and leave the same.
+//! Calls without order to the directory and a node, valid and damaged: two implementations must answer and leave the same.
 
-use crate::parties::{self, put_version, Measures, Pointer, Record, Version};
-use crate::plain::Answer;
-use crate::proved;
+use crate::parties::{put_version, Pointer, Record};
 use crate::random::{
     measures, number, other_measures, rare, spoil, spoil_byte, spoil_directory, version, who,
     Numbers,
 };
+use crate::sides::Parties;
 use crate::tally::Tally;
+use jolbizna::{Answer, Measures, Version};
 use std::collections::BTreeSet;
 
 /// The refusal's number, or 0 for served.
@@ -15,62 +15,81 @@ fn refused(answer: Answer) -> u32 {
     answer.err().unwrap_or(0)
 }
 
-pub fn same_directory_fresh(s: Measures, table: &[u8]) -> (Vec<u8>, Answer) {
-    let (mut ours, mut theirs) = (table.to_vec(), table.to_vec());
-    let answer = proved::directory_fresh(s, &mut ours);
-    let other = parties::directory_fresh(s, &mut theirs);
-    assert_eq!(answer, other, "fresh directory {s:?}");
-    assert!(ours == theirs, "fresh directory {s:?}: the tables differ");
-    (ours, answer)
+/// Two implementations, each call made on both with the same bytes.
+pub struct Pair<'a> {
+    pub ours: &'a mut dyn Parties,
+    pub theirs: &'a mut dyn Parties,
 }
 
-pub fn same_update(s: Measures, own: usize, table: &[u8], fields: &[u8]) -> (Vec<u8>, Answer) {
-    let (mut ours, mut theirs) = (table.to_vec(), table.to_vec());
-    let answer = proved::directory_update(s, own, &mut ours, fields);
-    let other = parties::directory_update(s, own, &mut theirs, fields);
-    assert_eq!(answer, other, "update {s:?} {own} {fields:?}");
-    assert!(
-        ours == theirs,
-        "update {s:?} {own} {fields:?}: the tables differ"
-    );
-    (ours, answer)
-}
+impl Pair<'_> {
+    pub fn directory_fresh(&mut self, s: Measures, table: &[u8]) -> (Vec<u8>, Answer) {
+        let (mut ours, mut theirs) = (table.to_vec(), table.to_vec());
+        let answer = self.ours.directory_fresh(s, &mut ours);
+        let other = self.theirs.directory_fresh(s, &mut theirs);
+        assert_eq!(answer, other, "fresh directory {s:?}");
+        assert!(ours == theirs, "fresh directory {s:?}: the tables differ");
+        (ours, answer)
+    }
 
-pub fn same_scan(s: Measures, table: &[u8], room: &[u8]) -> (Vec<u8>, Answer) {
-    let (mut ours, mut theirs) = (room.to_vec(), room.to_vec());
-    let answer = proved::directory_scan(s, table, &mut ours);
-    let other = parties::directory_scan(s, table, &mut theirs);
-    assert_eq!(answer, other, "scan {s:?}");
-    assert!(ours == theirs, "scan {s:?}: the rooms differ");
-    (ours, answer)
-}
+    pub fn update(
+        &mut self,
+        s: Measures,
+        own: usize,
+        table: &[u8],
+        fields: &[u8],
+    ) -> (Vec<u8>, Answer) {
+        let (mut ours, mut theirs) = (table.to_vec(), table.to_vec());
+        let answer = self.ours.directory_update(s, own, &mut ours, fields);
+        let other = self.theirs.directory_update(s, own, &mut theirs, fields);
+        assert_eq!(answer, other, "update {s:?} {own} {fields:?}");
+        assert!(
+            ours == theirs,
+            "update {s:?} {own} {fields:?}: the tables differ"
+        );
+        (ours, answer)
+    }
 
-pub fn same_node_fresh(s: Measures, table: &[u8]) -> (Vec<u8>, Answer) {
-    let (mut ours, mut theirs) = (table.to_vec(), table.to_vec());
-    let answer = proved::node_fresh(s, &mut ours);
-    let other = parties::node_fresh(s, &mut theirs);
-    assert_eq!(answer, other, "fresh table {s:?}");
-    assert!(ours == theirs, "fresh table {s:?}: the tables differ");
-    (ours, answer)
-}
+    pub fn scan(&mut self, s: Measures, table: &[u8], room: &[u8]) -> (Vec<u8>, Answer) {
+        let (mut ours, mut theirs) = (room.to_vec(), room.to_vec());
+        let answer = self.ours.directory_scan(s, table, &mut ours);
+        let other = self.theirs.directory_scan(s, table, &mut theirs);
+        assert_eq!(answer, other, "scan {s:?}");
+        assert!(ours == theirs, "scan {s:?}: the rooms differ");
+        (ours, answer)
+    }
 
-pub fn same_message(
-    s: Measures,
-    i: usize,
-    table: &[u8],
-    message: &[u8],
-    room: &[u8],
-) -> (Vec<u8>, Vec<u8>, Answer) {
-    let (mut ours, mut theirs) = (table.to_vec(), table.to_vec());
-    let (mut our_room, mut their_room) = (room.to_vec(), room.to_vec());
-    let answer = proved::node_message(s, i, &mut ours, message, &mut our_room);
-    let other = parties::node_message(s, i, &mut theirs, message, &mut their_room);
-    assert_eq!(answer, other, "message {s:?} {i} {message:?}");
-    assert!(
-        ours == theirs && our_room == their_room,
-        "message {s:?} {i} {message:?}: the bytes differ"
-    );
-    (ours, our_room, answer)
+    pub fn node_fresh(&mut self, s: Measures, table: &[u8]) -> (Vec<u8>, Answer) {
+        let (mut ours, mut theirs) = (table.to_vec(), table.to_vec());
+        let answer = self.ours.node_fresh(s, &mut ours);
+        let other = self.theirs.node_fresh(s, &mut theirs);
+        assert_eq!(answer, other, "fresh table {s:?}");
+        assert!(ours == theirs, "fresh table {s:?}: the tables differ");
+        (ours, answer)
+    }
+
+    pub fn message(
+        &mut self,
+        s: Measures,
+        i: usize,
+        table: &[u8],
+        message: &[u8],
+        room: &[u8],
+    ) -> (Vec<u8>, Vec<u8>, Answer) {
+        let (mut ours, mut theirs) = (table.to_vec(), table.to_vec());
+        let (mut our_room, mut their_room) = (room.to_vec(), room.to_vec());
+        let answer = self
+            .ours
+            .node_message(s, i, &mut ours, message, &mut our_room);
+        let other = self
+            .theirs
+            .node_message(s, i, &mut theirs, message, &mut their_room);
+        assert_eq!(answer, other, "message {s:?} {i} {message:?}");
+        assert!(
+            ours == theirs && our_room == their_room,
+            "message {s:?} {i} {message:?}: the bytes differ"
+        );
+        (ours, our_room, answer)
+    }
 }
 
 fn pointer(numbers: &mut Numbers, s: Measures, step: u32) -> Pointer {
@@ -177,23 +196,27 @@ fn cut(numbers: &mut Numbers, bytes: &[u8], need: usize) -> Vec<u8> {
 }
 
 /// One page's tables under one set of measures.
-struct Session {
+struct Session<'a> {
+    pair: Pair<'a>,
+    tally: &'a mut Tally,
     s: Measures,
     step: u32,
     directory: Vec<u8>,
     table: Vec<u8>,
 }
 
-impl Session {
-    fn new(numbers: &mut Numbers, tally: &mut Tally) -> Self {
+impl<'a> Session<'a> {
+    fn new(mut pair: Pair<'a>, tally: &'a mut Tally, numbers: &mut Numbers) -> Self {
         let s = measures(numbers);
         let step = [1, 255, 65_537, 16_777_259][numbers.below(4)];
         let spare = numbers.below(4);
-        let (directory, answer) = same_directory_fresh(s, &numbers.bytes(s.directory() + spare));
+        let (directory, answer) = pair.directory_fresh(s, &numbers.bytes(s.directory() + spare));
         tally.note("directory, fresh", refused(answer));
-        let (table, answer) = same_node_fresh(s, &numbers.bytes(s.table() + spare));
+        let (table, answer) = pair.node_fresh(s, &numbers.bytes(s.table() + spare));
         tally.note("node, fresh", refused(answer));
         Session {
+            pair,
+            tally,
             s,
             step,
             directory,
@@ -201,19 +224,19 @@ impl Session {
         }
     }
 
-    fn fresh(&mut self, numbers: &mut Numbers, tally: &mut Tally) {
+    fn fresh(&mut self, numbers: &mut Numbers) {
         let s = if numbers.below(3) == 0 {
             other_measures(numbers, self.s)
         } else {
             self.s
         };
         let table = cut(numbers, &self.directory, self.s.directory());
-        let (end, answer) = same_directory_fresh(s, &table);
-        tally.note("directory, fresh", refused(answer));
+        let (end, answer) = self.pair.directory_fresh(s, &table);
+        self.tally.note("directory, fresh", refused(answer));
         assert!(answer.is_ok() || end == table);
         let table = cut(numbers, &self.table, self.s.table());
-        let (end, answer) = same_node_fresh(s, &table);
-        tally.note("node, fresh", refused(answer));
+        let (end, answer) = self.pair.node_fresh(s, &table);
+        self.tally.note("node, fresh", refused(answer));
         assert!(answer.is_ok() || end == table);
     }
 
@@ -239,7 +262,7 @@ impl Session {
         (s, table, !other && !spoilt)
     }
 
-    fn update(&mut self, numbers: &mut Numbers, tally: &mut Tally) {
+    fn update(&mut self, numbers: &mut Numbers) {
         let (s, table, whole) = self.lend(
             numbers,
             &self.directory,
@@ -251,26 +274,26 @@ impl Session {
         if rare(numbers) {
             spoil(numbers, &mut fields);
         }
-        let (end, answer) = same_update(s, own, &table, &fields);
-        tally.note("directory, update", refused(answer));
+        let (end, answer) = self.pair.update(s, own, &table, &fields);
+        self.tally.note("directory, update", refused(answer));
         assert!(answer.is_ok() || end == table);
         if whole && answer.is_ok() {
             self.directory = end;
         }
     }
 
-    fn scan(&mut self, numbers: &mut Numbers, tally: &mut Tally) {
+    fn scan(&mut self, numbers: &mut Numbers) {
         let need = self.s.directory();
         let (s, table, _) = self.lend(numbers, &self.directory, need, spoil_directory);
         let spare = numbers.below(3);
         let room = numbers.bytes(need + spare);
         let room = cut(numbers, &room, need);
-        let (end, answer) = same_scan(s, &table, &room);
-        tally.note("directory, scan", refused(answer));
+        let (end, answer) = self.pair.scan(s, &table, &room);
+        self.tally.note("directory, scan", refused(answer));
         assert!(answer.is_ok() || end == room);
     }
 
-    fn message(&mut self, numbers: &mut Numbers, tally: &mut Tally) {
+    fn message(&mut self, numbers: &mut Numbers) {
         let (s, table, whole) = self.lend(numbers, &self.table, self.s.table(), spoil_table);
         let i = who(numbers, 1, self.s.n);
         let mut message = message(numbers, self.s, self.step);
@@ -280,14 +303,14 @@ impl Session {
         let spare = numbers.below(3);
         let room = numbers.bytes(self.s.answer() + spare);
         let room = cut(numbers, &room, self.s.answer());
-        let (end, reply, answer) = same_message(s, i, &table, &message, &room);
+        let (end, reply, answer) = self.pair.message(s, i, &table, &message, &room);
         let kind = match message.first() {
             Some(1) => "node, store",
             Some(2) => "node, request",
             Some(3) => "node, free",
             _ => "node, no message",
         };
-        tally.note(kind, refused(answer));
+        self.tally.note(kind, refused(answer));
         assert!(answer.is_ok() || (end == table && reply == room));
         if answer.is_ok() {
             let case = match (message[0], table[..2] == end[..2]) {
@@ -298,7 +321,7 @@ impl Session {
                 (_, true) => "node, free: none held",
                 (_, false) => "node, free: some held",
             };
-            tally.note(case, refused(answer));
+            self.tally.note(case, refused(answer));
         }
         if whole && answer.is_ok() {
             self.table = end;
@@ -307,11 +330,21 @@ impl Session {
 }
 
 /// So many calls; each refusal that there is must have been met.
-pub fn calls(numbers: &mut Numbers, total: usize) {
+pub fn calls(
+    names: &str,
+    ours: &mut dyn Parties,
+    theirs: &mut dyn Parties,
+    numbers: &mut Numbers,
+    total: usize,
+) {
     let mut tally = Tally::default();
     let mut done = 0;
     while done < total {
-        let mut session = Session::new(numbers, &mut tally);
+        let pair = Pair {
+            ours: &mut *ours,
+            theirs: &mut *theirs,
+        };
+        let mut session = Session::new(pair, &mut tally, numbers);
         done += 2;
         // A large table takes as long as a hundred small ones.
         let turns = 20 + numbers.below(if session.s.table() > 100_000 { 20 } else { 300 });
@@ -320,15 +353,15 @@ pub fn calls(numbers: &mut Numbers, total: usize) {
             match numbers.below(20) {
                 0 => {
                     done += 1;
-                    session.fresh(numbers, &mut tally);
+                    session.fresh(numbers);
                 }
-                1..=6 => session.update(numbers, &mut tally),
-                7..=9 => session.scan(numbers, &mut tally),
-                _ => session.message(numbers, &mut tally),
+                1..=6 => session.update(numbers),
+                7..=9 => session.scan(numbers),
+                _ => session.message(numbers),
             }
         }
     }
-    println!("{done} calls to the directory and the node: the same answers and bytes, every refusal among them");
+    println!("{done} calls to the directory and the node of {names}: the same answers and bytes, every refusal among them");
     tally.print();
     for (name, met) in [
         ("directory, fresh", vec![0, 1, 2]),

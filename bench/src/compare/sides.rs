@@ -1,13 +1,13 @@
 //! The parties behind one trait, so that the same calls and runs are made with plain Rust, with the proved archives, or with a party that
 //! does something else.
 
-use crate::client::{self, Answer};
-use crate::parties::{self, Measures};
-use crate::plain;
+use crate::client;
+use crate::parties;
+use jolbizna::{Answer, ClientAnswer, Measures};
 
 /// Directory, nodes and clients. What is not said otherwise is plain Rust.
 pub trait Parties {
-    fn directory_fresh(&mut self, s: Measures, table: &mut [u8]) -> plain::Answer {
+    fn directory_fresh(&mut self, s: Measures, table: &mut [u8]) -> Answer {
         parties::directory_fresh(s, table)
     }
 
@@ -17,15 +17,15 @@ pub trait Parties {
         own: usize,
         table: &mut [u8],
         fields: &[u8],
-    ) -> plain::Answer {
+    ) -> Answer {
         parties::directory_update(s, own, table, fields)
     }
 
-    fn directory_scan(&mut self, s: Measures, table: &[u8], room: &mut [u8]) -> plain::Answer {
+    fn directory_scan(&mut self, s: Measures, table: &[u8], room: &mut [u8]) -> Answer {
         parties::directory_scan(s, table, room)
     }
 
-    fn node_fresh(&mut self, s: Measures, table: &mut [u8]) -> plain::Answer {
+    fn node_fresh(&mut self, s: Measures, table: &mut [u8]) -> Answer {
         parties::node_fresh(s, table)
     }
 
@@ -36,23 +36,35 @@ pub trait Parties {
         table: &mut [u8],
         message: &[u8],
         room: &mut [u8],
-    ) -> plain::Answer {
+    ) -> Answer {
         parties::node_message(s, i, table, message, room)
     }
 
-    fn fresh(&mut self, s: Measures, record: &mut [u8]) -> Answer {
+    fn fresh(&mut self, s: Measures, record: &mut [u8]) -> ClientAnswer {
         client::fresh(s, record)
     }
 
-    fn deposit(&mut self, s: Measures, own: usize, record: &mut [u8], page: &[u8]) -> Answer {
+    fn deposit(&mut self, s: Measures, own: usize, record: &mut [u8], page: &[u8]) -> ClientAnswer {
         client::deposit(s, own, record, page)
     }
 
-    fn read(&mut self, s: Measures, own: usize, record: &mut [u8], room: &mut [u8]) -> Answer {
+    fn read(
+        &mut self,
+        s: Measures,
+        own: usize,
+        record: &mut [u8],
+        room: &mut [u8],
+    ) -> ClientAnswer {
         client::read(s, own, record, room)
     }
 
-    fn updated(&mut self, s: Measures, own: usize, record: &mut [u8], room: &mut [u8]) -> Answer {
+    fn updated(
+        &mut self,
+        s: Measures,
+        own: usize,
+        record: &mut [u8],
+        room: &mut [u8],
+    ) -> ClientAnswer {
         client::updated(s, own, record, room)
     }
 
@@ -63,7 +75,7 @@ pub trait Parties {
         record: &mut [u8],
         rows: &[u8],
         room: &mut [u8],
-    ) -> Answer {
+    ) -> ClientAnswer {
         client::scanned(s, own, record, rows, room)
     }
 
@@ -77,7 +89,7 @@ pub trait Parties {
         message: &[u8],
         room: &mut [u8],
         out: &mut [u8],
-    ) -> Answer {
+    ) -> ClientAnswer {
         client::receive(s, own, node, record, message, room, out)
     }
 

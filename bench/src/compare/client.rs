@@ -1,67 +1,10 @@
 //! The client in plain Rust, from document 01: a record is read into values, an event does its step on them, and what comes of it is
 //! written back whole. A refused event writes nothing.
 
-use crate::parties::{proper, put_version, read_rows, Bytes, Measures, Pointer, Record};
-use crate::parties::{Version, NONE};
+use crate::parties::{pass, proper, put_version, read_rows, Bytes, Pointer, Record, NONE};
 use crate::plain;
+use jolbizna::{ClientAnswer, Measures, Version};
 use std::collections::{BTreeMap, BTreeSet};
-
-/// What an event at a client says, with the version and the bytes that it speaks of.
-#[derive(Clone, Copy, Debug, PartialEq)]
-pub enum Answer {
-    Refused(u32),
-    Waits,
-    Scan,
-    Update(usize),
-    Stores(Version, usize),
-    /// To the nodes of a bit map.
-    Requests(Version, u16),
-    Deposited(Version, usize),
-    Empty,
-    Page(Version, usize),
-    /// 7 in a deposit, which ended.
-    Spent,
-    /// 9 in a reading, which ended.
-    Failed,
-}
-
-impl Answer {
-    /// Document 01's number, 0 for an answer that has none.
-    pub fn number(self) -> u32 {
-        match self {
-            Answer::Refused(number) => number,
-            Answer::Spent => 7,
-            Answer::Failed => 9,
-            _ => 0,
-        }
-    }
-}
-
-/// Lengths that follow from the measures.
-impl Measures {
-    /// The longest page.
-    pub fn page(self) -> usize {
-        self.k * self.f - 4
-    }
-
-    pub fn pointer(self) -> usize {
-        7 + 32 * (self.t + self.k)
-    }
-
-    /// What an open operation keeps.
-    pub fn work(self) -> usize {
-        self.pointer() + 4 + self.n * (34 + self.f)
-    }
-
-    pub fn record(self) -> usize {
-        5 + (self.m + 1) * self.pointer() + 9 * self.m + self.work()
-    }
-
-    /// What an event sends.
-    pub fn room(self) -> usize {
-        self.row() + 6 + self.n * self.f
-    }
-}
 
 pub type Nodes = BTreeSet<usize>;
 
@@ -341,7 +284,7 @@ fn lay(room: &mut [u8], bytes: &[u8]) {
 }
 
 /// The answer, or a refusal's number.
-type Turn = Result<Answer, u32>;
+type Turn = Result<ClientAnswer, u32>;
 
 impl Client {
     fn begin_deposit(&mut self, s: Measures, page: &[u8]) -> Turn {
@@ -353,7 +296,7 @@ impl Client {
         }
         let page = page.to_vec();
         self.step = Step::Scanning { page };
-        Ok(Answer::Scan)
+        Ok(ClientAnswer::Scan)
     }
 
     fn begin_reading(&mut self, room: &mut [u8]) -> Turn {
@@ -375,7 +318,7 @@ impl Client {
             Step::Raising => Step::Picking,
             _ => return Err(5),
         };
-        Ok(Answer::Scan)
+        Ok(ClientAnswer::Scan)
     }
 
     fn scanned(&mut self, s: Measures, own: usize, rows: &[Record], room: &mut [u8]) -> Turn {
@@ -395,11 +338,11 @@ impl Client {
         rows: &[Record],
         page: &[u8],
         room: &mut [u8],
-    ) -> Answer {
+    ) -> ClientAnswer {
         let highest = rows.iter().filter_map(|row| row.written.as_ref());
         let highest = highest.map(|p| p.version.0).max().unwrap_or(0);
         let Some(sequence) = highest.checked_add(1) else {
-            return Answer::Spent;
+            return ClientAnswer::Spent;
         };
         let version = (sequence, own as u8);
         let mut front = vec![1];
@@ -413,11 +356,17 @@ impl Client {
             stored: Nodes::new(),
             digests: pieces.map(|area| digest(&area[..len])).collect(),
         };
-        Answer::Stores(version, len)
+        ClientAnswer::Stores(version, len)
     }
 
     /// Others' new readings are noted; what nobody may be reading any more is freed, and the deposit ends.
-    fn freeze(&mut self, own: usize, rows: &[Record], pointer: Pointer, room: &mut [u8]) -> Answer {
+    fn freeze(
+        &mut self,
+        own: usize,
+        rows: &[Record],
+        pointer: Pointer,
+        room: &mut [u8],
+    ) -> ClientAnswer {
         let previous = self.written.version;
         let mut free = BTreeSet::from([previous]);
         for (p, row) in rows.iter().enumerate() {
@@ -443,11 +392,11 @@ impl Client {
             put_version(&mut message, version);
         }
         lay(room, &message);
-        Answer::Deposited(version, message.len())
+        ClientAnswer::Deposited(version, message.len())
     }
 
     /// Of each row the written pointer, or the one that its writer froze for this reading; the highest of them, on a tie the lowest row's.
-    fn pick(&mut self, own: usize, rows: &[Record], room: &mut [u8]) -> Answer {
+    fn pick(&mut self, own: usize, rows: &[Record], room: &mut [u8]) -> ClientAnswer {
         let mut highest = Pointer::none();
         for row in rows {
             let frozen_index = row.frozen_indices.as_ref().map_or(0, |list| list[own]);
@@ -462,12 +411,12 @@ impl Client {
             };
         }
         if highest.version == NONE {
-            return Answer::Empty;
+            return ClientAnswer::Empty;
         }
         let mut message = vec![2];
         put_version(&mut message, highest.version);
         lay(room, &message);
-        let answer = Answer::Requests(highest.version, highest.nodes);
+        let answer = ClientAnswer::Requests(highest.version, highest.nodes);
         self.step = Step::Fetching {
             pointer: highest,
             counted: Nodes::new(),
@@ -478,17 +427,17 @@ impl Client {
     }
 
     /// An acknowledgement of this version adds its node once; at t + k nodes the pointer is published, with what was frozen before.
-    fn stored(&mut self, s: Measures, node: usize, of: Version, room: &mut [u8]) -> Answer {
+    fn stored(&mut self, s: Measures, node: usize, of: Version, room: &mut [u8]) -> ClientAnswer {
         let Step::Storing {
             version,
             stored,
             digests,
         } = &mut self.step
         else {
-            return Answer::Waits;
+            return ClientAnswer::Waits;
         };
         if of != *version || !stored.insert(node) || stored.len() < s.t + s.k {
-            return Answer::Waits;
+            return ClientAnswer::Waits;
         }
         let pointer = Pointer {
             version: *version,
@@ -521,13 +470,13 @@ impl Client {
             pieces,
         } = &mut self.step
         else {
-            return Ok(Answer::Waits);
+            return Ok(ClientAnswer::Waits);
         };
         let Some(wanted) = pointer.digest(node) else {
-            return Ok(Answer::Waits);
+            return Ok(ClientAnswer::Waits);
         };
         if of != pointer.version || !counted.insert(node) {
-            return Ok(Answer::Waits);
+            return Ok(ClientAnswer::Waits);
         }
         let fits = piece.filter(|p| (1..=s.f).contains(&p.len()));
         if let Some(piece) = fits.filter(|p| digest(p) == wanted) {
@@ -539,21 +488,21 @@ impl Client {
             let joined = plain::join(s.n, s.k, s.f, map_of(matching), &areas, &lens, out);
             let len = joined.map_err(|_| 4u32)?;
             self.step = Step::Idle;
-            return Ok(Answer::Page(of, len));
+            return Ok(ClientAnswer::Page(of, len));
         }
         if pointer.named().is_subset(counted) {
             self.step = Step::Idle;
-            return Ok(Answer::Failed);
+            return Ok(ClientAnswer::Failed);
         }
-        Ok(Answer::Waits)
+        Ok(ClientAnswer::Waits)
     }
 }
 
 /// An update's record in the room.
-fn publish(fields: &Record, room: &mut [u8]) -> Answer {
+fn publish(fields: &Record, room: &mut [u8]) -> ClientAnswer {
     let fields = fields.write();
     lay(room, &fields);
-    Answer::Update(fields.len())
+    ClientAnswer::Update(fields.len())
 }
 
 /// A message to a client.
@@ -580,7 +529,7 @@ pub fn read_message(s: Measures, message: &[u8]) -> Option<Message<'_>> {
 
 /// What the caller may have done wrong: measures, slices that are too short, numbers. Lengths are worked out of measures that pass.
 fn gate(s: Measures, enough: impl Fn() -> bool, own: usize, node: usize) -> Result<(), u32> {
-    if !s.pass() {
+    if !pass(s) {
         return Err(1);
     }
     if !enough() {
@@ -600,19 +549,19 @@ fn on(s: Measures, record: &mut [u8], step: impl FnOnce(&mut Client) -> Turn) ->
     Ok(answer)
 }
 
-fn told(turn: Turn) -> Answer {
-    turn.unwrap_or_else(Answer::Refused)
+fn told(turn: Turn) -> ClientAnswer {
+    turn.unwrap_or_else(ClientAnswer::Refused)
 }
 
-pub fn fresh(s: Measures, record: &mut [u8]) -> Answer {
+pub fn fresh(s: Measures, record: &mut [u8]) -> ClientAnswer {
     told(gate(s, || record.len() >= s.record(), 0, 1).map(|()| {
         Client::fresh(s).write(s, record);
-        Answer::Waits
+        ClientAnswer::Waits
     }))
 }
 
 /// A deposit starts.
-pub fn deposit(s: Measures, own: usize, record: &mut [u8], page: &[u8]) -> Answer {
+pub fn deposit(s: Measures, own: usize, record: &mut [u8], page: &[u8]) -> ClientAnswer {
     told(
         gate(s, || record.len() >= s.record(), own, 1)
             .and_then(|()| on(s, record, |client| client.begin_deposit(s, page))),
@@ -620,19 +569,25 @@ pub fn deposit(s: Measures, own: usize, record: &mut [u8], page: &[u8]) -> Answe
 }
 
 /// A reading starts.
-pub fn read(s: Measures, own: usize, record: &mut [u8], room: &mut [u8]) -> Answer {
+pub fn read(s: Measures, own: usize, record: &mut [u8], room: &mut [u8]) -> ClientAnswer {
     let enough = || record.len() >= s.record() && room.len() >= s.room();
     told(gate(s, enough, own, 1).and_then(|()| on(s, record, |client| client.begin_reading(room))))
 }
 
 /// The directory has carried out the update.
-pub fn updated(s: Measures, own: usize, record: &mut [u8], room: &mut [u8]) -> Answer {
+pub fn updated(s: Measures, own: usize, record: &mut [u8], room: &mut [u8]) -> ClientAnswer {
     let enough = || record.len() >= s.record() && room.len() >= s.room();
     told(gate(s, enough, own, 1).and_then(|()| on(s, record, Client::updated)))
 }
 
 /// The directory's rows.
-pub fn scanned(s: Measures, own: usize, record: &mut [u8], rows: &[u8], room: &mut [u8]) -> Answer {
+pub fn scanned(
+    s: Measures,
+    own: usize,
+    record: &mut [u8],
+    rows: &[u8],
+    room: &mut [u8],
+) -> ClientAnswer {
     let enough =
         || record.len() >= s.record() && rows.len() >= s.directory() && room.len() >= s.room();
     told(gate(s, enough, own, 1).and_then(|()| {
@@ -652,13 +607,13 @@ pub fn receive(
     message: &[u8],
     room: &mut [u8],
     out: &mut [u8],
-) -> Answer {
+) -> ClientAnswer {
     let enough = || record.len() >= s.record() && room.len() >= s.room() && out.len() >= s.page();
     told(gate(s, enough, own, node).and_then(|()| {
         on(s, record, |client| {
             match read_message(s, message).ok_or(4u32)? {
                 Message::Stored(version) => Ok(client.stored(s, node, version, room)),
-                Message::Freed => Ok(Answer::Waits),
+                Message::Freed => Ok(ClientAnswer::Waits),
                 Message::Reply(version, piece) => client.replied(s, node, version, piece, out),
             }
         })

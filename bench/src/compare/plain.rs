@@ -1,7 +1,6 @@
 //! The same work in plain Rust, from the definitions: one product by the two tables for each byte of the frame.
 
-/// A length, or the number of the refusal.
-pub type Answer = Result<usize, u32>;
+use jolbizna::Answer;
 
 const fn exp_table() -> [u8; 255] {
     let mut exp = [0; 255];
@@ -43,7 +42,7 @@ fn inverse(a: u8) -> u8 {
     EXP[(255 - LOG[a as usize] as usize) % 255]
 }
 
-fn powers(x: u8, k: usize) -> Vec<u8> {
+pub fn powers(x: u8, k: usize) -> Vec<u8> {
     let mut row = vec![1; k];
     for r in 1..k {
         row[r] = mul(row[r - 1], x);

@@ -1,0 +1,99 @@
+//! The proved archives beside plain Rust: first that both give the same, then how long each takes, and libraries and libc too.
+
+mod calls;
+mod client;
+mod client_calls;
+mod clock;
+mod coding_tasks;
+mod isal;
+mod libraries;
+mod operations;
+mod parties;
+mod pieces;
+mod plain;
+mod proved;
+mod random;
+mod report;
+mod runs;
+mod service;
+mod sides;
+mod tables;
+mod tally;
+mod titles;
+mod wrong;
+
+use proved::Proved;
+use random::Numbers;
+use service::Service;
+use sides::{Parties, Plain};
+use std::env;
+
+const F: usize = 4096;
+const CALLS: usize = 100_000;
+const RUNS: usize = 2000;
+const OPERATIONS: usize = 10_000;
+const SHAPES: [(usize, usize); 3] = [(2, 4), (4, 8), (8, 16)];
+
+/// Random calls to directory, node and client, beside plain Rust.
+fn calls(name: &str, side: &mut dyn Parties, numbers: &mut Numbers) {
+    let names = format!("{name} and of plain Rust");
+    println!();
+    calls::calls(&names, side, &mut Plain, numbers, CALLS);
+    println!();
+    client_calls::calls(&names, side, &mut Plain, numbers, CALLS);
+}
+
+/// The same runs three times: the same answers and, by a sum, the same bytes after each event.
+fn runs(numbers: &mut Numbers) {
+    let seed = numbers.next();
+    println!();
+    let counts = runs::runs("plain Rust", &mut Plain, seed, RUNS);
+    counts.print();
+    let mut service = Service::default();
+    for (name, side) in [
+        ("the archive", &mut Proved as &mut dyn Parties),
+        ("the title service", &mut service),
+    ] {
+        let same = runs::runs(name, side, seed, RUNS) == counts;
+        assert!(same, "{name}: the same runs leave other bytes");
+        println!("the same answers and bytes as of plain Rust");
+    }
+    assert_eq!(service.brought, 0, "a part did not stand in the memory");
+}
+
+fn times(numbers: &mut Numbers) {
+    let mut sections = [
+        coding_tasks::whole(numbers),
+        operations::whole(numbers),
+        tables::largest(numbers),
+        coding_tasks::longer(numbers),
+        coding_tasks::wider(numbers),
+        tables::larger(numbers),
+    ];
+    clock::measure(&mut sections);
+    for section in &sections {
+        (section.print)(&section.tasks);
+    }
+    println!();
+    println!("Best runs in turn. A ratio is the other side's time over the proved one's. Buffers are reused from call to call and never cleared.");
+}
+
+fn comparisons(numbers: &mut Numbers) {
+    pieces::small(numbers);
+    calls("the archive", &mut Proved, numbers);
+    calls("the title service", &mut Service::default(), numbers);
+    runs(numbers);
+    println!();
+    titles::titles(numbers, OPERATIONS);
+    println!();
+    wrong::wrong(numbers, 3000);
+}
+
+/// With the word `times` only what is timed is compared.
+fn main() {
+    let mut numbers = Numbers(88172645463325252);
+    if env::args().nth(1).as_deref() != Some("times") {
+        comparisons(&mut numbers);
+    }
+    times(&mut numbers);
+}
