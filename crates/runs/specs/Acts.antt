@@ -16,7 +16,7 @@ use Rattle.client.specs.Answer.{answered}
 use Rattle.title.specs.Memory.{directoryIn, tableAt, tableIn, recordAt, recordIn, Put}
 use Rattle.runs.specs.declared.answer.Happened.{Happened}
 use Rattle.runs.specs.declared.answer.Turn.{Turn}
-use Rattle.runs.specs.Parcels.{Parcel, Appended, Removed}
+use Rattle.runs.specs.Parcels.{Parcel, Listed, bodies, FindsAt, Appended, Removed}
 use Rattle.runs.specs.Sent.{sent}
 
 -- what is lent, before and after; where an event has no room or no output, [] stands for it
@@ -65,45 +65,55 @@ pub record AtClient (s : Measures) (c : ℕ) (a : ClientAnswer) (e : ClientEnd) 
   pub memory : Put (x .memory) (recordAt s c) (recordIn s c (x .memory)) (e .client) (y .memory)
   pub room : y .room ≡ e .room
 
--- the events at which nothing may be under way, or an honest node would have to lie
-abbrev pub MayRest : (ℕ → Bool) → Event → Type 0
-MayRest honest (deposit c page) = ⊥
-MayRest honest (reading c room) = ⊥
-MayRest honest (carry c room) = Unit {0}
-MayRest honest (hand c room) = Unit {0}
-MayRest honest (bring c i room) = Unit {0}
-MayRest honest (deliver i c room out) = Unit {0}
-MayRest honest (lie i c bytes room out) = honest i ≡ true
+-- a parcel stands between two places, and it is the oldest of its kind between client c and node i, if the bytes are a list of parcels
+pub record Stands (kind c i used : ℕ) (post : List ℕ) (at end : ℕ) : Type 0 where
+  pub first : at + 7 ≤ end
+  pub last : end ≤ used
+  pub oldest : (q : List Parcel) → Listed q used post → FindsAt kind c i q at end
 
--- free is which parcel is found, between `at` and `end`, where the bytes are no list of parcels
+-- no such parcel is under way
+abbrev pub None : ℕ → ℕ → ℕ → ℕ → List ℕ → Type 0
+None kind c i used post = (q : List Parcel) → Listed q used post → bodies kind c i q ≡ []
+
+-- an event that finds nothing to hand over, or for which an honest node would have to lie
+abbrev pub Rests : (ℕ → Bool) → ℕ → List ℕ → Event → Type 0
+Rests honest used post (deposit c page) = ⊥
+Rests honest used post (reading c room) = ⊥
+Rests honest used post (carry c room) = None 0 c 0 used post
+Rests honest used post (hand c room) = None 1 c 0 used post
+Rests honest used post (bring c i room) = None 2 c i used post
+Rests honest used post (deliver i c room out) = None 3 c i used post
+Rests honest used post (lie i c bytes room out) = honest i ≡ true
+
+-- free is which parcel is found, if any, where the bytes are no list of parcels
 pub data Acts (s : Measures) (honest : ℕ → Bool) (used : ℕ) (x y : Lent) : Event → Turn → Type 0 where
-  rests : (e : Event) → MayRest honest e → y ≡ x → Acts s honest used x y e (record { used = used; what = Happened.Nothing })
+  rests : (e : Event) → Rests honest used (x .post) e → y ≡ x → Acts s honest used x y e (record { used = used; what = Happened.Nothing })
   deposits : (c : ℕ) (page : List ℕ) (a : ClientAnswer) (turn : Turn) → AtClient s c a (startDeposit s c (recordIn s c (x .memory)) page) x y
       → y .out ≡ x .out → Sends s c a (y .room) (x .post) used (y .post) turn → Acts s honest used x y (deposit c page) turn
   reads : (c : ℕ) (a : ClientAnswer) (turn : Turn) → AtClient s c a (startReading s c (recordIn s c (x .memory)) (x .room)) x y
       → y .out ≡ x .out → Sends s c a (y .room) (x .post) used (y .post) turn → Acts s honest used x y (reading c (x .room)) turn
-  updates : (c at end : ℕ) (a : Service) (turn : Turn) → at + 7 ≤ end → end ≤ used → tagged (body (x .post) at end) ≡ true
+  updates : (c at end : ℕ) (a : Service) (turn : Turn) → Stands 0 c 0 used (x .post) at end → tagged (body (x .post) at end) ≡ true
       → served a ≡ directoryUpdate s c (directoryIn s (x .memory)) (behind (x .post) at end) .answer
       → Put (x .memory) 0 (directoryIn s (x .memory)) (directoryUpdate s c (directoryIn s (x .memory)) (behind (x .post) at end) .table) (y .memory)
       → y .room ≡ x .room → y .out ≡ x .out → Serves 1 c 0 (0 ∷ []) [] (x .post) used at end (y .post) a turn → Acts s honest used x y (carry c (x .room)) turn
-  scans : (c at end : ℕ) (a : Service) (turn : Turn) → at + 7 ≤ end → end ≤ used → tagged (body (x .post) at end) ≡ false
+  scans : (c at end : ℕ) (a : Service) (turn : Turn) → Stands 0 c 0 used (x .post) at end → tagged (body (x .post) at end) ≡ false
       → served a ≡ directoryScan s (directoryIn s (x .memory)) (x .room) .answer → y .memory ≡ x .memory
       → y .room ≡ directoryScan s (directoryIn s (x .memory)) (x .room) .room → y .out ≡ x .out
       → Serves 1 c 0 (1 ∷ []) (y .room) (x .post) used at end (y .post) a turn → Acts s honest used x y (carry c (x .room)) turn
-  acknowledges : (c at end : ℕ) (a : ClientAnswer) (turn : Turn) → at + 7 ≤ end → end ≤ used → tagged (body (x .post) at end) ≡ false
+  acknowledges : (c at end : ℕ) (a : ClientAnswer) (turn : Turn) → Stands 1 c 0 used (x .post) at end → tagged (body (x .post) at end) ≡ false
       → AtClient s c a (updateAnswer s c (recordIn s c (x .memory)) (x .room)) x y
       → y .out ≡ x .out → Takes s c a (y .room) (x .post) used at end (y .post) turn → Acts s honest used x y (hand c (x .room)) turn
-  shows : (c at end : ℕ) (a : ClientAnswer) (turn : Turn) → at + 7 ≤ end → end ≤ used → tagged (body (x .post) at end) ≡ true
+  shows : (c at end : ℕ) (a : ClientAnswer) (turn : Turn) → Stands 1 c 0 used (x .post) at end → tagged (body (x .post) at end) ≡ true
       → AtClient s c a (scanAnswer s c (recordIn s c (x .memory)) (behind (x .post) at end) (x .room)) x y
       → y .out ≡ x .out → Takes s c a (y .room) (x .post) used at end (y .post) turn → Acts s honest used x y (hand c (x .room)) turn
-  brings : (c i at end : ℕ) (a : Service) (turn : Turn) → honest i ≡ true → at + 7 ≤ end → end ≤ used
+  brings : (c i at end : ℕ) (a : Service) (turn : Turn) → honest i ≡ true → Stands 2 c i used (x .post) at end
       → served a ≡ nodeMessage s i (tableIn s i (x .memory)) (body (x .post) at end) (x .room) .answer
       → Put (x .memory) (tableAt s i) (tableIn s i (x .memory)) (nodeMessage s i (tableIn s i (x .memory)) (body (x .post) at end) (x .room) .table) (y .memory)
       → y .room ≡ nodeMessage s i (tableIn s i (x .memory)) (body (x .post) at end) (x .room) .room → y .out ≡ x .out
       → Serves 3 c i [] (y .room) (x .post) used at end (y .post) a turn → Acts s honest used x y (bring c i (x .room)) turn
-  loses : (c i at end left : ℕ) → honest i ≡ false → at + 7 ≤ end → end ≤ used → y .memory ≡ x .memory → y .room ≡ x .room → y .out ≡ x .out
+  loses : (c i at end left : ℕ) → honest i ≡ false → Stands 2 c i used (x .post) at end → y .memory ≡ x .memory → y .room ≡ x .room → y .out ≡ x .out
       → Removed at end (x .post) used (y .post) left → Acts s honest used x y (bring c i (x .room)) (record { used = left; what = Happened.Taken })
-  delivers : (i c at end : ℕ) (a : ClientAnswer) (turn : Turn) → at + 7 ≤ end → end ≤ used
+  delivers : (i c at end : ℕ) (a : ClientAnswer) (turn : Turn) → Stands 3 c i used (x .post) at end
       → AtClient s c a (clientMessage s c i (recordIn s c (x .memory)) (body (x .post) at end) (x .room) (x .out)) x y
       → y .out ≡ clientMessage s c i (recordIn s c (x .memory)) (body (x .post) at end) (x .room) (x .out) .out
       → Takes s c a (y .room) (x .post) used at end (y .post) turn → Acts s honest used x y (deliver i c (x .room) (x .out)) turn

@@ -7,7 +7,6 @@ use Rattle.protocol.specs.Run.{Event}
 use Rattle.records.specs.Answer.{number}
 use Rattle.runs.specs.declared.answer.Turn.{Turn}
 use Rattle.runs.specs.declared.event.Readiness.{Readiness}
-use Rattle.runs.specs.Parcels.{FindsAt}
 use Rattle.runs.specs.UnderWay.{After}
 use Rattle.runs.specs.Acts.{Lent, Acts}
 use Rattle.runs.specs.Happens.{Capable, Unready, Goes}
@@ -17,9 +16,7 @@ abbrev pub Readies : Measures → ℕ → ℕ → ℕ → ℕ → ℕ → Readin
 Readies s c i post used room Readiness.Yes = Capable s c i post used room
 Readies s c i post used room (Readiness.No r) = Unready s c i post used room (number r)
 
--- a parcel between two places is carried to where it goes; if it is the oldest of its kind, this is the run's event
-abbrev pub Carried : Measures → (ℕ → Bool) → ℕ → ℕ → ℕ → ℕ → ℕ → Event → ℕ → Lent → Lent → Turn → Type 0
-Carried s honest kind c i at end e used x y turn =
-    Acts s honest used x y e turn
-    × ((es : List Event) (h : After s honest es (x .memory) (x .post) used) → FindsAt kind c i (h .parcels) at end
-    → Goes s honest es e turn (y .memory) (y .post) (y .room) (y .out))
+-- the parcel that was found is carried to where it goes, and this is the run's event
+abbrev pub Carried : Measures → (ℕ → Bool) → Event → ℕ → Lent → Lent → Turn → Type 0
+Carried s honest e used x y turn =
+    Acts s honest used x y e turn × ((es : List Event) → After s honest es (x .memory) (x .post) used → Goes s honest es e turn (y .memory) (y .post) (y .room) (y .out))

@@ -29,7 +29,7 @@ ghost use Rattle.protocol.specs.Measures.{passes};
 ghost use Rattle.protocol.specs.Run.{isRefused};
 ghost use Rattle.protocol.specs.Run.{deposit as depositEvent, reading as readingEvent, carry as carryEvent, hand as handEvent, bring as bringEvent, deliver as deliverEvent, lie as lieEvent};
 ghost use Rattle.client.specs.Answer.{answered};
-ghost use Rattle.runs.specs.Acts.{body, tagged as taggedWith, Sends, Takes, Serves};
+ghost use Rattle.runs.specs.Acts.{body, tagged as taggedWith, Stands, Sends, Takes, Serves};
 ghost use Rattle.runs.specs.Event.{Readies, Carried};
 ghost use Rattle.runs.specs.Happens.{Capable, Happens, liesIn, honestIn};
 
@@ -175,9 +175,9 @@ fn carry_update(
     at: usize,
     end: usize,
 ) -> Turn
-    requires { ⌜ Capable s c 1 (length (now post)) used (length (now room)) × (at + 7 ≤ end) × (end ≤ used) × (taggedWith (body (now post) at end) ≡ true) ⌝ }
+    requires { ⌜ Capable s c 1 (length (now post)) used (length (now room)) × Stands 0 c 0 used (now post) at end × (taggedWith (body (now post) at end) ≡ true) ⌝ }
     ensures { λ r. ⌜ (length (now (post .exit)) ≡ length (now (post .entry)))
-        × ((honest : ℕ → Bool) → Carried s honest 0 c 0 at end (carryEvent c (now (room .entry))) used
+        × ((honest : ℕ → Bool) → Carried s honest (carryEvent c (now (room .entry))) used
         (record { memory = now (memory .entry); post = now (post .entry); room = now (room .entry); out = [] })
         (record { memory = now (memory .exit); post = now (post .exit); room = now (room .exit); out = [] }) r) ⌝ }
 {
@@ -197,9 +197,9 @@ fn carry_scan(
     at: usize,
     end: usize,
 ) -> Turn
-    requires { ⌜ Capable s c 1 (length (now post)) used (length (now room)) × (at + 7 ≤ end) × (end ≤ used) × (taggedWith (body (now post) at end) ≡ false) ⌝ }
+    requires { ⌜ Capable s c 1 (length (now post)) used (length (now room)) × Stands 0 c 0 used (now post) at end × (taggedWith (body (now post) at end) ≡ false) ⌝ }
     ensures { λ r. ⌜ (length (now (post .exit)) ≡ length (now (post .entry)))
-        × ((honest : ℕ → Bool) → Carried s honest 0 c 0 at end (carryEvent c (now (room .entry))) used
+        × ((honest : ℕ → Bool) → Carried s honest (carryEvent c (now (room .entry))) used
         (record { memory = now (memory .entry); post = now (post .entry); room = now (room .entry); out = [] })
         (record { memory = now (memory .exit); post = now (post .exit); room = now (room .exit); out = [] }) r) ⌝ }
 {
@@ -218,9 +218,9 @@ fn hand_updated(
     at: usize,
     end: usize,
 ) -> Turn
-    requires { ⌜ Capable s c 1 (length (now post)) used (length (now room)) × (at + 7 ≤ end) × (end ≤ used) × (taggedWith (body (now post) at end) ≡ false) ⌝ }
+    requires { ⌜ Capable s c 1 (length (now post)) used (length (now room)) × Stands 1 c 0 used (now post) at end × (taggedWith (body (now post) at end) ≡ false) ⌝ }
     ensures { λ r. ⌜ (length (now (post .exit)) ≡ length (now (post .entry)))
-        × ((honest : ℕ → Bool) → Carried s honest 1 c 0 at end (handEvent c (now (room .entry))) used
+        × ((honest : ℕ → Bool) → Carried s honest (handEvent c (now (room .entry))) used
         (record { memory = now (memory .entry); post = now (post .entry); room = now (room .entry); out = [] })
         (record { memory = now (memory .exit); post = now (post .exit); room = now (room .exit); out = [] }) r) ⌝ }
 {
@@ -239,9 +239,9 @@ fn hand_rows(
     at: usize,
     end: usize,
 ) -> Turn
-    requires { ⌜ Capable s c 1 (length (now post)) used (length (now room)) × (at + 7 ≤ end) × (end ≤ used) × (taggedWith (body (now post) at end) ≡ true) ⌝ }
+    requires { ⌜ Capable s c 1 (length (now post)) used (length (now room)) × Stands 1 c 0 used (now post) at end × (taggedWith (body (now post) at end) ≡ true) ⌝ }
     ensures { λ r. ⌜ (length (now (post .exit)) ≡ length (now (post .entry)))
-        × ((honest : ℕ → Bool) → Carried s honest 1 c 0 at end (handEvent c (now (room .entry))) used
+        × ((honest : ℕ → Bool) → Carried s honest (handEvent c (now (room .entry))) used
         (record { memory = now (memory .entry); post = now (post .entry); room = now (room .entry); out = [] })
         (record { memory = now (memory .exit); post = now (post .exit); room = now (room .exit); out = [] }) r) ⌝ }
 {
@@ -262,9 +262,9 @@ fn bring_honest(
     at: usize,
     end: usize,
 ) -> Turn
-    requires { ⌜ Capable s c i (length (now post)) used (length (now room)) × (at + 7 ≤ end) × (end ≤ used) ⌝ }
+    requires { ⌜ Capable s c i (length (now post)) used (length (now room)) × Stands 2 c i used (now post) at end ⌝ }
     ensures { λ r. ⌜ (length (now (post .exit)) ≡ length (now (post .entry)))
-        × ((honest : ℕ → Bool) → honest i ≡ true → Carried s honest 2 c i at end (bringEvent c i (now (room .entry))) used
+        × ((honest : ℕ → Bool) → honest i ≡ true → Carried s honest (bringEvent c i (now (room .entry))) used
         (record { memory = now (memory .entry); post = now (post .entry); room = now (room .entry); out = [] })
         (record { memory = now (memory .exit); post = now (post .exit); room = now (room .exit); out = [] }) r) ⌝ }
 {
@@ -286,9 +286,9 @@ fn bring_dishonest(
     at: usize,
     end: usize,
 ) -> Turn
-    requires { ⌜ Capable s c i (length (now post)) used (length (now room)) × (at + 7 ≤ end) × (end ≤ used) ⌝ }
+    requires { ⌜ Capable s c i (length (now post)) used (length (now room)) × Stands 2 c i used (now post) at end ⌝ }
     ensures { λ r. ⌜ (length (now (post .exit)) ≡ length (now (post .entry)))
-        × ((honest : ℕ → Bool) → honest i ≡ false → Carried s honest 2 c i at end (bringEvent c i (now (room .entry))) used
+        × ((honest : ℕ → Bool) → honest i ≡ false → Carried s honest (bringEvent c i (now (room .entry))) used
         (record { memory = now (memory .entry); post = now (post .entry); room = now (room .entry); out = [] })
         (record { memory = now (memory .exit); post = now (post .exit); room = now (room .exit); out = [] }) r) ⌝ }
 {
@@ -312,9 +312,9 @@ fn deliver_message(
     at: usize,
     end: usize,
 ) -> Turn
-    requires { ⌜ Capable s c i (length (now post)) used (length (now room)) × (at + 7 ≤ end) × (end ≤ used) ⌝ }
+    requires { ⌜ Capable s c i (length (now post)) used (length (now room)) × Stands 3 c i used (now post) at end ⌝ }
     ensures { λ r. ⌜ (length (now (post .exit)) ≡ length (now (post .entry)))
-        × ((honest : ℕ → Bool) → Carried s honest 3 c i at end (deliverEvent i c (now (room .entry)) (now (out .entry))) used
+        × ((honest : ℕ → Bool) → Carried s honest (deliverEvent i c (now (room .entry)) (now (out .entry))) used
         (record { memory = now (memory .entry); post = now (post .entry); room = now (room .entry); out = now (out .entry) })
         (record { memory = now (memory .exit); post = now (post .exit); room = now (room .exit); out = now (out .exit) }) r) ⌝ }
 {

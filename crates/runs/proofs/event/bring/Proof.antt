@@ -6,7 +6,7 @@ use lib.ListN.{length}
 use Rattle.protocol.specs.Run.{bring}
 use Rattle.runs.specs.Parcels.{Parcel, Listed, FindsAt}
 use Rattle.runs.specs.Happens.{Capable, Happens, honestIn}
-use Rattle.runs.specs.Acts.{Acts}
+use Rattle.runs.specs.Acts.{None, Acts}
 use Rattle.runs.proofs.GoesLaws.{bring-none}
 use Rattle.runs.proofs.EventLaws.{ready-yes, ready-no, found-none, found-at, found-within, dishonest, honest-one}
 use Rattle.runs.proofs.event.bring.Statement.{statement}
@@ -43,10 +43,10 @@ lies-requires : tie.Need-lies-requires
 lies-requires c κs = search needs
 
 bring-dishonest-requires : tie.Need-bring-dishonest-requires
-bring-dishonest-requires c κs = let w = within (c .before .before .before .before .before .before) in (able (c .before .before .before .before .before .before .before .before .before .before), w .0, w .1)
+bring-dishonest-requires c κs = let w = within (c .before .before .before .before .before .before) in (able (c .before .before .before .before .before .before .before .before .before .before), record { first = w .0; last = w .1; oldest = oldest (c .before .before .before .before .before .before) })
 
 bring-honest-requires : tie.Need-bring-honest-requires
-bring-honest-requires c κs = let w = within (c .before .before .before .before .before .before) in (able (c .before .before .before .before .before .before .before .before .before .before), w .0, w .1)
+bring-honest-requires c κs = let w = within (c .before .before .before .before .before .before) in (able (c .before .before .before .before .before .before .before .before .before .before), record { first = w .0; last = w .1; oldest = oldest (c .before .before .before .before .before .before) })
 
 returns : tie.Need-returns
 returns c = ready-no (c .before .before .before .ready .ensures) (c .before .x .given .0 .0) (c .before .x .given .1)
@@ -58,8 +58,9 @@ returns-2 : tie.Need-returns-2
 returns-2 c =
     let a = c .before .before .before .before .before .before .before .before .before .before .args in
     let f = c .before .before .find in
-    Happens.happens _ (able (c .before .before .before .before)) refl (Acts.rests _ tt refl)
-    (λ es h. bring-none (a .s) (able (c .before .before .before .before) .measures) (honestIn (a .liars)) es (a .memory .now) (a .post .now) (a .used) h (a .c) (a .i) (a .room .now) (found-none 2 (a .c) (a .i) (h .parcels) (f .result) (f .ensures .1 (h .parcels) (h .listed)) (c .enum-told2 .given .1)))
+    let none : None 2 (a .c) (a .i) (a .used) (a .post .now) = λ q l. found-none 2 (a .c) (a .i) q (f .result) (f .ensures .1 q l) (c .enum-told2 .given .1) in
+    Happens.happens _ (able (c .before .before .before .before)) refl (Acts.rests (bring (a .c) (a .i) (a .room .now)) none refl)
+    (λ es h. bring-none (a .s) (able (c .before .before .before .before) .measures) (honestIn (a .liars)) es (a .memory .now) (a .post .now) (a .used) h (a .c) (a .i) (a .room .now) (none (h .parcels) (h .listed)))
 
 same-length-2 : tie.Need-same-length-2
 same-length-2 c = search needs
@@ -74,7 +75,7 @@ returns-3 : tie.Need-returns-3
 returns-3 c =
     let a = c .before .before .before .before .before .before .before .before .before .before .before .before .before .before .before .before .before .before .before .before .before .before .before .args in let t = c .before .before .before .before .before .before .bring-dishonest in
     let k = t .ensures .1 (honestIn (a .liars)) (dishonest (a .liars) (a .i) (c .before .before .before .before .before .before .before .before .before .before .before .lies .result) (c .before .before .before .before .before .before .before .before .before .before .before .lies .ensures) (c .before .before .before .before .before .before .before .before .before .before .if1 .taken)) in
-    Happens.happens (t .result) (able (c .before .before .before .before .before .before .before .before .before .before .before .before .before .before .before .before .before)) (t .ensures .0) (k .0) (λ es h. k .1 es h (oldest (c .before .before .before .before .before .before .before .before .before .before .before .before .before) (h .parcels) (h .listed)))
+    Happens.happens (t .result) (able (c .before .before .before .before .before .before .before .before .before .before .before .before .before .before .before .before .before)) (t .ensures .0) (k .0) (k .1)
 
 same-length-5 : tie.Need-same-length-5
 same-length-5 c = search needs
@@ -89,7 +90,7 @@ returns-4 : tie.Need-returns-4
 returns-4 c =
     let a = c .before .before .before .before .before .before .before .before .before .before .before .before .before .before .before .before .before .before .before .before .before .before .before .args in let t = c .before .before .before .before .before .before .bring-honest in
     let k = t .ensures .1 (honestIn (a .liars)) (honest-one (a .liars) (a .i) (c .before .before .before .before .before .before .before .before .before .before .before .lies .result) (c .before .before .before .before .before .before .before .before .before .before .before .lies .ensures) (c .before .before .before .before .before .before .before .before .before .before .if1 .left)) in
-    Happens.happens (t .result) (able (c .before .before .before .before .before .before .before .before .before .before .before .before .before .before .before .before .before)) (t .ensures .0) (k .0) (λ es h. k .1 es h (oldest (c .before .before .before .before .before .before .before .before .before .before .before .before .before) (h .parcels) (h .listed)))
+    Happens.happens (t .result) (able (c .before .before .before .before .before .before .before .before .before .before .before .before .before .before .before .before .before)) (t .ensures .0) (k .0) (k .1)
 
 pub bring-spec : {M : Type 1} → statement M
 bring-spec =

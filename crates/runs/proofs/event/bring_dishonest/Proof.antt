@@ -17,7 +17,7 @@ returns c =
     let p = c .before .before .before .before .before .before .before .pre in
     let d = c .before .before .remove in (
       d .ensures .long,
-      λ honest l. (Acts.loses (a .c) (a .i) (a .at) (a .end) (d .result) l (p .1) (p .2) refl refl refl (d .ensures), λ es h f. bring-dishonest-goes (a .s) (p .0 .measures) honest es (a .memory .now) (a .post .now) (a .used) h (a .c) (a .i) (a .room .now) (a .at) (a .end) (d .last .0) (d .result) l f (d .ensures)),
+      λ honest l. (Acts.loses (a .c) (a .i) (a .at) (a .end) (d .result) l (p .1) refl refl refl (d .ensures), λ es h. bring-dishonest-goes (a .s) (p .0 .measures) honest es (a .memory .now) (a .post .now) (a .used) h (a .c) (a .i) (a .room .now) (a .at) (a .end) (d .last .0) (d .result) l (p .1 .oldest (h .parcels) (h .listed)) (d .ensures)),
     )
 
 pub bring-dishonest-spec : {M : Type 1} → statement M

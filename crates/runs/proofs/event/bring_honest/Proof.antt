@@ -45,7 +45,7 @@ returns c =
     let d = c .before .before .before .before .before .before .before .before .before .before .before .to-node in
     let t = c .before .before .serves in (
       t .ensures .0,
-      λ honest l. (Acts.brings (a .c) (a .i) (a .at) (a .end) (d .result) (t .result) l (p .1) (p .2) (d .ensures .0) (d .ensures .1) (d .ensures .2) refl (t .ensures .1), λ es h f. bring-honest-goes (a .s) (p .0 .measures) honest es (a .memory .now) (a .post .now) (a .used) h (a .c) (a .i) (a .room .now) (d .last .1 .1 .1 .1 .0) (a .at) (a .end) (d .result) (d .last .1 .1 .0) (t .last .1 .1 .1 .1 .1 .1 .0) (t .result) l (p .0) f (d .ensures .0) (d .ensures .1) (d .ensures .2) (d .kept .1 .1 .1 .1 .0) (t .ensures .1)),
+      λ honest l. (Acts.brings (a .c) (a .i) (a .at) (a .end) (d .result) (t .result) l (p .1) (d .ensures .0) (d .ensures .1) (d .ensures .2) refl (t .ensures .1), λ es h. bring-honest-goes (a .s) (p .0 .measures) honest es (a .memory .now) (a .post .now) (a .used) h (a .c) (a .i) (a .room .now) (d .last .1 .1 .1 .1 .0) (a .at) (a .end) (d .result) (d .last .1 .1 .0) (t .last .1 .1 .1 .1 .1 .1 .0) (t .result) l (p .0) (p .1 .oldest (h .parcels) (h .listed)) (d .ensures .0) (d .ensures .1) (d .ensures .2) (d .kept .1 .1 .1 .1 .0) (t .ensures .1)),
     )
 
 pub bring-honest-spec : {M : Type 1} → statement M

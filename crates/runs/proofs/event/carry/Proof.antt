@@ -7,7 +7,7 @@ use lib.ListN.{length}
 use Rattle.protocol.specs.Run.{carry}
 use Rattle.runs.specs.Parcels.{Parcel, Listed, FindsAt}
 use Rattle.runs.specs.Happens.{Capable, Happens}
-use Rattle.runs.specs.Acts.{Acts}
+use Rattle.runs.specs.Acts.{None, Acts}
 use Rattle.runs.proofs.GoesLaws.{carry-none}
 use Rattle.runs.proofs.EventLaws.{ready-yes, ready-no, found-none, found-at, found-within}
 use Rattle.runs.proofs.event.carry.Statement.{statement}
@@ -44,10 +44,10 @@ tagged-requires : tie.Need-tagged-requires
 tagged-requires c κs = let w = within (c .before .before) in (w .0, omega (arith, w .1, w .2))
 
 carry-update-requires : tie.Need-carry-update-requires
-carry-update-requires c κs = let w = within (c .before .before .before .before .before .before .before) in (able (c .before .before .before .before .before .before .before .before .before .before .before), w .0, w .1, sym (c .before .before .before .before .tagged .ensures) ∙ c .before .before .before .if1 .taken)
+carry-update-requires c κs = let w = within (c .before .before .before .before .before .before .before) in (able (c .before .before .before .before .before .before .before .before .before .before .before), record { first = w .0; last = w .1; oldest = oldest (c .before .before .before .before .before .before .before) }, sym (c .before .before .before .before .tagged .ensures) ∙ c .before .before .before .if1 .taken)
 
 carry-scan-requires : tie.Need-carry-scan-requires
-carry-scan-requires c κs = let w = within (c .before .before .before .before .before .before .before) in (able (c .before .before .before .before .before .before .before .before .before .before .before), w .0, w .1, sym (c .before .before .before .before .tagged .ensures) ∙ c .before .before .before .if1 .left)
+carry-scan-requires c κs = let w = within (c .before .before .before .before .before .before .before) in (able (c .before .before .before .before .before .before .before .before .before .before .before), record { first = w .0; last = w .1; oldest = oldest (c .before .before .before .before .before .before .before) }, sym (c .before .before .before .before .tagged .ensures) ∙ c .before .before .before .if1 .left)
 
 returns : tie.Need-returns
 returns c = λ honest. ready-no (c .before .before .before .ready .ensures) (c .before .x .given .0 .0) (c .before .x .given .1)
@@ -59,8 +59,9 @@ returns-2 : tie.Need-returns-2
 returns-2 c =
     λ honest. let a = c .before .before .before .before .before .before .before .before .before .before .args in
     let f = c .before .before .find in
-    Happens.happens _ (able (c .before .before .before .before)) refl (Acts.rests _ tt refl)
-    (λ es h. carry-none (a .s) (able (c .before .before .before .before) .measures) honest es (a .memory .now) (a .post .now) (a .used) h (a .c) (a .room .now) (found-none 0 (a .c) 0 (h .parcels) (f .result) (f .ensures .1 (h .parcels) (h .listed)) (c .enum-told2 .given .1)))
+    let none : None 0 (a .c) 0 (a .used) (a .post .now) = λ q l. found-none 0 (a .c) 0 q (f .result) (f .ensures .1 q l) (c .enum-told2 .given .1) in
+    Happens.happens _ (able (c .before .before .before .before)) refl (Acts.rests (carry (a .c) (a .room .now)) none refl)
+    (λ es h. carry-none (a .s) (able (c .before .before .before .before) .measures) honest es (a .memory .now) (a .post .now) (a .used) h (a .c) (a .room .now) (none (h .parcels) (h .listed)))
 
 same-length-2 : tie.Need-same-length-2
 same-length-2 c = search needs
@@ -74,7 +75,7 @@ same-length-4 c = search needs
 returns-3 : tie.Need-returns-3
 returns-3 c =
     λ honest. let t = c .before .before .before .before .before .before .carry-update in
-    Happens.happens (t .result) (able (c .before .before .before .before .before .before .before .before .before .before .before .before .before .before .before .before .before .before)) (t .ensures .0) (t .ensures .1 honest .0) (λ es h. t .ensures .1 honest .1 es h (oldest (c .before .before .before .before .before .before .before .before .before .before .before .before .before .before) (h .parcels) (h .listed)))
+    Happens.happens (t .result) (able (c .before .before .before .before .before .before .before .before .before .before .before .before .before .before .before .before .before .before)) (t .ensures .0) (t .ensures .1 honest .0) (t .ensures .1 honest .1)
 
 same-length-5 : tie.Need-same-length-5
 same-length-5 c = search needs
@@ -88,7 +89,7 @@ same-length-7 c = search needs
 returns-4 : tie.Need-returns-4
 returns-4 c =
     λ honest. let t = c .before .before .before .before .before .before .carry-scan in
-    Happens.happens (t .result) (able (c .before .before .before .before .before .before .before .before .before .before .before .before .before .before .before .before .before .before)) (t .ensures .0) (t .ensures .1 honest .0) (λ es h. t .ensures .1 honest .1 es h (oldest (c .before .before .before .before .before .before .before .before .before .before .before .before .before .before) (h .parcels) (h .listed)))
+    Happens.happens (t .result) (able (c .before .before .before .before .before .before .before .before .before .before .before .before .before .before .before .before .before .before)) (t .ensures .0) (t .ensures .1 honest .0) (t .ensures .1 honest .1)
 
 pub carry-spec : {M : Type 1} → statement M
 carry-spec =

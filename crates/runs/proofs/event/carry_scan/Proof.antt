@@ -30,7 +30,7 @@ returns c =
     let d = c .before .before .before .before .before .before .before .before .scan in
     let t = c .before .before .serves in (
       t .ensures .0,
-      λ honest. (Acts.scans (a .c) (a .at) (a .end) (d .result) (t .result) (p .1) (p .2) (p .3) (d .ensures .0) refl (d .ensures .1) refl (t .ensures .1), λ es h f. carry-scan-goes (a .s) (p .0 .measures) honest es (a .memory .now) (a .post .now) (a .used) h (a .c) (a .room .now) (d .last .1 .1 .0) (a .at) (a .end) (d .result) (t .last .1 .1 .1 .1 .1 .1 .0) (t .result) (p .0) f (p .3) (d .ensures .0) (d .ensures .1) (d .kept .1 .1 .0) (t .ensures .1)),
+      λ honest. (Acts.scans (a .c) (a .at) (a .end) (d .result) (t .result) (p .1) (p .2) (d .ensures .0) refl (d .ensures .1) refl (t .ensures .1), λ es h. carry-scan-goes (a .s) (p .0 .measures) honest es (a .memory .now) (a .post .now) (a .used) h (a .c) (a .room .now) (d .last .1 .1 .0) (a .at) (a .end) (d .result) (t .last .1 .1 .1 .1 .1 .1 .0) (t .result) (p .0) (p .1 .oldest (h .parcels) (h .listed)) (p .2) (d .ensures .0) (d .ensures .1) (d .kept .1 .1 .0) (t .ensures .1)),
     )
 
 pub carry-scan-spec : {M : Type 1} → statement M

@@ -10,10 +10,10 @@ add-from : tie.Need-add-from
 add-from c = search needs
 
 sub-update : tie.Need-sub-update
-sub-update c = let p = c .before .before .before .before .pre in tagged-long (c .before .before .before .before .args .post .now) _ _ (p .3)
+sub-update c = let p = c .before .before .before .before .pre in tagged-long (c .before .before .before .before .args .post .now) _ _ (p .2)
 
 part-update-start : tie.Need-part-update-start
-part-update-start c = let p = c .before .before .before .before .before .pre in tagged-long (c .before .before .before .before .before .args .post .now) _ _ (p .3)
+part-update-start c = let p = c .before .before .before .before .before .pre in tagged-long (c .before .before .before .before .before .args .post .now) _ _ (p .2)
 
 part-update-end : tie.Need-part-update-end
 part-update-end c = search needs
@@ -49,7 +49,7 @@ returns c =
     let d = c .before .before .before .before .before .before .before .before .update in
     let t = c .before .before .serves in (
       t .ensures .0,
-      λ honest. (Acts.updates (a .c) (a .at) (a .end) (d .result) (t .result) (p .1) (p .2) (p .3) (d .ensures .0) (d .ensures .1) refl refl (t .ensures .1), λ es h f. carry-update-goes (a .s) (p .0 .measures) honest es (a .memory .now) (a .post .now) (a .used) h (a .c) (a .room .now) (a .at) (a .end) (d .result) (d .last .1 .1 .0) (t .last .1 .1 .1 .1 .1 .1 .0) (t .result) (p .0) f (p .3) (d .ensures .0) (d .ensures .1) (t .ensures .1)),
+      λ honest. (Acts.updates (a .c) (a .at) (a .end) (d .result) (t .result) (p .1) (p .2) (d .ensures .0) (d .ensures .1) refl refl (t .ensures .1), λ es h. carry-update-goes (a .s) (p .0 .measures) honest es (a .memory .now) (a .post .now) (a .used) h (a .c) (a .room .now) (a .at) (a .end) (d .result) (d .last .1 .1 .0) (t .last .1 .1 .1 .1 .1 .1 .0) (t .result) (p .0) (p .1 .oldest (h .parcels) (h .listed)) (p .2) (d .ensures .0) (d .ensures .1) (t .ensures .1)),
     )
 
 pub carry-update-spec : {M : Type 1} → statement M

@@ -6,7 +6,7 @@ use lib.ListN.{length}
 use Rattle.protocol.specs.Run.{deliver}
 use Rattle.runs.specs.Parcels.{Parcel, Listed, FindsAt}
 use Rattle.runs.specs.Happens.{Capable, Happens}
-use Rattle.runs.specs.Acts.{Acts}
+use Rattle.runs.specs.Acts.{None, Acts}
 use Rattle.runs.proofs.GoesLaws.{deliver-none}
 use Rattle.runs.proofs.EventLaws.{ready-yes, ready-no, found-none, found-at, found-within}
 use Rattle.runs.proofs.event.deliver.Statement.{statement}
@@ -40,7 +40,7 @@ enum-known-at : tie.Need-enum-known-at
 enum-known-at c = search needs
 
 deliver-message-requires : tie.Need-deliver-message-requires
-deliver-message-requires c κs = let w = within (c .before .before .before .before .before) in (able (c .before .before .before .before .before .before .before .before .before), w .0, w .1)
+deliver-message-requires c κs = let w = within (c .before .before .before .before .before) in (able (c .before .before .before .before .before .before .before .before .before), record { first = w .0; last = w .1; oldest = oldest (c .before .before .before .before .before) })
 
 returns : tie.Need-returns
 returns c = λ honest. ready-no (c .before .before .before .ready .ensures) (c .before .x .given .0 .0) (c .before .x .given .1)
@@ -52,8 +52,9 @@ returns-2 : tie.Need-returns-2
 returns-2 c =
     λ honest. let a = c .before .before .before .before .before .before .before .before .before .before .before .args in
     let f = c .before .before .find in
-    Happens.happens _ (able (c .before .before .before .before)) refl (Acts.rests _ tt refl)
-    (λ es h. deliver-none (a .s) (able (c .before .before .before .before) .measures) honest es (a .memory .now) (a .post .now) (a .used) h (a .i) (a .c) (a .room .now) (a .out .now) (found-none 3 (a .c) (a .i) (h .parcels) (f .result) (f .ensures .1 (h .parcels) (h .listed)) (c .enum-told2 .given .1)))
+    let none : None 3 (a .c) (a .i) (a .used) (a .post .now) = λ q l. found-none 3 (a .c) (a .i) q (f .result) (f .ensures .1 q l) (c .enum-told2 .given .1) in
+    Happens.happens _ (able (c .before .before .before .before)) refl (Acts.rests (deliver (a .i) (a .c) (a .room .now) (a .out .now)) none refl)
+    (λ es h. deliver-none (a .s) (able (c .before .before .before .before) .measures) honest es (a .memory .now) (a .post .now) (a .used) h (a .i) (a .c) (a .room .now) (a .out .now) (none (h .parcels) (h .listed)))
 
 same-length-2 : tie.Need-same-length-2
 same-length-2 c = search needs
@@ -70,7 +71,7 @@ same-length-5 c = search needs
 returns-3 : tie.Need-returns-3
 returns-3 c =
     λ honest. let t = c .before .before .before .before .before .before .before .before .deliver-message in
-    Happens.happens (t .result) (able (c .before .before .before .before .before .before .before .before .before .before .before .before .before .before .before .before .before .before)) (t .ensures .0) (t .ensures .1 honest .0) (λ es h. t .ensures .1 honest .1 es h (oldest (c .before .before .before .before .before .before .before .before .before .before .before .before .before .before) (h .parcels) (h .listed)))
+    Happens.happens (t .result) (able (c .before .before .before .before .before .before .before .before .before .before .before .before .before .before .before .before .before .before)) (t .ensures .0) (t .ensures .1 honest .0) (t .ensures .1 honest .1)
 
 pub deliver-spec : {M : Type 1} → statement M
 deliver-spec =

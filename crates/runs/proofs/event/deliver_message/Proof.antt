@@ -22,7 +22,7 @@ to-client-requires : tie.Need-to-client-requires
 to-client-requires c κs = search needs
 
 takes-requires : tie.Need-takes-requires
-takes-requires c κs = let a = c .before .before .before .before .before .before .before .before .before .before .before .before .before .before .before .before .before .before .args in let p = c .before .before .before .before .before .before .before .before .before .before .before .before .before .before .before .before .before .before .pre in (capable-first (a .s) (a .c) (a .i) (length (a .post .now)) (a .used) (length (a .room .now)) _ (p .0) (c .before .before .before .before .before .before .before .before .to-client .kept .1 .1 .1 .1 .1 .0), p .1, p .2)
+takes-requires c κs = let a = c .before .before .before .before .before .before .before .before .before .before .before .before .before .before .before .before .before .before .args in let p = c .before .before .before .before .before .before .before .before .before .before .before .before .before .before .before .before .before .before .pre in (capable-first (a .s) (a .c) (a .i) (length (a .post .now)) (a .used) (length (a .room .now)) _ (p .0) (c .before .before .before .before .before .before .before .before .to-client .kept .1 .1 .1 .1 .1 .0), p .1 .first, p .1 .last)
 
 same-length : tie.Need-same-length
 same-length c = search needs
@@ -43,7 +43,7 @@ returns c =
     let d = c .before .before .before .before .before .before .before .before .before .before .before .to-client in
     let t = c .before .before .takes in (
       t .ensures .0,
-      λ honest. (Acts.delivers (a .i) (a .c) (a .at) (a .end) (d .result) (t .result) (p .1) (p .2) (record { answer = d .ensures .0; memory = d .ensures .1; room = d .ensures .2 }) (d .ensures .3) (t .ensures .1), λ es h f. deliver-goes (a .s) (p .0 .measures) honest es (a .memory .now) (a .post .now) (a .used) h (a .i) (a .c) (a .room .now) (a .out .now) (d .last .1 .1 .1 .1 .1 .0) (d .last .1 .1 .1 .1 .1 .1 .0) (a .at) (a .end) (d .result) (d .last .1 .1 .1 .0) (t .last .1 .1 .1 .1 .0) (t .result) (p .0) f (d .ensures .0) (d .ensures .1) (d .ensures .2) (d .ensures .3) (d .kept .1 .1 .1 .1 .1 .0) (t .ensures .1)),
+      λ honest. (Acts.delivers (a .i) (a .c) (a .at) (a .end) (d .result) (t .result) (p .1) (record { answer = d .ensures .0; memory = d .ensures .1; room = d .ensures .2 }) (d .ensures .3) (t .ensures .1), λ es h. deliver-goes (a .s) (p .0 .measures) honest es (a .memory .now) (a .post .now) (a .used) h (a .i) (a .c) (a .room .now) (a .out .now) (d .last .1 .1 .1 .1 .1 .0) (d .last .1 .1 .1 .1 .1 .1 .0) (a .at) (a .end) (d .result) (d .last .1 .1 .1 .0) (t .last .1 .1 .1 .1 .0) (t .result) (p .0) (p .1 .oldest (h .parcels) (h .listed)) (d .ensures .0) (d .ensures .1) (d .ensures .2) (d .ensures .3) (d .kept .1 .1 .1 .1 .1 .0) (t .ensures .1)),
     )
 
 pub deliver-message-spec : {M : Type 1} → statement M

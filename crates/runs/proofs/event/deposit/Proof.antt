@@ -1,7 +1,6 @@
 use borrow.Author.Needs.{needs}
 use mathlib.Core.Path.{refl, sym}
 use lib.ListN.{length}
-use Rattle.protocol.specs.Run.{deposit}
 use Rattle.runs.specs.Happens.{Capable, Happens}
 use Rattle.runs.specs.Acts.{Acts}
 use Rattle.runs.proofs.GoesLaws.{deposit-room, deposit-goes}

@@ -11,10 +11,10 @@ add-from : tie.Need-add-from
 add-from c = search needs
 
 sub-scanned : tie.Need-sub-scanned
-sub-scanned c = let p = c .before .before .before .before .pre in tagged-long (c .before .before .before .before .args .post .now) _ _ (p .3)
+sub-scanned c = let p = c .before .before .before .before .pre in tagged-long (c .before .before .before .before .args .post .now) _ _ (p .2)
 
 part-scanned-start : tie.Need-part-scanned-start
-part-scanned-start c = let p = c .before .before .before .before .before .pre in tagged-long (c .before .before .before .before .before .args .post .now) _ _ (p .3)
+part-scanned-start c = let p = c .before .before .before .before .before .pre in tagged-long (c .before .before .before .before .before .args .post .now) _ _ (p .2)
 
 part-scanned-end : tie.Need-part-scanned-end
 part-scanned-end c = search needs
@@ -23,7 +23,7 @@ scanned-requires : tie.Need-scanned-requires
 scanned-requires c κs = search needs
 
 takes-requires : tie.Need-takes-requires
-takes-requires c κs = let a = c .before .before .before .before .before .before .before .before .before .before .before .before .before .before .args in let p = c .before .before .before .before .before .before .before .before .before .before .before .before .before .before .pre in (capable-first (a .s) (a .c) 1 (length (a .post .now)) (a .used) (length (a .room .now)) _ (p .0) (c .before .before .before .before .before .before .scanned .kept .1 .1 .1 .1 .0), p .1, p .2)
+takes-requires c κs = let a = c .before .before .before .before .before .before .before .before .before .before .before .before .before .before .args in let p = c .before .before .before .before .before .before .before .before .before .before .before .before .before .before .pre in (capable-first (a .s) (a .c) 1 (length (a .post .now)) (a .used) (length (a .room .now)) _ (p .0) (c .before .before .before .before .before .before .scanned .kept .1 .1 .1 .1 .0), p .1 .first, p .1 .last)
 
 same-length : tie.Need-same-length
 same-length c = search needs
@@ -41,7 +41,7 @@ returns c =
     let d = c .before .before .before .before .before .before .before .before .before .scanned in
     let t = c .before .before .takes in (
       t .ensures .0,
-      λ honest. (Acts.shows (a .c) (a .at) (a .end) (d .result) (t .result) (p .1) (p .2) (p .3) (record { answer = d .ensures .0; memory = d .ensures .1; room = d .ensures .2 }) refl (t .ensures .1), λ es h f. hand-rows-goes (a .s) (p .0 .measures) honest es (a .memory .now) (a .post .now) (a .used) h (a .c) (a .room .now) (d .last .1 .1 .1 .1 .0) (a .at) (a .end) (d .result) (d .last .1 .1 .0) (t .last .1 .1 .1 .1 .0) (t .result) (p .0) f (p .3) (d .ensures .0) (d .ensures .1) (d .ensures .2) (d .kept .1 .1 .1 .1 .0) (t .ensures .1)),
+      λ honest. (Acts.shows (a .c) (a .at) (a .end) (d .result) (t .result) (p .1) (p .2) (record { answer = d .ensures .0; memory = d .ensures .1; room = d .ensures .2 }) refl (t .ensures .1), λ es h. hand-rows-goes (a .s) (p .0 .measures) honest es (a .memory .now) (a .post .now) (a .used) h (a .c) (a .room .now) (d .last .1 .1 .1 .1 .0) (a .at) (a .end) (d .result) (d .last .1 .1 .0) (t .last .1 .1 .1 .1 .0) (t .result) (p .0) (p .1 .oldest (h .parcels) (h .listed)) (p .2) (d .ensures .0) (d .ensures .1) (d .ensures .2) (d .kept .1 .1 .1 .1 .0) (t .ensures .1)),
     )
 
 pub hand-rows-spec : {M : Type 1} → statement M

@@ -1,7 +1,6 @@
 use borrow.Author.Needs.{needs}
 use mathlib.Core.Path.{refl}
 use lib.ListN.{length}
-use Rattle.protocol.specs.Run.{lie}
 use Rattle.runs.specs.Happens.{Capable, Happens, honestIn}
 use Rattle.runs.specs.Acts.{Acts}
 use Rattle.runs.proofs.GoesLaws.{lie-goes, lie-honest}
