@@ -1,13 +1,13 @@
 -- Laws of a session: fresh memory begins a run, and each operation goes on with it.
 use mathlib.Core.Path.{_≡_, refl}
 use mathlib.Core.Bool.{Bool, true, false}
-use mathlib.Core.List.{List, [], _∷_, _++_}
-use Prim.Native.Nat.{ℕ, zero, suc, _+_, _≤_, _<_}
+use mathlib.Core.List.{List, [], _∷_, _++_, append-nil, append-assoc}
+use Prim.Native.Nat.{ℕ, zero, suc, _+_, _-_, _≤_, _<_}
 use native.Mathlib.Numerals.{add-one}
 use native.Mathlib.Omega.{arith}
 use borrow.Author.Tests.{leb-true}
 use lib.Dec.{leb}
-use lib.ListN.{length, take, getD}
+use lib.ListN.{length, take, getD, length-append}
 use lib.Seq.{take-suc, take-all}
 use Rattle.protocol.specs.declared.measures.Measures.{Measures}
 use Rattle.protocol.specs.Measures.{passes}
@@ -29,7 +29,7 @@ use Rattle.runs.proofs.OldestLaws.{continues-more, happens-continues, lent-more
 use Rattle.session.specs.declared.session.Session.{Session}
 use Rattle.session.specs.declared.settle.Settled.{Settled}
 use Rattle.session.specs.Settle.{Settles}
-use Rattle.session.specs.Session.{Runs, Live, Held, LiveIn, held, Feeds, FeedsAll}
+use Rattle.session.specs.Session.{Runs, Live, Held, LiveIn, held, Feeds, FeedsAll, FeedsInput}
 use Rattle.session.proofs.SettleLaws.{settles-continue}
 
 -- ---- a run begins
@@ -111,3 +111,14 @@ feeds-more x y lent page text input z w i len l h e f =
 pub feeds-whole : (x y : Held) (input : List ℕ) (i : ℕ) → i ≤ length input → (i < length input → ⊥) → FeedsAll x (take i input) y → FeedsAll x input y
 feeds-whole x y input i l n h =
     let e : length input ≤ i = omega arith in rw (take-all i input e) at h
+
+feeds-then : (x y : Held) (a b : List ℕ) (z : Held) → FeedsAll x a y → FeedsAll y b z → FeedsAll x (a ++ b) z
+feeds-then x y a b z h FeedsAll.begun = rw (append-nil a) h
+feeds-then x y a b z h (FeedsAll.more bytes c len w v k f) =
+    rw (← append-assoc a bytes (c ∷ [])) (FeedsAll.more (a ++ bytes) c len w z (feeds-then x y a bytes w h k) f)
+
+-- one part of the input more
+pub feeds-part : (x y z : Held) (most left n : ℕ) (part : List ℕ) → n ≡ length part → n ≤ left → FeedsInput x most y left → FeedsAll y part z
+    → FeedsInput x most z (left - n)
+feeds-part x y z most left n part e l h f =
+    record { bytes = h .bytes ++ part; count = omega (arith, h .count, length-append (h .bytes) part); feeds = feeds-then x y (h .bytes) part z (h .feeds) f }

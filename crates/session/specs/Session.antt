@@ -194,6 +194,12 @@ pub data FeedsAll (x : Held) : List ℕ → Held → Type 0 where
   begun : FeedsAll x [] x
   more : (bytes : List ℕ) (b len : ℕ) (y z : Held) → FeedsAll x bytes y → Feeds y b z len → FeedsAll x (bytes ++ (b ∷ [])) z
 
+-- at most so many bytes of standard input, which are free
+pub record FeedsInput (x : Held) (most : ℕ) (y : Held) (left : ℕ) : Type 0 where
+  pub bytes : List ℕ
+  pub count : length bytes + left ≡ most
+  pub feeds : FeedsAll x bytes y
+
 pub record Closed (x y : Held) : Type 0 where
   pub len : ℕ
   pub closes : Closes x y len

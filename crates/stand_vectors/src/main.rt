@@ -2,11 +2,10 @@
 // first).
 use libc::STDIN_FILENO;
 use libc::STDOUT_FILENO;
-use session::session::Session;
 use session::session::start;
 use session::space;
 use session::stream::end;
-use session::stream::feed_all;
+use session::stream::feed_input;
 ghost use Prim.Native.Nat.{_<_, _≤_};
 ghost use lib.ListN.{length};
 
@@ -38,29 +37,16 @@ fn receive(most: usize, input: &mut [u8]) -> usize
     io::read_full(STDIN_FILENO, &mut input[..most])
 }
 
-// So many bytes of the input, or as many as there are.
-fn feed_some(
-    x: Session,
-    bytes: usize,
-    input: &mut [u8],
-    memory: &mut [u8],
-    room: &mut [u8],
-    out: &mut [u8],
-    post: &mut [u8],
-    page: &mut [u8],
-    text: &mut [u8],
-) -> Session {
-    let mut y = x;
+// So many bytes are passed over, or as many as there are.
+fn skip(bytes: usize, input: &mut [u8]) {
     let mut left = bytes;
     while 0 < left {
         let n = receive(left, input);
         if n == 0 {
-            return y;
+            return;
         }
-        y = feed_all(y, &input[..n], memory, room, out, post, page, text);
         left -= n;
     }
-    y
 }
 
 // False at the end of the input.
@@ -77,8 +63,9 @@ fn next(
     if 4294967295 < n {
         return false;
     }
-    let x = feed_some(start(), n, input, memory, room, out, post, page, text);
-    end(x, memory, room, out, post, page, text);
+    let x = feed_input(start(), n, input, memory, room, out, post, page, text);
+    skip(x.left, input);
+    end(x.session, memory, room, out, post, page, text);
     io::write_all(STDOUT_FILENO, b"=\n")
 }
 

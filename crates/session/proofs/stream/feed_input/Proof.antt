@@ -1,21 +1,26 @@
--- The lengths stay, and the turns go down.
-use mathlib.Core.Path.{_≡_, refl}
+use mathlib.Core.Path.{_≡_, refl, sym}
 use native.Mathlib.Omega.{arith}
+use mathlib.Core.List.{[]}
 use lib.ListN.{length}
+use lib.Seq.{length-take-le}
 use borrow.Author.Needs.{needs}
-use Rattle.stand.proofs.feed_input.Statement.{statement}
-use Rattle.stand.proofs.feed_input.Tie as tie
+use Rattle.session.specs.Settle.{lend}
+use Rattle.session.specs.Session.{held, FeedsAll, FeedsInput}
+use Rattle.session.proofs.SessionLaws.{feeds-part}
+use Rattle.session.proofs.stream.feed_input.Statement.{statement}
+use Rattle.session.proofs.stream.feed_input.Tie as tie
 
 abbrev Inv-loop : tie.InvT-loop
-Inv-loop input₀ memory₀ room₀ out₀ post₀ page₀ text₀ y₀ turns₀ input memory room out post page text y turns =
+Inv-loop most input₀ memory₀ room₀ out₀ post₀ page₀ text₀ y₀ left₀ input memory room out post page text y left =
     (length input ≡ length input₀) × (length memory ≡ length memory₀) × (length room ≡ length room₀) × (length out ≡ length out₀) × (length post ≡ length post₀) × (length page ≡ length page₀) × (length text ≡ length text₀)
+    × FeedsInput (held y₀ (lend memory₀ post₀ room₀ out₀) page₀ text₀) left₀ (held y (lend memory post room out) page text) left
 
 abbrev μ-loop : tie.MeasureT-loop
-μ-loop input₀ memory₀ room₀ out₀ post₀ page₀ text₀ y₀ turns₀ input memory room out post page text y turns =
-    turns
+μ-loop most input₀ memory₀ room₀ out₀ post₀ page₀ text₀ y₀ left₀ input memory room out post page text y left =
+    left
 
 loop-holds : tie.Need-loop-holds Inv-loop μ-loop
-loop-holds c = (refl, refl, refl, refl, refl, refl, refl)
+loop-holds c = (refl, refl, refl, refl, refl, refl, refl, record { bytes = []; count = omega arith; feeds = FeedsAll.begun })
 
 more-requires : tie.Need-more-requires Inv-loop μ-loop
 more-requires c κs = search needs
@@ -42,22 +47,22 @@ same-length-7 : tie.Need-same-length-7 Inv-loop μ-loop
 same-length-7 c = c .before .before .before .before .before .before .loop .inv .6
 
 returns : tie.Need-returns Inv-loop μ-loop
-returns c = search needs
+returns c = c .before .before .before .before .before .before .loop .inv .7
 
 slice-reshare-prefix-feed-all : tie.Need-slice-reshare-prefix-feed-all Inv-loop μ-loop
-slice-reshare-prefix-feed-all c = c .before .before .before .more .ensures .0
+slice-reshare-prefix-feed-all c = c .before .before .before .more .ensures .1
 
 slice-aggregate-feed-all : tie.Need-slice-aggregate-feed-all Inv-loop μ-loop
-slice-aggregate-feed-all c = c .before .before .before .before .more .ensures .1
+slice-aggregate-feed-all c = sym (length-take-le _ _ (c .before .before .before .before .more .ensures .1))
 
 feed-all-requires : tie.Need-feed-all-requires Inv-loop μ-loop
 feed-all-requires c κs = search needs
 
-sub-turns : tie.Need-sub-turns Inv-loop μ-loop
-sub-turns c = omega (arith, c .before .before .before .before .before .before .before .before .before .before .before .before .before .before .before .before .before .before .before .before .before .before .before .before .before .loop-test .taken)
+sub-left : tie.Need-sub-left Inv-loop μ-loop
+sub-left c = c .before .before .before .before .before .before .before .before .before .before .before .before .before .before .before .before .before .before .before .before .before .before .before .more .ensures .0
 
 loop-less : tie.Need-loop-less Inv-loop μ-loop
-loop-less c = omega (arith, c .before .before .before .before .before .before .before .before .before .before .before .before .before .before .before .before .before .before .before .before .before .before .before .before .before .loop-test .taken)
+loop-less c = omega (arith, c .before .before .before .before .before .before .before .before .before .before .before .before .before .before .before .before .before .before .before .before .before .before .before .before .before .loop-test .taken, c .before .before .before .before .before .before .before .before .before .before .before .before .before .before .before .before .before .before .before .before .before .before .before .more .ensures .0, c .before .before .before .before .before .before .before .before .before .before .before .before .before .before .before .before .before .before .before .before .if1 .left)
 
 loop-again : tie.Need-loop-again Inv-loop μ-loop
 loop-again c =
@@ -69,6 +74,7 @@ loop-again c =
       omega (arith, h .4, c .before .before .before .before .before .post .given),
       omega (arith, h .5, c .before .before .before .page .given),
       omega (arith, h .6, c .before .text .given),
+      feeds-part _ _ _ _ _ _ _ (sym (length-take-le _ _ (c .before .before .before .before .before .before .before .before .before .before .before .before .before .before .before .before .before .before .before .before .before .before .before .more .ensures .1))) (c .before .before .before .before .before .before .before .before .before .before .before .before .before .before .before .before .before .before .before .before .before .before .before .more .ensures .0) (h .7) (c .before .before .before .before .before .before .before .before .before .before .before .before .feed-all .ensures),
     )
 
 same-length-8 : tie.Need-same-length-8 Inv-loop μ-loop
@@ -93,7 +99,7 @@ same-length-14 : tie.Need-same-length-14 Inv-loop μ-loop
 same-length-14 c = c .before .loop .inv .6
 
 returns-2 : tie.Need-returns-2 Inv-loop μ-loop
-returns-2 c = search needs
+returns-2 c = c .before .loop .inv .7
 
 pub feed-input-spec : {M : Type 1} → statement M
 feed-input-spec =
@@ -114,7 +120,7 @@ feed-input-spec =
     slice-reshare-prefix-feed-all
     slice-aggregate-feed-all
     feed-all-requires
-    sub-turns
+    sub-left
     loop-less
     loop-again
     same-length-8
