@@ -141,16 +141,15 @@ area-fits x F j m R h r l =
     let s : x * F ≡ (x - 1) * F + F = ap (λ (y : ℕ). y * F) e ∙ stride (x - 1) F in omega arith
 
 -- one node more is weighed
-pub weighed-more : (F : ℕ) (room nodes row : List ℕ) (j m s : ℕ) (sums loaded scaled next : List ℕ)
-    → ((l : ℕ) → l < m → getD sums l 0 ≡ sum s (λ i. product (byteIn F room (j + l) (getD nodes i 0)) (getD row (16 + i) 0)))
+pub weighed-more : (F : ℕ) (room nodes row : List ℕ) (j m s : ℕ) (sums next : ℕ → ℕ) (loaded : List ℕ)
+    → ((l : ℕ) → l < m → sums l ≡ sum s (λ i. product (byteIn F room (j + l) (getD nodes i 0)) (getD row (16 + i) 0)))
     → ((l : ℕ) → l < m → getD loaded l 0 ≡ getD room ((getD nodes s 0 - 1) * F + j + l) 0)
-    → ((l : ℕ) → getD scaled l 0 ≡ product (getD loaded l 0) (getD row (16 + s) 0))
-    → ((l : ℕ) → getD next l 0 ≡ getD sums l 0 ⊕ getD scaled l 0)
-    → (l : ℕ) → l < m → getD next l 0 ≡ sum (s + 1) (λ i. product (byteIn F room (j + l) (getD nodes i 0)) (getD row (16 + i) 0))
+    → ((l : ℕ) → next l ≡ sums l ⊕ product (getD loaded l 0) (getD row (16 + s) 0))
+    → (l : ℕ) → l < m → next l ≡ sum (s + 1) (λ i. product (byteIn F room (j + l) (getD nodes i 0)) (getD row (16 + i) 0))
 unfolding sum
-weighed-more F room nodes row j m s sums loaded scaled next a b c d l h =
+weighed-more F room nodes row j m s sums next loaded a b c l h =
     let e : (getD nodes s 0 - 1) * F + j + l ≡ (getD nodes s 0 - 1) * F + (j + l) = omega arith in
     rw (add-one s)
-    (d l
+    (c l
     ∙ ap₂ (λ (x : ℕ) (y : ℕ). x ⊕ y) (a l h)
-    (c l ∙ ap (λ (x : ℕ). product x (getD row (16 + s) 0)) (b l h ∙ ap (λ (x : ℕ). getD room x 0) e)))
+    (ap (λ (x : ℕ). product x (getD row (16 + s) 0)) (b l h ∙ ap (λ (x : ℕ). getD room x 0) e)))

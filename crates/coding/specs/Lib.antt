@@ -9,6 +9,7 @@ pub mod Answer
 pub mod Areas
 pub mod Split
 pub mod Nodes
+pub mod Lanes
 pub mod Output
 pub mod Join
 pub mod Sha256

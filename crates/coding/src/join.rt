@@ -6,7 +6,9 @@ use crate::areas::load_part;
 use crate::areas::load_whole;
 use crate::grid::invert;
 use crate::lanes::add;
+use crate::lanes::fold;
 use crate::lanes::scale;
+use crate::lanes::spread;
 use crate::measures::proper_measures;
 use crate::nodes::length_of;
 use crate::nodes::named;
@@ -40,13 +42,13 @@ fn weigh_whole(
     requires { ⌜ (k ≤ 16) × (f ≤ 4096) × (j + 16 ≤ f) × Within (length (now room)) k f nodes ⌝ }
     ensures { λ v. ⌜ ((l : ℕ) → l < 16 → getD v l 0 ≡ sum k (λ s. product (byteIn f (now (room .entry)) (j + l) (getD nodes s 0)) (getD row (16 + s) 0))) ⌝ }
 {
-    let mut sums = [0u8; 16];
+    let mut sums = [[0u8; 16]; 8];
     for s in 0..k {
         let at = (nodes[s] as usize - 1) * f + j;
-        let next = add(sums, scale(load_whole(room, at), row[16 + s]));
+        let next = spread(sums, load_whole(room, at), row[16 + s]);
         sums = next;
     }
-    sums
+    fold(sums)
 }
 
 fn weigh_part(

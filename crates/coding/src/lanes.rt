@@ -1,8 +1,9 @@
 // Sixteen elements at once. Each loop over the lanes has no branch, so that it becomes one operation on a register.
 ghost use mathlib.Core.Path.{_≡_};
-ghost use Prim.Native.Nat.{ℕ};
+ghost use Prim.Native.Nat.{ℕ, _%_};
 ghost use lib.ListN.{getD};
 ghost use Rattle.coding.specs.Field.{_⊕_, product};
+ghost use Rattle.coding.specs.Lanes.{folded};
 
 // The lowest 7 bits move up; the highest would be x^8, which is 29 modulo hex 11D.
 fn twice(x: u8) -> u8
@@ -52,4 +53,40 @@ pub fn scale(v: [u8; 16], c: u8) -> [u8; 16]
         term = next;
     }
     sum
+}
+
+// v, with w added where the factor is odd.
+fn added(v: [u8; 16], w: [u8; 16], c: u8) -> [u8; 16]
+    ensures { λ r. ⌜ ((l : ℕ) → getD r l 0 ≡ getD v l 0 ⊕ product (getD w l 0) (c % 2)) ⌝ }
+{
+    if c % 2 == 1 {
+        return add(v, w);
+    }
+    v
+}
+
+// Adds v to the row of each bit that the factor has. Nothing is doubled here, so that all terms together take the doublings of one.
+pub fn spread(sums: [[u8; 16]; 8], v: [u8; 16], c: u8) -> [[u8; 16]; 8]
+    ensures { λ r. ⌜ ((l : ℕ) → folded r l ≡ folded sums l ⊕ product (getD v l 0) c) ⌝ }
+{
+    let mut r = sums;
+    let mut rest = c;
+    for b in 0..8usize {
+        let next = added(sums[b], v, rest);
+        r[b] = next;
+        rest = rest / 2;
+    }
+    r
+}
+
+// The rows' sum, row b times 2^b, by Horner's rule.
+pub fn fold(sums: [[u8; 16]; 8]) -> [u8; 16]
+    ensures { λ r. ⌜ ((l : ℕ) → getD r l 0 ≡ folded sums l) ⌝ }
+{
+    let mut r = [0u8; 16];
+    for b in 0..8usize {
+        let next = add(double(r), sums[7 - b]);
+        r = next;
+    }
+    r
 }

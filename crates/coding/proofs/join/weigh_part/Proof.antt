@@ -1,9 +1,9 @@
 -- The first s nodes are weighed.
-use mathlib.Core.Path.{_≡_}
+use mathlib.Core.Path.{_≡_, ap, _∙_}
 use Prim.Native.Nat.{ℕ, _+_, _-_, _<_, _≤_}
 use native.Mathlib.Omega.{arith}
 use lib.ListN.{length, getD}
-use Rattle.coding.specs.Field.{product, sum}
+use Rattle.coding.specs.Field.{_⊕_, product, sum}
 use Rattle.coding.specs.Output.{byteIn}
 use Rattle.coding.proofs.BytesLaws.{zeros-at}
 use Rattle.coding.proofs.JoinLaws.{area-fits, weighed-more}
@@ -66,8 +66,9 @@ loop-again : tie.Need-loop-again Inv-loop μ-loop
 loop-again c = (
   omega arith,
   weighed-more (c .before .before .before .before .before .before .args .f) (c .before .before .before .before .before .before .args .room .now) (c .before .before .before .before .before .before .args .t2) (c .before .before .before .before .before .before .args .t1) (c .before .before .before .before .before .before .args .j) (c .before .before .before .before .before .before .args .m) (c .before .before .before .before .loop .s)
-      (c .before .before .before .before .loop .sums) (c .before .before .load-part .result) (c .before .scale .result) (c .add .result)
-      (c .before .before .before .before .loop .inv .1) (c .before .before .load-part .ensures) (c .before .scale .ensures) (c .add .ensures),
+      (λ l. getD (c .before .before .before .before .loop .sums) l 0) (λ l. getD (c .add .result) l 0) (c .before .before .load-part .result)
+      (c .before .before .before .before .loop .inv .1) (c .before .before .load-part .ensures)
+      (λ l. c .add .ensures l ∙ ap (λ (x : ℕ). getD (c .before .before .before .before .loop .sums) l 0 ⊕ x) (c .before .scale .ensures l)),
 )
 
 returns : tie.Need-returns Inv-loop μ-loop

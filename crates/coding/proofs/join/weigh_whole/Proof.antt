@@ -1,24 +1,25 @@
 -- The first s nodes are weighed.
-use mathlib.Core.Path.{_≡_}
+use mathlib.Core.Path.{_≡_, _∙_}
 use Prim.Native.Nat.{ℕ, _+_, _-_, _<_, _≤_}
 use native.Mathlib.Omega.{arith}
 use lib.ListN.{length, getD}
 use Rattle.coding.specs.Field.{product, sum}
+use Rattle.coding.specs.Lanes.{folded}
 use Rattle.coding.specs.Output.{byteIn}
-use Rattle.coding.proofs.BytesLaws.{zeros-at}
+use Rattle.coding.proofs.LaneLaws.{folded-none}
 use Rattle.coding.proofs.JoinLaws.{area-fits, weighed-more}
 use Rattle.coding.proofs.join.weigh_whole.Statement.{statement}
 use Rattle.coding.proofs.join.weigh_whole.Tie as tie
 
 abbrev Inv-loop : tie.InvT-loop
-Inv-loop k f j room row nodes sums₀ s₀ sums s = (s ≤ k) × ((l : ℕ) → l < 16 → getD sums l 0 ≡ sum s (λ i. product (byteIn f room (j + l) (getD nodes i 0)) (getD row (16 + i) 0)))
+Inv-loop k f j room row nodes sums₀ s₀ sums s = (s ≤ k) × ((l : ℕ) → l < 16 → folded sums l ≡ sum s (λ i. product (byteIn f room (j + l) (getD nodes i 0)) (getD row (16 + i) 0)))
 
 abbrev μ-loop : tie.MeasureT-loop
 μ-loop k f j room row nodes sums₀ s₀ sums s = k - s
 
 loop-holds : tie.Need-loop-holds Inv-loop μ-loop
 unfolding sum
-loop-holds c = (omega arith, λ l h. zeros-at 16 l)
+loop-holds c = (omega arith, λ l h. folded-none l)
 
 array-read-at : tie.Need-array-read-at Inv-loop μ-loop
 array-read-at c = omega arith
@@ -44,17 +45,14 @@ load-whole-requires c κs =
     let w = c .before .before .before .pre .3 (c .before .loop .s) (c .loop-test .taken) in
     let a = area-fits (getD (c .before .before .before .args .t2) (c .before .loop .s) 0) (c .before .before .before .args .f) (c .before .before .before .args .j) 16 (length (c .before .before .before .args .room .now)) (w .0) (w .2) (c .before .before .before .pre .2) in a
 
-add-scale : tie.Need-add-scale Inv-loop μ-loop
-add-scale c = omega arith
+add-spread : tie.Need-add-spread Inv-loop μ-loop
+add-spread c = omega arith
 
-array-read-scale : tie.Need-array-read-scale Inv-loop μ-loop
-array-read-scale c = omega arith
+array-read-spread : tie.Need-array-read-spread Inv-loop μ-loop
+array-read-spread c = omega arith
 
-scale-requires : tie.Need-scale-requires Inv-loop μ-loop
-scale-requires c κs = tt
-
-add-requires : tie.Need-add-requires Inv-loop μ-loop
-add-requires c κs = tt
+spread-requires : tie.Need-spread-requires Inv-loop μ-loop
+spread-requires c κs = tt
 
 add-s : tie.Need-add-s Inv-loop μ-loop
 add-s c = omega arith
@@ -63,15 +61,21 @@ loop-less : tie.Need-loop-less Inv-loop μ-loop
 loop-less c = omega arith
 
 loop-again : tie.Need-loop-again Inv-loop μ-loop
-loop-again c = (
-  omega arith,
-  weighed-more (c .before .before .before .before .before .before .args .f) (c .before .before .before .before .before .before .args .room .now) (c .before .before .before .before .before .before .args .t2) (c .before .before .before .before .before .before .args .t1) (c .before .before .before .before .before .before .args .j) 16 (c .before .before .before .before .loop .s)
-      (c .before .before .before .before .loop .sums) (c .before .before .load-whole .result) (c .before .scale .result) (c .add .result)
-      (c .before .before .before .before .loop .inv .1) (c .before .before .load-whole .ensures) (c .before .scale .ensures) (c .add .ensures),
-)
+loop-again c =
+    let a = c .before .before .before .before .before .args in
+    let o = c .before .before .before .loop in (
+      omega arith,
+      weighed-more (a .f) (a .room .now) (a .t2) (a .t1) (a .j) 16 (o .s) (folded (o .sums)) (folded (c .spread .result)) (c .before .load-whole .result)
+          (o .inv .1) (c .before .load-whole .ensures) (c .spread .ensures),
+    )
+
+fold-requires : tie.Need-fold-requires Inv-loop μ-loop
+fold-requires c κs = tt
 
 returns : tie.Need-returns Inv-loop μ-loop
-returns c = let e : c .before .loop .s ≡ c .before .before .before .args .k = omega arith in rw e at (c .before .loop .inv .1)
+returns c l h =
+    let e : c .before .before .loop .s ≡ c .before .before .before .before .args .k = omega arith in
+    c .fold .ensures l ∙ (rw e at (c .before .before .loop .inv .1 l h))
 
 pub weigh-whole-spec : {M : Type 1} → statement M
 weigh-whole-spec =
@@ -86,11 +90,11 @@ weigh-whole-spec =
     mul-at
     add-at
     load-whole-requires
-    add-scale
-    array-read-scale
-    scale-requires
-    add-requires
+    add-spread
+    array-read-spread
+    spread-requires
     add-s
     loop-less
     loop-again
+    fold-requires
     returns)
