@@ -1,2 +1,2 @@
-pub mod LacksLaws
+pub mod BriefLaws
 pub mod RecordLaws

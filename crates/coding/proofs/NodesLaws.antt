@@ -28,14 +28,10 @@ shifted-out m n = go (decLt m (2 ^ n))
         let d : m < 1 * 2 ^ n = div-lt-iff-lt-mul (pow-pos n) .0 b in omega arith)
         ∙ sym (le-ltb m (2 ^ n) (omega arith))
 
--- the nodes up to none, and up to one more: it is named if its bit stands
+-- the nodes up to none, and up to one more, which is named if its bit stands
 pub nodes-start : (map : ℕ) → nodesOf map 0 ≡ []
 unfolding nodesOf
 nodes-start map = refl
-
-pub nodes-step : (map i : ℕ) → nodesOf map (suc i) ≡ nodesOf map i ++ cond (eqb (map / 2 ^ i % 2) 1) (suc i ∷ []) []
-unfolding nodesOf
-nodes-step map i = refl
 
 pub nodes-skip : (map i : ℕ) → eqb (map / 2 ^ i % 2) 1 ≡ false → nodesOf map (i + 1) ≡ nodesOf map i
 unfolding nodesOf

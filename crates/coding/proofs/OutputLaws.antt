@@ -9,7 +9,6 @@ use native.Mathlib.Omega.{arith}
 use lib.ListN.{length, getD, set, length-set}
 use lib.Seq.{getD-set-same, getD-set-other}
 use Rattle.coding.specs.Output.{Placed, Stride}
-use Rattle.coding.proofs.BytesLaws.{stride}
 
 module _ (g : ℕ → ℕ) (len : ℕ) where
   pub placed-none : (D : ℕ → Type 0) (t : List ℕ) → ((q : ℕ) → q < len → D (4 + q) → ⊥) → Placed g len D t t

@@ -1,11 +1,11 @@
 -- Places and a list of versions, walked together: what is listed is dropped.
 use mathlib.Core.Path.{_≡_, refl, sym, ap, ap₂, _∙_}
-use mathlib.Core.Bool.{Bool, true, false, _&&_, not, true≢false, false≢true}
+use mathlib.Core.Bool.{Bool, true, false, _&&_, not, true≢false}
 use mathlib.Core.List.{List, [], _∷_, map}
 use Prim.Native.Nat.{ℕ, _+_, _-_, _<_, _≤_}
 use native.Mathlib.Decide.{decLt}
 use native.Mathlib.Omega.{arith}
-use borrow.Author.Tests.{lt-ltb, le-ltb, ltb-true}
+use borrow.Author.Tests.{lt-ltb, le-ltb, ltb-true, not-true}
 use lib.Dec.{ltb}
 use Rattle.coding.proofs.Cases.{and-true}
 use Rattle.protocol.specs.declared.version.Version.{Version}
@@ -121,12 +121,8 @@ module _ (z : ℕ) (t b : List ℕ) (from left at more : ℕ) where
       let k : 0 < more = ltb-true 0 more (a .0) in
       let x = heldFrom z t (from + z) (left - 1) in
       ap₂ release (first-listed k) (first-place h)
-      ∙ release-named (versionAt b at) (versionsFrom b (at + 5) (more - 1)) (heldAt t from) x (not-then _ (c .1)) (not-then _ (c .0))
+      ∙ release-named (versionAt b at) (versionsFrom b (at + 5) (more - 1)) (heldAt t from) x (not-true _ (c .1)) (not-true _ (c .0))
       ∙ ap (λ (l : List Version). release l x) (sym (first-listed k))
-    where
-      not-then : (b : Bool) → not b ≡ true → b ≡ false
-      not-then true e = absurd (false≢true e)
-      not-then false e = refl
 
   -- the place is kept
   pub walk-kept : 0 < left → ascending (versionsFrom b at more) ≡ true → listBehind (versionAt t from) b at more ≡ false → listNames (versionAt t from) b at more ≡ false

@@ -28,7 +28,8 @@ use Rattle.protocol.proofs.NodeTableLaws.{FitsPlace, GoodTable}
 use Rattle.records.specs.Places.{numberAt, versionAt, lengthAt, pieceAt, heldAt, heldFrom, soundAt, soundTable, rank, standsAt, splice, placeOf, versionAlone}
 use Rattle.parties.specs.ToNode.{versionsFrom, storeSound, freeSound}
 use Rattle.parties.specs.NodeCode.{Ready, Ends, event, broughtBy, inserted, Listed, Released}
-use Rattle.records.proofs.PositionLaws.{from-length, every-at, place-less}
+use Rattle.records.proofs.SizeLaws.{below-rows}
+use Rattle.records.proofs.PositionLaws.{from-length, every-at}
 use Rattle.parties.proofs.TableLaws.{table-none}
 use Rattle.parties.proofs.SeekLaws.{rank-within, seek-split, stands-within, stands-split, stands-hand, stands-keep, absent-hand, absent-keep}
 use Rattle.records.proofs.SpliceLaws.{paste-splice, splice-one, splice-next, splice-front, length-splice}
@@ -78,7 +79,7 @@ module _ (s : Measures) (t b room : List ℕ) where
       filled = omega (arith, r .table, mul-le-mul-right (placeSize s) few)
 
       pub grows : n < places s → 2 + n * placeSize s + placeSize s ≤ length t
-      grows h = omega (arith, r .table, place-less n (places s) (placeSize s) h)
+      grows h = omega (arith, r .table, below-rows n (places s) (placeSize s) h)
 
       module _ (v : Version) (j : ℕ) (ej : j ≡ rank (placeSize s) t v 2 n) where
         pub ranked : 2 + j * placeSize s ≤ 2 + n * placeSize s
@@ -88,7 +89,7 @@ module _ (s : Measures) (t b room : List ℕ) where
         stands-below st = stands-within (placeSize s) t n (record { version = v; piece = [] }) j ej st
 
         pub stands-inside : standsAt (placeSize s) t n j v ≡ true → 2 + j * placeSize s + placeSize s ≤ length t
-        stands-inside st = omega (arith, place-less j n (placeSize s) (stands-below st), filled)
+        stands-inside st = omega (arith, below-rows j n (placeSize s) (stands-below st), filled)
 
         pub stands-short : standsAt (placeSize s) t n j v ≡ true → lengthAt t (2 + j * placeSize s) ≤ s .f
         stands-short st = place-short s t (2 + j * placeSize s) (sound-place j (stands-below st))

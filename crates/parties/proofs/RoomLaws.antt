@@ -84,6 +84,14 @@ built-map room e = rw e (built-byte [] (replicate 4708 0) built-none 15 (omega a
 -- ---- values of one length, one after the other
 
 module _ {A : Type 0} (w : A → List ℕ) where
+  pub many-none : (a : A) → writeMany w (replicate 0 a) ≡ []
+  unfolding writeMany
+  many-none a = refl
+
+  pub many-first : (a : A) (i : ℕ) → writeMany w (replicate (suc i) a) ≡ w a ++ writeMany w (replicate i a)
+  unfolding writeMany
+  many-first a i = refl
+
   pub many-replicated : (a : A) (k i : ℕ) → length (w a) ≡ k → length (writeMany w (replicate i a)) ≡ i * k
   unfolding writeMany
   many-replicated a k zero h = omega arith

@@ -1,13 +1,13 @@
 -- The place of a version: what stands before it is below, and a step on the places goes on from there.
 use mathlib.Core.Path.{_≡_, refl, sym, ap, _∙_}
-use mathlib.Core.Bool.{Bool, true, false, cond, not, true≢false, false≢true}
+use mathlib.Core.Bool.{Bool, true, false, cond, not, true≢false}
 use mathlib.Core.List.{List, [], _∷_, _++_}
 use mathlib.Core.Option.{some, none}
 use Prim.Native.Nat.{ℕ, zero, suc, _+_, _-_, _*_, _<_, _≤_}
 use native.Mathlib.Nat.{zero-mul}
 use native.Mathlib.Decide.{decLt}
 use native.Mathlib.Omega.{arith}
-use borrow.Author.Tests.{lt-ltb, le-ltb, ltb-true}
+use borrow.Author.Tests.{lt-ltb, le-ltb, ltb-true, not-true}
 use lib.Dec.{ltb}
 use Rattle.coding.proofs.Cases.{and-true}
 use Rattle.protocol.specs.declared.version.Version.{Version}
@@ -106,11 +106,7 @@ module _ (z : ℕ) (t : List ℕ) (n : ℕ) (h : Held) (j : ℕ) (e : j ≡ rank
     stands-within = ltb-true j n (and-true (ltb j n) (not (below (h .version) (versionAt t (2 + j * z)))) s .0)
 
     same : below (h .version) (versionAt t (2 + j * z)) ≡ false
-    same = not-then (below (h .version) (versionAt t (2 + j * z))) (and-true (ltb j n) (not (below (h .version) (versionAt t (2 + j * z)))) s .1)
-      where
-        not-then : (b : Bool) → not b ≡ true → b ≡ false
-        not-then true q = absurd (false≢true q)
-        not-then false q = refl
+    same = not-true (below (h .version) (versionAt t (2 + j * z))) (and-true (ltb j n) (not (below (h .version) (versionAt t (2 + j * z)))) s .1)
 
     pub stands-split : heldFrom z t 2 n ≡ heldFrom z t 2 j ++ (heldAt t (2 + j * z) ∷ heldFrom z t (2 + j * z + z) (n - j - 1))
     stands-split =

@@ -311,7 +311,7 @@ format-client s =
     (λ i (y : Retained × Phase). (i, y)))
     (λ n (y : ReadingIndex × (Retained × Phase)). writeIndex (y .0) ++ (writeRetained s (y .1 .0) ++ writeArea (workSize s) (writeWork s) (y .1 .1)))
     (λ n (y : ReadingIndex × (Retained × Phase)). GoodIndex (y .0) × (ReadsRetained s (y .1 .0) × ReadsWork s n (y .1 .1)))
-    (λ n (y : ReadingIndex × (Retained × Phase)). clientOf n (y .0) (y .1 .0) (y .1 .1))
+    (λ n (y : ReadingIndex × (Retained × Phase)). clientOf (y .0) (y .1 .0) (y .1 .1))
     (λ c. step (c .phase)) (λ c. (c .readingIndex, (retained c, c .phase)))
     (λ c. refl) (λ n y g h. h .1 .1 .0 .0 .0) (λ n y. refl) (format-number 1)
     (λ n.
@@ -507,7 +507,7 @@ client-only s b r bs e = let x = format-client s .only b r bs e in (client-good 
 
 -- what is retained reads by itself: of the client who is idle and has read nothing
 abbrev pub keeper : Retained → Client
-keeper x = clientOf 0 (record { 0 = 0 }) x Phase.idle
+keeper x = clientOf (record { 0 = 0 }) x Phase.idle
 
 pub retained-back : (s : Measures) (c : Client) → GoodClient s c → (rest : List ℕ)
     → readRetained s (writeRetained s (retained c) ++ rest) ≡ some (record { value = retained c; rest = rest })

@@ -31,7 +31,7 @@ use Rattle.protocol.specs.ClientEvents.{ClientEnd, Step, after, unchange
 use Rattle.protocol.specs.ClientEvents.{goOn, joinedAt, ends, counted, repliedAt, messageAt, clientMessage, messageTo}
 use Rattle.protocol.specs.Run.{History, Operation, Call, updateCall, State, Event, Result, Answered, byClient, upd, upd₂, tick, mark, marked, heard}
 use Rattle.protocol.specs.Run.{pieceOf, ending, giving, stays, goes, called, isRefused, told, delivered, carryOut, deliver, lie}
-use Rattle.protocol.specs.Claim.{Sane, Among, PieceOf, DigestsDiffer, dishonest}
+use Rattle.protocol.specs.Claim.{Sane, Among, PieceOf, Differ, dishonest}
 use Rattle.protocol.proofs.Cells.{by-eq, chosen}
 use Rattle.protocol.proofs.FormatLaws.{Each}
 use Rattle.protocol.proofs.EachLaws.{each-set}
@@ -49,6 +49,10 @@ use Rattle.protocol.proofs.ViewLaws.{sane-number, sane-quiet, quiet-hea
 use Rattle.protocol.proofs.ViewLaws.{silent-follows, quiet-mark, record-reads, own-turned, rows-turned}
 use Rattle.protocol.proofs.GoodLaws.{pointed-good, ver-some, piece-short}
 use Rattle.protocol.proofs.ReplyLaws.{own-matches, matches-digest, enough-match, all-counted, joined-reading, Picked, known-picked}
+
+-- no two different pieces of a history share a digest
+abbrev DigestsDiffer : Measures → History → Type 0
+DigestsDiffer s h = Differ (PieceOf s h)
 
 -- ---- the history after a message
 

@@ -7,7 +7,7 @@ use Prim.Native.Nat.{ℕ, _≤_}
 use Rattle.protocol.specs.declared.measures.Measures.{Measures}
 use Rattle.protocol.specs.Measures.{passes}
 use Rattle.protocol.specs.Run.{State, Event, deposit, reading, carry, hand, bring, deliver, lie, carryOut, run, fresh}
-use Rattle.protocol.specs.Claim.{Claim, Sane, Lent, AllLent, PieceOf, RunPiece, Differ, DigestsDiffer, dishonest}
+use Rattle.protocol.specs.Claim.{Claim, Sane, Lent, AllLent, PieceOf, RunPiece, Differ, dishonest}
 use Rattle.protocol.proofs.MeasureLaws.{passed}
 use Rattle.protocol.proofs.Model.{Model}
 use Rattle.protocol.proofs.StockLaws.{held-all}
@@ -24,7 +24,7 @@ use Rattle.protocol.proofs.ClaimHolds.{claim-holds}
 module _ (z : Measures) (ok : passes z ≡ true) (honest : ℕ → Bool) (few : dishonest honest (z .n) ≤ z .t) where
   -- each event is a step of the model
   follows : (st : State) (s : Model) → Shows z honest st s → Invariant z honest s → (e : Event) → Lent e
-      → DigestsDiffer z (carryOut z honest e st .state .history) → Follows z honest s e (carryOut z honest e st)
+      → Differ (PieceOf z (carryOut z honest e st .state .history)) → Follows z honest s e (carryOut z honest e st)
   follows st s o v (deposit c bytes) l d = deposit-follows z honest ok st s o c bytes l
   follows st s o v (reading c room) l d = reading-follows z honest ok st s o c room l
   follows st s o v (carry c room) l d = carry-follows z honest ok st s o v c room l
@@ -40,7 +40,7 @@ module _ (z : Measures) (ok : passes z ≡ true) (honest : ℕ → Bool) (few : 
     shows : Shows z honest st model
     kept : Invariant z honest model
 
-  event : (st : State) → Reached st → (e : Event) → Lent e → DigestsDiffer z (carryOut z honest e st .state .history) → Reached (carryOut z honest e st .state)
+  event : (st : State) → Reached st → (e : Event) → Lent e → Differ (PieceOf z (carryOut z honest e st .state .history)) → Reached (carryOut z honest e st .state)
   event st r e l d =
       let f = follows st (r .model) (r .shows) (r .kept) e l d in
       record { model = f .model; shows = f .shows; kept = invariant-kept z honest (passed z ok) (r .model) (f .model) (f .step) (r .kept) }
@@ -68,6 +68,6 @@ module _ (z : Measures) (ok : passes z ≡ true) (honest : ℕ → Bool) (few : 
 
   -- in such runs 8 and 9 never come, and 4 only for bytes of a dishonest node
   pub sane-answers : (es : List Event) (e : Event) → AllLent es → Lent e → Differ (RunPiece z honest es (fresh z))
-      → DigestsDiffer z (carryOut z honest e (run z honest es (fresh z)) .state .history) → Sane e (carryOut z honest e (run z honest es (fresh z)) .answer)
+      → Differ (PieceOf z (carryOut z honest e (run z honest es (fresh z)) .state .history)) → Sane e (carryOut z honest e (run z honest es (fresh z)) .answer)
   sane-answers es e l m d f =
       let r = from-fresh es l d in follows (run z honest es (fresh z)) (r .model) (r .shows) (r .kept) e m f .sane

@@ -5,7 +5,6 @@ use mathlib.Core.Logic.{_⊎_, inl, inr}
 use mathlib.Core.List.{List, [], _∷_, _++_, map}
 use Prim.Native.Nat.{ℕ, zero, suc, _+_, _*_, _<_, _≤_}
 use native.Mathlib.Decide.{ℕ-discrete}
-use native.Mathlib.Nat.{le-refl, mul-le-mul}
 use native.Mathlib.Omega.{arith}
 use borrow.Author.Tests.{eq-eqb, not-true}
 use lib.Dec.{eqb, ltb}
@@ -16,20 +15,16 @@ use Rattle.coding.proofs.BytesLaws.{tabulate-none, tabulate-more, getD-tabulate
 use Rattle.protocol.specs.declared.measures.Measures.{Measures}
 use Rattle.protocol.specs.declared.version.ReadingIndex.{ReadingIndex}
 use Rattle.protocol.specs.declared.version.Version.{Version}
-use Rattle.protocol.specs.Measures.{pointerSize}
 use Rattle.protocol.specs.Version.{below, none, ascending}
-use Rattle.protocol.specs.Pointer.{Pointer, nonePointer, writeVersion}
+use Rattle.protocol.specs.Pointer.{Pointer, nonePointer}
 use Rattle.protocol.specs.Directory.{Row, noRow}
 use Rattle.protocol.specs.NodeTable.{Held}
 use Rattle.protocol.specs.Node.{keep, listed}
-use Rattle.protocol.specs.Message.{ToNode, writeToNode}
 use Rattle.protocol.specs.Client.{Phase, Client}
 use Rattle.protocol.specs.Deposit.{noticed, frozenAfter, replaced, insert, stillRetained, freeList, freed}
-use Rattle.protocol.specs.ClientEvents.{roomSize}
 use Rattle.protocol.proofs.Cells.{is-false}
-use Rattle.protocol.proofs.FormatLaws.{Each, length-same}
+use Rattle.protocol.proofs.FormatLaws.{Each}
 use Rattle.protocol.proofs.VersionLaws.{neither-below, same-eq, eq-same}
-use Rattle.protocol.proofs.PointerLaws.{length-version}
 use Rattle.protocol.proofs.NodeLaws.{keep-ascending}
 use Rattle.protocol.proofs.Model.{Rows, Clients, notices, frozenBy, Replaced, Retains, Frees}
 use Rattle.protocol.proofs.View.{clientAt, rowAt, rowsAt}
@@ -186,20 +181,6 @@ replaced-length own c rows (suc q) = go (noticed own c rows q) (replaced-length 
         → length (cond b (getD (c .frozen) q nonePointer .version ∷ getD (c .reserved) q none ∷ replaced own c rows q) (replaced own c rows q)) ≤ 2 * suc q + 1
     go true ih = omega arith
     go false ih = omega arith
-
--- the free list's message has room
-pub free-fits : (z : Measures) (own : ℕ) (c : Client) (rows : List Row) (p : Pointer) → length (writeToNode (ToNode.free (freed z own c rows p))) ≤ roomSize z
-unfolding writeToNode
-free-fits z own c rows p =
-    let l : List Version = freed z own c rows p in
-    let w : 7 ≤ pointerSize z = omega arith in
-    omega (
-      arith,
-      length-same writeVersion (λ v. Unit {0}) 5 (λ v u. length-version v) l (each-listed (λ v. Unit {0}) l (λ v e. tt)),
-      free-length (stillRetained (frozenAfter z own c rows p)) (replaced own c rows (z .m)),
-      replaced-length own c rows (z .m),
-      mul-le-mul (le-refl (z .m + 1)) w,
-    )
 
 -- ---- on a model's clients and rows
 

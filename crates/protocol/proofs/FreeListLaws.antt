@@ -7,20 +7,18 @@ use Prim.Native.Nat.{ℕ, zero, suc, _+_, _-_, _*_, _<_, _≤_}
 use native.Mathlib.Decide.{ℕ-discrete}
 use native.Mathlib.Omega.{arith}
 use borrow.Author.Tests.{eq-eqb}
-use lib.Dec.{eqb, ltb}
+use lib.Dec.{ltb}
 use lib.ListN.{length, getD, drop}
 use lib.Seq.{take-at}
 use Rattle.protocol.specs.declared.measures.Measures.{Measures}
 use Rattle.protocol.specs.declared.version.Version.{Version}
-use Rattle.protocol.specs.declared.version.ReadingIndex.{ReadingIndex}
 use Rattle.protocol.specs.Version.{none, ascending}
 use Rattle.protocol.specs.Pointer.{Pointer, nonePointer}
 use Rattle.protocol.specs.Directory.{Row, noRow}
 use Rattle.protocol.specs.Message.{ToNode, writeToNode}
-use Rattle.protocol.specs.Answer.{ClientAnswer}
 use Rattle.protocol.specs.Client.{Client}
 use Rattle.protocol.specs.Deposit.{noticed, frozenAfter, replaced, stillRetained, freed}
-use Rattle.protocol.specs.ClientEvents.{Step, stays, does, freeze, lay, messageTo}
+use Rattle.protocol.specs.ClientEvents.{Step, stays, does, freeze, messageTo}
 use Rattle.protocol.proofs.FreeLaws.{free-ascending, free-length, replaced-length}
 
 -- a client does not notice itself

@@ -46,6 +46,10 @@ pub mod DepositLaws
 pub mod FreeLaws
 pub mod FreeListLaws
 pub mod RefusalLaws
+pub mod TableRefusalLaws
+pub mod LacksLaws
+pub mod DepositStartLaws
+pub mod FreshTableLaws
 pub mod PickLaws
 pub mod ReplyLaws
 pub mod HandLaws

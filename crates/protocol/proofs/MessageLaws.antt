@@ -19,7 +19,7 @@ use Rattle.protocol.specs.Format.{Reader, Read, given, readMany, writeMa
 use Rattle.protocol.specs.Version.{ascending}
 use Rattle.protocol.specs.Pointer.{readVersion, writeVersion}
 use Rattle.protocol.specs.Message.{properVersion, readProper, ToNode, ToClient, readStored, readVersions, readAnswer}
-use Rattle.protocol.specs.Message.{writeAnswer, answer, readToNode, writeToNode, readToClient, writeToClient}
+use Rattle.protocol.specs.Message.{answer, readToNode, writeToNode, readToClient, writeToClient}
 use Rattle.protocol.proofs.FormatLaws.{Format, format-check, format-many, Each, bytes-rest}
 use Rattle.protocol.proofs.PointerLaws.{GoodVersion, format-version, length-version}
 
@@ -98,6 +98,11 @@ message-stored s =
 abbrev pub GoodAnswer : Option (List ℕ) → Type 0
 GoodAnswer none = Unit {0}
 GoodAnswer (some p) = Bytes p
+
+-- a piece after a 1, or "not held" as a 0 alone
+abbrev writeAnswer : Option (List ℕ) → List ℕ
+writeAnswer none = 0 ∷ []
+writeAnswer (some p) = 1 ∷ p
 
 message-answer : Message (Option (List ℕ)) readAnswer writeAnswer GoodAnswer
 message-answer = record { back = back; only = λ s a b e. only s a b e }

@@ -9,7 +9,7 @@ use borrow.Author.Tests.{eq-eqb, ne-eqb, eqb-true, eqb-false}
 use lib.Dec.{eqb}
 use lib.ListN.{length, getD}
 use Rattle.coding.specs.Nodes.{nodesOf}
-use Rattle.coding.proofs.NodesLaws.{nodes-start, nodes-counted, nodes-beyond, nodes-few, nodes-within, nodes-bit, bit-listed}
+use Rattle.coding.proofs.NodesLaws.{nodes-start, nodes-counted, nodes-beyond, nodes-within, nodes-bit, bit-listed}
 use Rattle.protocol.specs.Nodes.{nodesIn, count, stands, withNode}
 
 -- ---- bits; bit i is node i + 1's
@@ -164,21 +164,6 @@ count-after map i (suc n) h l = go (ℕ-discrete i n) (count-after map i n h)
 
 pub count-with : (map i : ℕ) → 1 ≤ i → i ≤ 16 → stands map i ≡ false → count (withNode map i) ≡ count map + 1
 count-with map i h l e = rw (with-sum map i e) (count-after map (i - 1) 16 (falls-bit map i e) (omega arith))
-
--- a map that names no more nodes counts no more
-count-within : (a b n : ℕ) → ((i : ℕ) → i < n → bit a i ≡ 1 → bit b i ≡ 1) → length (nodesOf a n) ≤ length (nodesOf b n)
-count-within a b zero h = omega (arith, nodes-few a 0)
-count-within a b (suc n) h = go (ℕ-discrete (bit a n) 1) (count-within a b n (λ i l. h i (omega arith)))
-  where
-    go : Dec (bit a n ≡ 1) → length (nodesOf a n) ≤ length (nodesOf b n) → length (nodesOf a (suc n)) ≤ length (nodesOf b (suc n))
-    go (yes e) ih = omega (arith, nodes-counted a n, nodes-counted b n, h n (omega arith) e)
-    go (no e) ih = omega (arith, nodes-counted a n, nodes-counted b n)
-
-pub count-sub : (a b : ℕ) → ((i : ℕ) → 1 ≤ i → i ≤ 16 → stands a i ≡ true → stands b i ≡ true) → count a ≤ count b
-count-sub a b h =
-    count-within a b 16
-    (λ i l e.
-    sym (bit-before b i) ∙ stands-bit b (suc i) (h (suc i) (omega arith) (omega arith) (bit-stands a (suc i) (bit-before a i ∙ e))))
 
 -- ---- the nodes listed
 

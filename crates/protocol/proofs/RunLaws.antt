@@ -1,14 +1,20 @@
--- A delivery hands over what stands first in its queue, by the event's definition, and nothing that was not sent.
-use mathlib.Core.Path.{_≡_, ap, _∙_}
-use mathlib.Core.Bool.{Bool, true, cond}
-use mathlib.Core.List.{List, [], _∷_}
+-- A list of events and one more. A delivery hands over what stands first in its queue, by the event's definition, and nothing that was not sent.
+use mathlib.Core.Path.{_≡_, refl, ap, _∙_}
+use mathlib.Core.Bool.{Bool, true, false, cond}
+use mathlib.Core.List.{List, [], _∷_, _++_}
 use Prim.Native.Nat.{ℕ}
 use Rattle.protocol.specs.declared.measures.Measures.{Measures}
 use Rattle.protocol.specs.ClientEvents.{updateAnswer, scanAnswer, clientMessage}
 use Rattle.protocol.specs.DirectoryEvents.{directoryUpdate, directoryScan}
 use Rattle.protocol.specs.NodeEvents.{nodeMessage}
 use Rattle.protocol.specs.Run.{State, Call, scanCall, updateCall, Return, updated, rows, nothing, tick, stays, carryOut, carry, hand, bring}
-use Rattle.protocol.specs.Run.{deliver, carries, scanBy, updateBy, handed, returned, brought, keeps, lost, delivered, told, upd₂}
+use Rattle.protocol.specs.Run.{Event, run, deliver, carries, scanBy, updateBy, handed, returned, brought, keeps, lost, delivered, told, upd₂}
+
+pub run-last : (s : Measures) (honest : ℕ → Bool) (es : List Event) (e : Event) (st : State)
+    → run s honest (es ++ (e ∷ [])) st ≡ carryOut s honest e (run s honest es st) .state
+unfolding run
+run-last s honest [] e st = refl
+run-last s honest (x ∷ es) e st = run-last s honest es e (carryOut s honest x st .state)
 
 module _ (s : Measures) (honest : ℕ → Bool) (st : State) where
   pub head-scan : (c : ℕ) (room : List ℕ) (q : List Call) → st .calls c ≡ scanCall ∷ q
@@ -35,6 +41,13 @@ module _ (s : Measures) (honest : ℕ → Bool) (st : State) where
       → carryOut s honest (bring c i room) st ≡ keeps c i q (nodeMessage s i (st .nodes i) m room) (nodeMessage s i (st .nodes i) m room .answer) st
   unfolding carryOut
   head-to-node c i room m q h e =
+      ap (λ (x : List (List ℕ)). brought s honest c i room x st) e
+      ∙ ap (λ (b : Bool). cond b (keeps c i q (nodeMessage s i (st .nodes i) m room) (nodeMessage s i (st .nodes i) m room .answer) st) (lost c i q st)) h
+
+  pub head-lost : (c i : ℕ) (room m : List ℕ) (q : List (List ℕ)) → honest i ≡ false → st .toNode c i ≡ m ∷ q
+      → carryOut s honest (bring c i room) st ≡ lost c i q st
+  unfolding carryOut
+  head-lost c i room m q h e =
       ap (λ (x : List (List ℕ)). brought s honest c i room x st) e
       ∙ ap (λ (b : Bool). cond b (keeps c i q (nodeMessage s i (st .nodes i) m room) (nodeMessage s i (st .nodes i) m room .answer) st) (lost c i q st)) h
 

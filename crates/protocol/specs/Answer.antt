@@ -1,5 +1,4 @@
 -- What the parties' events answer, in document 01's terms.
-use mathlib.Core.List.{List}
 use mathlib.Core.Option.{Option, some, none}
 use Prim.Native.Nat.{ℕ}
 use Rattle.protocol.specs.declared.version.Version.{Version}

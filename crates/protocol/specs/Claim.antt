@@ -18,7 +18,7 @@ use Rattle.protocol.specs.Pointer.{Pointer, nonePointer}
 use Rattle.protocol.specs.NodeTable.{Held, readTable}
 use Rattle.protocol.specs.Node.{handBack}
 use Rattle.protocol.specs.Answer.{Served, refuses, serves, number}
-use Rattle.protocol.specs.Run.{Operation, Put, History, State, Event, deposit, reading, carry, hand, bring, deliver, lie, Answered, nothing, byClient, byServer, carryOut}
+use Rattle.protocol.specs.Run.{Put, History, State, Event, deposit, reading, carry, hand, bring, deliver, lie, Answered, nothing, byClient, byServer, carryOut}
 
 -- ---- operations
 
@@ -132,9 +132,6 @@ RunPiece s honest (e ∷ es) st x = PieceOf s (st .history) x ⊎ RunPiece s hon
 -- no two different pieces share a digest
 abbrev pub Differ : (List ℕ → Type 0) → Type 0
 Differ pieces = (x y : List ℕ) → pieces x → pieces y → (v : List ℕ) (i : ℕ) → pieceDigest v i x ≡ pieceDigest v i y → x ≡ y
-
-abbrev pub DigestsDiffer : Measures → History → Type 0
-DigestsDiffer s h = Differ (PieceOf s h)
 
 -- ---- what keeps the claim from being empty
 

@@ -1,6 +1,6 @@
 -- A client's record: what it keeps between operations, and what an open operation needs.
 use mathlib.Core.Bool.{Bool, cond, not, _&&_, _||_}
-use mathlib.Core.List.{List, [], _∷_, _++_, map}
+use mathlib.Core.List.{List, [], _++_, map}
 use Prim.Native.Nat.{ℕ, _+_, _-_, _*_, _^_}
 use lib.Dec.{leb, ltb, eqb}
 use lib.ListN.{length, replicate}
@@ -167,8 +167,8 @@ writeRetained s x =
 abbrev pub retained : Client → Retained
 retained c = record { written = c .written; frozen = c .frozen; reserved = c .reserved; frozenIndices = c .frozenIndices }
 
-abbrev pub clientOf : ℕ → ReadingIndex → Retained → Phase → Client
-clientOf n i x p =
+abbrev pub clientOf : ReadingIndex → Retained → Phase → Client
+clientOf i x p =
     record { phase = p; readingIndex = i; written = x .written; frozen = x .frozen; reserved = x .reserved; frozenIndices = x .frozenIndices }
 
 -- a client's record: step (1 byte), reading index (4), what is retained, and the work area; spare bytes zero
@@ -178,7 +178,7 @@ readClient s =
     (λ n. both readIndex
     (λ i. both (readRetained s) (λ x. readArea (workSize s) (readWork s n) (writeWork s)) (λ x p. (x, p)))
     (λ i (y : Retained × Phase). (i, y)))
-    (λ n (y : ReadingIndex × (Retained × Phase)). clientOf n (y .0) (y .1 .0) (y .1 .1))
+    (λ n (y : ReadingIndex × (Retained × Phase)). clientOf (y .0) (y .1 .0) (y .1 .1))
 
 unfoldable pub writeClient : Measures → Client → List ℕ
 writeClient s c =

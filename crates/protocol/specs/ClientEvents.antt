@@ -1,17 +1,15 @@
 -- Events at a client: for every input the answer, and the final bytes of all that is lent.
-use mathlib.Core.Bool.{Bool, true, false, cond, not, _&&_, _||_}
-use mathlib.Core.List.{List, [], _∷_, _++_}
+use mathlib.Core.Bool.{Bool, true, false, cond, not, _&&_}
+use mathlib.Core.List.{List, [], _++_}
 use mathlib.Core.Option.{Option, some, none}
 use Prim.Native.Nat.{ℕ, _+_, _-_, _*_}
-use lib.Dec.{leb, ltb, eqb}
+use lib.Dec.{leb, ltb}
 use lib.ListN.{length, take, drop, replicate, set}
 use Rattle.coding.specs.Pieces.{columns}
 use Rattle.coding.specs.Split.{split}
 use Rattle.coding.specs.Join.{JoinEnd, join}
 use Rattle.coding.specs.Answer.{Outcome}
 use Rattle.protocol.specs.declared.measures.Measures.{Measures}
-use Rattle.protocol.specs.declared.version.Sequence.{Sequence}
-use Rattle.protocol.specs.declared.version.ReadingIndex.{ReadingIndex}
 use Rattle.protocol.specs.declared.version.Version.{Version}
 use Rattle.protocol.specs.declared.version.NextSequence.{NextSequence}
 use Rattle.protocol.specs.declared.version.NextIndex.{NextIndex}

@@ -1,16 +1,15 @@
 -- A deposit's steps (Algorithm 1) on a client's record.
-use mathlib.Core.Bool.{Bool, cond, not, _&&_, _||_}
+use mathlib.Core.Bool.{Bool, cond, not, _&&_}
 use mathlib.Core.List.{List, [], _∷_, _++_, map}
 use mathlib.Core.Option.{Option, some, none as nothing}
 use Prim.Native.Nat.{ℕ, zero, suc, _+_, _-_}
 use lib.Dec.{ltb, eqb}
-use lib.ListN.{length, getD}
+use lib.ListN.{getD}
 use Rattle.coding.specs.Bytes.{tabulate}
 use Rattle.coding.specs.Pieces.{piece}
 use Rattle.coding.specs.Digest.{pieceDigest}
 use Rattle.protocol.specs.declared.measures.Measures.{Measures}
 use Rattle.protocol.specs.declared.version.Sequence.{Sequence}
-use Rattle.protocol.specs.declared.version.ReadingIndex.{ReadingIndex}
 use Rattle.protocol.specs.declared.version.Version.{Version}
 use Rattle.protocol.specs.Version.{below, none}
 use Rattle.protocol.specs.Nodes.{nodesIn}

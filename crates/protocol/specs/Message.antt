@@ -45,10 +45,6 @@ abbrev pub readAnswer : List ℕ → Option (Option (List ℕ))
 readAnswer [] = none
 readAnswer (b ∷ p) = cond (eqb b 1) (some (some p)) (cond (eqb b 0 && eqb (length p) 0) (some none) none)
 
-abbrev pub writeAnswer : Option (List ℕ) → List ℕ
-writeAnswer none = 0 ∷ []
-writeAnswer (some p) = 1 ∷ p
-
 abbrev pub answer : Version → Option (List ℕ) → ToClient
 answer v none = missing v
 answer v (some p) = reply v p

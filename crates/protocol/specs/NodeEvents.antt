@@ -6,7 +6,6 @@ use Prim.Native.Nat.{ℕ, _+_, _*_}
 use lib.Dec.{leb, ltb}
 use lib.ListN.{length, drop}
 use Rattle.protocol.specs.declared.measures.Measures.{Measures}
-use Rattle.protocol.specs.declared.version.Version.{Version}
 use Rattle.protocol.specs.Format.{Read}
 use Rattle.protocol.specs.Measures.{passes, places, placeSize}
 use Rattle.protocol.specs.NodeTable.{Held, readTable, writeTable}

@@ -4,7 +4,7 @@ use mathlib.Core.Bool.{Bool, true, false, cond, _&&_}
 use mathlib.Core.List.{List, [], _∷_, _++_, map}
 use mathlib.Core.Option.{some, none}
 use Prim.Native.Nat.{ℕ, zero, suc, _+_, _-_, _*_, _<_, _≤_}
-use native.Mathlib.Nat.{suc-mul, zero-mul, mul-le-mul-right}
+use native.Mathlib.Nat.{suc-mul, zero-mul}
 use native.Mathlib.Omega.{arith}
 use lib.ListN.{length, drop}
 use Rattle.coding.proofs.BytesLaws.{stride}
@@ -19,9 +19,6 @@ use Rattle.records.specs.Places.{from, every, ordered}
 -- one more
 pub next-place : (at n z : ℕ) → at + suc n * z ≡ at + z + n * z
 next-place at n z = omega (arith, suc-mul n z)
-
-pub place-less : (j n z : ℕ) → j < n → j * z + z ≤ n * z
-place-less j n z h = let e : j + 1 ≤ n = omega arith in omega (arith, mul-le-mul-right z e, stride j z)
 
 pub one-less : (n z : ℕ) → 0 < n → n * z ≡ z + (n - 1) * z
 one-less n z h = let e : n - 1 + 1 ≡ n = omega arith in sym (ap (λ (x : ℕ). x * z) e) ∙ omega (arith, stride (n - 1) z)

@@ -5,7 +5,7 @@ use Prim.Native.Nat.{ℕ, zero, suc, _+_, _-_, _*_, _<_, _≤_}
 use native.Mathlib.Nat.{zero-add, suc-mul}
 use native.Mathlib.Omega.{arith}
 use lib.ListN.{length, getD, set, take, drop, replicate, length-append, length-drop, length-replicate, replicate-append-replicate, take-append-drop}
-use lib.Seq.{paste, set-split, take-at, drop-at, take-append-add, drop-append-add, take-all, drop-drop, length-take-le}
+use lib.Seq.{paste, set-split, take-at, drop-at, take-append-le, drop-append-le, take-append-add, drop-append-add, take-all, drop-drop, length-take-le}
 use Rattle.protocol.specs.declared.measures.Measures.{Measures}
 use Rattle.protocol.specs.Format.{writeNumber, writeMany, writeArea}
 use Rattle.protocol.specs.Measures.{places, placeSize}
@@ -101,13 +101,57 @@ unfolding splice
 splice-front t x = ap (λ (n : ℕ). x ++ drop n t) (zero-add (length x))
 
 -- bytes over themselves
-pub splice-self : (t : List ℕ) (at n : ℕ) → at + n ≤ length t → t ≡ splice t at (take n (drop at t))
+taken : (n : ℕ) (t : List ℕ) → take n t ++ drop (length (take n t)) t ≡ t
+taken zero t = refl
+taken (suc n) [] = refl
+taken (suc n) (x ∷ t) = ap (λ (l : List ℕ). x ∷ l) (taken n t)
+
+-- bytes over themselves, also where there are fewer
+pub splice-self : (t : List ℕ) (at n : ℕ) → t ≡ splice t at (take n (drop at t))
 unfolding splice
-splice-self t at n h =
-    let e : length (take n (drop at t)) ≡ n = length-take-le n (drop at t) (rw length-drop (omega arith)) in
+splice-self t at n =
+    let p = take n (drop at t) in
     sym (take-append-drop at t)
-    ∙ ap (λ (u : List ℕ). take at t ++ u) (sym (take-append-drop n (drop at t)) ∙ ap (λ (u : List ℕ). take n (drop at t) ++ u) (drop-drop n at t))
-    ∙ ap (λ (k : ℕ). take at t ++ (take n (drop at t) ++ drop (at + k) t)) (sym e)
+    ∙ ap (λ (l : List ℕ). take at t ++ l) (sym (taken n (drop at t)))
+    ∙ ap (λ (l : List ℕ). take at t ++ (p ++ l)) (drop-drop (length p) at t)
+
+-- bytes that were lent and are back
+pub splice-back : (t new : List ℕ) (at size : ℕ) → length new ≡ size → take at t ++ (new ++ drop size (drop at t)) ≡ splice t at new
+unfolding splice
+splice-back t new at size e =
+    ap (λ (u : List ℕ). take at t ++ (new ++ u)) (drop-drop size at t ∙ ap (λ (k : ℕ). drop (at + k) t) (sym e))
+
+-- what stands in a place, before it and after it, once bytes were written there
+kept-front : (a r : List ℕ) (at size : ℕ) → at + size ≤ length a → take size (drop at (a ++ r)) ≡ take size (drop at a)
+kept-front a r at size h =
+    ap (take size) (drop-append-le at a r (omega arith)) ∙ take-append-le size (drop at a) r (rw length-drop (omega arith))
+
+module _ (t : List ℕ) (from : ℕ) (x : List ℕ) (fits : from + length x ≤ length t) where
+  pub spliced-own : take (length x) (drop from (splice t from x)) ≡ x
+  unfolding splice
+  spliced-own =
+      ap (take (length x)) (drop-at (take from t) (x ++ drop (from + length x) t) from (length-take-le from t (omega arith)))
+      ∙ take-at x (drop (from + length x) t) (length x) refl
+
+  pub spliced-before : (at size : ℕ) → at + size ≤ from → take size (drop at (splice t from x)) ≡ take size (drop at t)
+  unfolding splice
+  spliced-before at size h =
+      let e : at + size ≤ length (take from t) = omega (arith, length-take-le from t (omega arith)) in
+      kept-front (take from t) (x ++ drop (from + length x) t) at size e
+      ∙ sym (kept-front (take from t) (drop from t) at size e)
+      ∙ ap (λ (u : List ℕ). take size (drop at u)) (take-append-drop from t)
+
+  pub spliced-after : (at size : ℕ) → from + length x ≤ at → take size (drop at (splice t from x)) ≡ take size (drop at t)
+  unfolding splice
+  spliced-after at size h =
+      let a = take from t ++ x in
+      let n : length a ≡ from + length x = omega (arith, length-append (take from t) x, length-take-le from t (omega arith)) in
+      let k = at - (from + length x) in
+      let e : at ≡ length a + k = omega arith in
+      let f : from + length x + k ≡ at = omega arith in
+      ap (λ (u : List ℕ). take size (drop at u)) (sym (append-assoc (take from t) x (drop (from + length x) t)))
+      ∙ ap (λ (j : ℕ). take size (drop j (a ++ drop (from + length x) t))) e
+      ∙ ap (take size) (drop-append-add a (drop (from + length x) t) k ∙ drop-drop k (from + length x) t ∙ ap (λ (j : ℕ). drop j t) f)
 
 -- a place that goes down
 pub lowered : (t : List ℕ) (from to z : ℕ) → to ≤ from → from + z ≤ length t → paste t (from - (from - to)) (drop from t) (from + z - from) ≡ splice t to (take z (drop from t))

@@ -2,28 +2,26 @@
 use mathlib.Core.Path.{_≡_, refl, sym, ap, subst, subst⁻¹, _∙_}
 use mathlib.Core.Bool.{Bool, true, false, cond, false≢true}
 use mathlib.Core.List.{List, [], _∷_, _++_, append-nil, map, map-append}
-use mathlib.Core.Option.{Option, some, none}
+use mathlib.Core.Option.{some, none}
 use Prim.Native.Nat.{ℕ, zero, suc, _+_, _-_, _*_, _≤_, _<_}
 use native.Mathlib.Nat.{suc-mul}
 use native.Mathlib.Numerals.{add-one}
 use native.Mathlib.Omega.{arith}
-use lib.Dec.{leb, ltb}
 use lib.ListN.{length, take, drop, length-append, length-take}
 use lib.Seq.{drop-drop, take-nil}
 use Rattle.protocol.specs.declared.measures.Measures.{Measures}
 use Rattle.protocol.specs.Measures.{passes}
-use Rattle.protocol.specs.Format.{Read}
-use Rattle.protocol.specs.Client.{Client, scanning, readClient, clientSize}
-use Rattle.protocol.specs.Answer.{Served, refused, scan}
-use Rattle.protocol.specs.ClientEvents.{ClientEnd, startDeposit, startReading, updateAnswer, scanAnswer, clientMessage, Step, does, after, onClient, unchanged, beginDeposit, isIdle, withPhase}
+use Rattle.protocol.specs.Answer.{Served}
+use Rattle.protocol.specs.ClientEvents.{ClientEnd, startDeposit, startReading, updateAnswer, scanAnswer, clientMessage, after}
 use Rattle.protocol.specs.DirectoryEvents.{DirectoryEnd, directoryUpdate, directoryScan}
 use Rattle.protocol.specs.NodeEvents.{NodeEnd, nodeMessage}
 use Rattle.protocol.specs.Run.{State, History, Call, scanCall, updateCall, Return, updated, rows, Event, deposit, reading, carry, hand, bring, deliver, lie}
 use Rattle.protocol.specs.Run.{Answered, nothing, byClient, Result, upd, upd₂, tick, isRefused, called, lengthOf, carryOut, fresh, run}
 use Rattle.protocol.specs.Run.{stays, goes, starts, returned, told, carried, scanBy, updateBy, keeps, lost, brought}
 use Rattle.protocol.proofs.MeasureLaws.{passed}
+use Rattle.protocol.proofs.DepositStartLaws.{deposit-room}
 use Rattle.protocol.proofs.Cells.{by-eq}
-use Rattle.protocol.proofs.RunLaws.{head-scan, head-update, head-updated, head-rows, head-to-node, head-to-client, none-to-node, none-to-client, none-called, none-returned}
+use Rattle.protocol.proofs.RunLaws.{run-last, head-scan, head-update, head-updated, head-rows, head-to-node, head-to-client, none-to-node, none-to-client, none-called, none-returned}
 use Rattle.parties.specs.Answer.{served}
 use Rattle.parties.specs.declared.answer.Service.{Service}
 use Rattle.client.specs.Answer.{answered}
@@ -39,7 +37,7 @@ use Rattle.runs.specs.UnderWay.{callOf, returnOf, UnderWay, After}
 use Rattle.runs.specs.Happens.{Capable, answerOf, outDelivered, outAfter, roomCarried, roomHanded, roomBrought, roomDelivered, roomAfter, Goes}
 use Rattle.runs.specs.Acts.{body, behind, tagged, Sends, Takes, Serves}
 use Rattle.runs.proofs.PostLaws.{bodies-append}
-use Rattle.runs.proofs.ParcelLaws.{body-keyed, body-other, found-bodies, other-bodies, keyed-by, not-kind, not-client, not-two}
+use Rattle.runs.proofs.ParcelLaws.{nothing-in, body-keyed, body-other, found-bodies, other-bodies, keyed-by, not-kind, not-client, not-two}
 use Rattle.runs.proofs.ParcelLaws.{proper-by, proper-one, listed-appended, listed-removed, found-body}
 use Rattle.runs.proofs.SentLaws.{sent-calls, sent-returns, sent-to-clients, sent-other, sent-to-nodes, sent-proper}
 
@@ -59,10 +57,6 @@ two-way f g i c a e o j d =
 
 more-bodies : (k c i : ℕ) (q p : List Parcel) → bodies k c i p ≡ [] → bodies k c i (q ++ p) ≡ bodies k c i q
 more-bodies k c i q p e = bodies-append k c i q p ∙ ap (λ (l : List (List ℕ)). bodies k c i q ++ l) e ∙ append-nil (bodies k c i q)
-
-nothing-in : (k c i : ℕ) → bodies k c i [] ≡ []
-unfolding bodies
-nothing-in k c i = refl
 
 last-own : (k c i : ℕ) (q : List Parcel) (b : List ℕ) → bodies k c i (q ++ (record { kind = k; client = c; node = i; bytes = b } ∷ [])) ≡ bodies k c i q ++ (b ∷ [])
 last-own k c i q b =
@@ -273,26 +267,6 @@ module _ (q : List Parcel) (st : State) (post : List ℕ) (used : ℕ) (l : List
             answer = refl;
           })
 
--- a start of a deposit sends nothing from a room
-pub deposit-room : (s : Measures) (c : ℕ) (b page : List ℕ) → startDeposit s c b page .room ≡ []
-unfolding startDeposit beginDeposit
-deposit-room s c b page = go (passes s) (leb (clientSize s) (length b)) (ltb c (s .m)) (readClient s b)
-  where
-    begun : (r : Read Client) (x y : Bool)
-        → after s b [] [] (r .rest) (cond x (cond y (does scan (withPhase (scanning page) (r .value)) [] []) (Step.stays (refused 6))) (Step.stays (refused 5))) .room ≡ []
-    begun r true true = refl
-    begun r true false = refl
-    begun r false y = refl
-
-    go : (x y z : Bool) (r : Option (Read Client))
-        → cond x (cond y (cond z (onClient s b [] [] r (λ k. beginDeposit s k page)) (unchanged (refused 3) b [] [])) (unchanged (refused 2) b [] []))
-        (unchanged (refused 1) b [] []) .room ≡ []
-    go true true true none = refl
-    go true true true (some r) = begun r (isIdle (r .value .phase)) (leb (length page) (s .k * s .f - 4))
-    go true true false r = refl
-    go true false z r = refl
-    go false y z r = refl
-
 -- ---- calls and their answers, with their first byte
 
 updated-by : (b : List ℕ) → tagged b ≡ false → returnOf b ≡ updated
@@ -344,12 +318,6 @@ module _ (s : Measures) (c i post used room : ℕ) (r : Capable s c i post used 
   node-small = omega (arith, passed s (r .measures) .nodes .1, r .last)
 
 -- ---- events
-
-run-last : (s : Measures) (honest : ℕ → Bool) (es : List Event) (e : Event) (st : State)
-    → run s honest (es ++ (e ∷ [])) st ≡ carryOut s honest e (run s honest es st) .state
-unfolding run
-run-last s honest [] e st = refl
-run-last s honest (x ∷ es) e st = run-last s honest es e (carryOut s honest x st .state)
 
 module _ (s : Measures) (ok : passes s ≡ true) (honest : ℕ → Bool) (es : List Event) (memory post : List ℕ) (used : ℕ) (h : After s honest es memory post used) where
   shown : Shows s memory (run s honest es (fresh s))

@@ -1,6 +1,6 @@
 -- Handing over the oldest parcel is the next event of a run.
-use mathlib.Core.Path.{_≡_, refl, sym, subst, subst⁻¹, _∙_}
-use mathlib.Core.List.{List, [], _∷_, _++_}
+use mathlib.Core.Path.{_≡_, refl, subst}
+use mathlib.Core.List.{List, [], _∷_, _++_, append-nil, append-assoc}
 use Prim.Native.Nat.{ℕ}
 use Rattle.protocol.specs.declared.measures.Measures.{Measures}
 use Rattle.protocol.specs.Run.{Event, deliver}
@@ -9,15 +9,13 @@ use Rattle.runs.specs.declared.answer.Turn.{Turn}
 use Rattle.runs.specs.UnderWay.{After}
 use Rattle.runs.specs.Acts.{Lent}
 use Rattle.runs.specs.Happens.{Happens}
-use Rattle.runs.specs.Oldest.{honestAll, Oldest, Continues}
+use Rattle.runs.specs.Oldest.{honestAll, Oldest}
 
-append-none : (es : List Event) → es ++ [] ≡ es
-append-none [] = refl
-append-none (e ∷ es) = rw (append-none es) refl
-
-append-more : (a b c : List Event) → (a ++ b) ++ c ≡ a ++ (b ++ c)
-append-more [] b c = refl
-append-more (e ∷ a) b c = rw (append-more a b c) refl
+-- a run goes on, with every node honest
+pub record Continues (s : Measures) (es : List Event) (memory post : List ℕ) (used : ℕ) : Type 0 where
+  pub more : List Event
+  pub lent : AllLent more
+  pub after : After s honestAll (es ++ more) memory post used
 
 -- events with lent memory, one list after the other
 pub lent-more : (a b : List Event) → AllLent a → AllLent b → AllLent (a ++ b)
@@ -28,7 +26,7 @@ module _ (s : Measures) where
   -- nothing happens
   pub continues-same : (es : List Event) (memory post memory′ post′ : List ℕ) (used : ℕ) → memory′ ≡ memory → post′ ≡ post
       → After s honestAll es memory post used → Continues s es memory′ post′ used
-  continues-same es memory post memory′ post′ used e g h = record { more = []; lent = tt; after = rw (append-none es) (rw (e, g) h) }
+  continues-same es memory post memory′ post′ used e g h = record { more = []; lent = tt; after = rw (append-nil es) (rw (e, g) h) }
 
   -- one run after another
   pub continues-more : (es : List Event) (memory post memory′ post′ : List ℕ) (used used′ : ℕ) (c : Continues s es memory post used)
@@ -38,7 +36,7 @@ module _ (s : Measures) where
       record {
         more = c .more ++ d .more;
         lent = lent-more (c .more) (d .more) (c .lent) (d .lent);
-        after = subst (λ (l : List Event). After s honestAll l memory′ post′ used′) (append-more es (c .more) (d .more)) (d .after);
+        after = subst (λ (l : List Event). After s honestAll l memory′ post′ used′) (append-assoc es (c .more) (d .more)) (d .after);
       }
 
   pub happens-continues : (e : Event) (c i used : ℕ) (x y : Lent) (turn : Turn) → Happens s honestAll e c i used x y turn → Given e

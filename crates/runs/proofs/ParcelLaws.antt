@@ -19,6 +19,10 @@ use Rattle.runs.proofs.PostLaws.{bodies-append, length-parcel}
 
 -- ---- what is under way of a kind between a client and a node
 
+pub nothing-in : (k c i : ℕ) → bodies k c i [] ≡ []
+unfolding bodies
+nothing-in k c i = refl
+
 -- one parcel, with its key or with another
 pub body-keyed : (k c i : ℕ) (x : Parcel) (q : List Parcel) → keyed k c i x ≡ true → bodies k c i (x ∷ q) ≡ x .bytes ∷ bodies k c i q
 unfolding bodies

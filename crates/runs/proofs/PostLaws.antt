@@ -7,7 +7,7 @@ use Prim.Native.Nat.{ℕ, suc, _+_, _-_, _*_, _/_, _%_, _<_, _≤_}
 use native.Mathlib.Omega.{arith}
 use borrow.Author.Tests.{ltb-true, eq-eqb, ne-eqb}
 use lib.Dec.{eqb, ltb}
-use lib.ListN.{length, getD, take, drop, set, length-append, length-drop, length-set}
+use lib.ListN.{length, getD, take, drop, set, length-append, length-take, length-drop, length-set}
 use lib.Seq.{take-suc-set, take-add, take-length, drop-drop, drop-at, getD-take, getD-drop, length-take-le, paste, length-paste, take-paste}
 use Rattle.protocol.specs.Format.{readNumber, writeNumber, writeMany}
 use Rattle.protocol.proofs.PointerLaws.{length-number}
@@ -15,6 +15,9 @@ use Rattle.records.proofs.BytesLaws.{four-read}
 use Rattle.records.proofs.SpliceLaws.{many-append}
 use Rattle.title.proofs.PartLaws.{both-true}
 use Rattle.runs.specs.Parcels.{Parcel, writeParcel, writeParcels, proper, properAll, Listed, keyed, bodies, FindsAt, Appended, Removed}
+
+pub taken-short : (n : ℕ) (l : List ℕ) → length (take n l) ≤ length l
+taken-short n l = omega (arith, length-take n l)
 
 -- ---- bytes put after others
 

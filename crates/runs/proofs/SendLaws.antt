@@ -26,7 +26,7 @@ use Rattle.client.proofs.answer.ClientAnswer.{the-type}
 use Rattle.records.proofs.SpliceLaws.{many-append}
 use Rattle.runs.specs.Parcels.{Parcel, writeParcel, writeParcels, Appended}
 use Rattle.runs.specs.Sent.{call, toNode, callBy, messageIn, messagesBy}
-use Rattle.runs.proofs.PostLaws.{length-one, appended-none, appended-more}
+use Rattle.runs.proofs.PostLaws.{taken-short, length-one, appended-none, appended-more}
 
 pub as-sent : {p q : List Parcel} {post : List ℕ} {used : ℕ} {after : List ℕ} {r : ℕ} → p ≡ q → Appended p post used after r → Appended q post used after r
 as-sent e x = rw e at x
@@ -138,9 +138,6 @@ no-message s c i ClientAnswer.Spent room k = refl
 no-message s c i ClientAnswer.Failed room k = refl
 
 -- ---- how long they are
-
-taken-short : (n : ℕ) (l : List ℕ) → length (take n l) ≤ length l
-taken-short n l = omega (arith, length-take n l)
 
 one-short : (c i : ℕ) (m : List ℕ) (n : ℕ) → length m ≤ 6 + n → length (writeParcels (messageIn c i (some m))) ≤ 13 + n
 one-short c i m n h = omega (arith, length-one (toNode c i m))

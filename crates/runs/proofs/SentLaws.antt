@@ -20,8 +20,8 @@ use Rattle.title.proofs.PartLaws.{both-true}
 use Rattle.runs.specs.Parcels.{Parcel, properAll, keyed, bodies}
 use Rattle.runs.specs.Sent.{call, toNode, callBy, messageIn, messagesBy, sent}
 use Rattle.runs.specs.UnderWay.{callOf}
-use Rattle.runs.proofs.PostLaws.{bodies-append}
-use Rattle.runs.proofs.ParcelLaws.{body-keyed, body-other, keyed-by, not-kind, not-client, not-node, proper-++, proper-by, proper-one}
+use Rattle.runs.proofs.PostLaws.{taken-short, bodies-append}
+use Rattle.runs.proofs.ParcelLaws.{nothing-in, body-keyed, body-other, keyed-by, not-kind, not-client, not-node, proper-++, proper-by, proper-one}
 
 abbrev inList : Option (List ℕ) → List (List ℕ)
 inList none = []
@@ -37,31 +37,27 @@ module _ (k c i : ℕ) where
   both-none : (p q : List Parcel) → bodies k c i p ≡ [] → bodies k c i q ≡ [] → bodies k c i (p ++ q) ≡ []
   both-none p q e f = bodies-append k c i p q ∙ (λ j. e j ++ f j)
 
-  nothing-none : bodies k c i [] ≡ []
-  unfolding bodies
-  nothing-none = refl
-
   call-none : (b : ℕ) (a : ClientAnswer) (room : List ℕ) → ((x : List ℕ) → keyed k c i (call b x) ≡ false) → bodies k c i (callBy b a room) ≡ []
-  call-none b (refused n) room e = nothing-none
-  call-none b waits room e = nothing-none
+  call-none b (refused n) room e = nothing-in k c i
+  call-none b waits room e = nothing-in k c i
   call-none b scan room e = one-none _ (e (0 ∷ []))
   call-none b (update len) room e = one-none _ (e (1 ∷ take len room))
-  call-none b (stores v len) room e = nothing-none
-  call-none b (requests v nodes) room e = nothing-none
-  call-none b (deposited v len) room e = nothing-none
-  call-none b empty room e = nothing-none
-  call-none b (page v len) room e = nothing-none
-  call-none b spent room e = nothing-none
-  call-none b failed room e = nothing-none
+  call-none b (stores v len) room e = nothing-in k c i
+  call-none b (requests v nodes) room e = nothing-in k c i
+  call-none b (deposited v len) room e = nothing-in k c i
+  call-none b empty room e = nothing-in k c i
+  call-none b (page v len) room e = nothing-in k c i
+  call-none b spent room e = nothing-in k c i
+  call-none b failed room e = nothing-in k c i
 
   message-none : (b j : ℕ) (m : Option (List ℕ)) → ((x : List ℕ) → keyed k c i (toNode b j x) ≡ false) → bodies k c i (messageIn b j m) ≡ []
-  message-none b j none e = nothing-none
+  message-none b j none e = nothing-in k c i
   message-none b j (some m) e = one-none _ (e m)
 
   messages-none : (s : Measures) (b : ℕ) (a : ClientAnswer) (room : List ℕ) (n : ℕ)
       → ((j : ℕ) → 1 ≤ j → j ≤ n → (x : List ℕ) → keyed k c i (toNode b j x) ≡ false) → bodies k c i (messagesBy s b a room n) ≡ []
   unfolding messagesBy
-  messages-none s b a room zero e = nothing-none
+  messages-none s b a room zero e = nothing-in k c i
   messages-none s b a room (suc n) e =
       both-none (messagesBy s b a room n) (messageIn b (suc n) (messageTo s a room (suc n)))
       (messages-none s b a room n (λ j lo up. e j lo (omega arith)))
@@ -184,9 +180,6 @@ Short : ℕ → Option (List ℕ) → Type 0
 Short l none = Unit {0}
 Short l (some m) = length m ≤ 6 + l
 
-take-short : (n : ℕ) (l : List ℕ) → length (take n l) ≤ length l
-take-short n l = omega (arith, length-take n l)
-
 message-short : (s : Measures) (a : ClientAnswer) (room : List ℕ) (i : ℕ) → Short (length room) (messageTo s a room i)
 unfolding Short
 message-short s (refused n) room i = tt
@@ -195,13 +188,13 @@ message-short s scan room i = tt
 message-short s (update len) room i = tt
 message-short s (stores v len) room i =
     let at = 6 + (i - 1) * s .f in
-    omega (arith, length-append (take 6 room) (take len (drop at room)), length-take 6 room, take-short len (drop at room), length-drop at room)
+    omega (arith, length-append (take 6 room) (take len (drop at room)), length-take 6 room, taken-short len (drop at room), length-drop at room)
 message-short s (requests v nodes) room i = go (stands nodes i)
   where
     go : (b : Bool) → Short (length room) (cond b (some (take 6 room)) none)
-    go true = omega (arith, take-short 6 room)
+    go true = omega (arith, taken-short 6 room)
     go false = tt
-message-short s (deposited v len) room i = omega (arith, take-short len room)
+message-short s (deposited v len) room i = omega (arith, taken-short len room)
 message-short s empty room i = tt
 message-short s (page v len) room i = tt
 message-short s spent room i = tt
@@ -216,7 +209,7 @@ module _ (c : ℕ) (room : List ℕ) (small : c < 256) (fits : 16 + length room 
   call-proper (refused n) = nothing-proper
   call-proper waits = nothing-proper
   call-proper scan = proper-one _ (proper-by 0 c 0 (0 ∷ []) small (omega arith) (omega arith))
-  call-proper (update len) = proper-one _ (proper-by 0 c 0 (1 ∷ take len room) small (omega arith) (omega (arith, take-short len room)))
+  call-proper (update len) = proper-one _ (proper-by 0 c 0 (1 ∷ take len room) small (omega arith) (omega (arith, taken-short len room)))
   call-proper (stores v len) = nothing-proper
   call-proper (requests v nodes) = nothing-proper
   call-proper (deposited v len) = nothing-proper

@@ -3,21 +3,17 @@ use mathlib.Core.Path.{_≡_, subst}
 use mathlib.Core.Bool.{Bool}
 use mathlib.Core.List.{List}
 use Prim.Native.Nat.{ℕ, _-_, _*_, _<_}
-use borrow.Author.Tests.{lt-leb}
 use lib.ListN.{length}
 use Rattle.protocol.specs.declared.measures.Measures.{Measures}
-use Rattle.protocol.specs.ClientEvents.{ClientEnd, startDeposit, beginDeposit}
+use Rattle.protocol.specs.ClientEvents.{ClientEnd}
 use Rattle.protocol.specs.Run.{deposit}
+use Rattle.protocol.proofs.DepositStartLaws.{too-long}
 use Rattle.title.specs.Memory.{recordIn}
 use Rattle.runs.specs.declared.answer.Turn.{Turn}
 use Rattle.runs.specs.Acts.{Lent, AtClient, Acts}
 use Rattle.runs.specs.Happens.{Capable, Happens}
 use Rattle.runs.specs.Oldest.{alone}
 use Rattle.runs.proofs.GoesLaws.{deposit-goes}
-
-too-long : (s : Measures) (c : ℕ) (b p q : List ℕ) → s .k * s .f - 4 < length p → s .k * s .f - 4 < length q → startDeposit s c b p ≡ startDeposit s c b q
-unfolding startDeposit beginDeposit
-too-long s c b p q h k = simp (lt-leb (length p) (s .k * s .f - 4) h, lt-leb (length q) (s .k * s .f - 4) k)
 
 module _ (s : Measures) (honest : ℕ → Bool) (c used : ℕ) (x y : Lent) (p q : List ℕ) (h : s .k * s .f - 4 < length p) (k : s .k * s .f - 4 < length q) where
   acts-long : (turn : Turn) → Acts s honest used (alone x) (alone y) (deposit c p) turn

@@ -1,17 +1,15 @@
 -- The oldest parcel of all, where every node is honest.
 use mathlib.Core.Path.{_≡_}
 use mathlib.Core.Bool.{Bool, true, false}
-use mathlib.Core.List.{List, [], _++_}
+use mathlib.Core.List.{[]}
 use Prim.Native.Nat.{ℕ, _≤_, _<_}
 use lib.ListN.{length, getD}
 use Rattle.protocol.specs.declared.measures.Measures.{Measures}
 use Rattle.protocol.specs.Measures.{passes}
-use Rattle.protocol.specs.Run.{Event, carry, hand, bring, deliver}
+use Rattle.protocol.specs.Run.{carry, hand, bring, deliver}
 use Rattle.records.specs.declared.answer.Refusal.{Refusal}
 use Rattle.runs.specs.declared.answer.Happened.{Happened}
 use Rattle.runs.specs.declared.answer.Turn.{Turn}
-use Rattle.protocol.specs.Claim.{AllLent}
-use Rattle.runs.specs.UnderWay.{After}
 use Rattle.runs.specs.Acts.{Lent}
 use Rattle.runs.specs.Happens.{Happens, honestIn}
 
@@ -47,9 +45,3 @@ pub data Oldest (s : Measures) (used : ℕ) (x y : Lent) : Turn → Type 0 where
       → Happens s honestAll (bring (clientIn x) (nodeIn x) (x .room)) (clientIn x) (nodeIn x) used (without x) (without y) turn → Oldest s used x y turn
   toClient : (turn : Turn) → 7 ≤ used → 2 < getD (x .post) 0 0
       → Happens s honestAll (deliver (nodeIn x) (clientIn x) (x .room) (x .out)) (clientIn x) (nodeIn x) used x y turn → Oldest s used x y turn
-
--- a run goes on, with every node honest
-pub record Continues (s : Measures) (es : List Event) (memory post : List ℕ) (used : ℕ) : Type 0 where
-  pub more : List Event
-  pub lent : AllLent more
-  pub after : After s honestAll (es ++ more) memory post used

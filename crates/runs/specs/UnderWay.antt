@@ -1,10 +1,9 @@
 -- What is under way, as parcels, and the run that it belongs to.
 use mathlib.Core.Path.{_≡_}
-use mathlib.Core.Bool.{Bool, true}
+use mathlib.Core.Bool.{Bool}
 use mathlib.Core.List.{List, [], _∷_, map}
 use Prim.Native.Nat.{ℕ, zero, suc}
 use Rattle.protocol.specs.declared.measures.Measures.{Measures}
-use Rattle.protocol.specs.Measures.{passes}
 use Rattle.protocol.specs.Run.{Call, scanCall, updateCall, Return, updated, rows, State, Event, fresh, run}
 use Rattle.title.specs.Service.{Serves}
 use Rattle.runs.specs.Parcels.{Parcel, Listed, bodies}

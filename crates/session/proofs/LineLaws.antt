@@ -23,7 +23,9 @@ use Rattle.records.specs.declared.answer.Refusal.{Refusal}
 use Rattle.records.specs.Answer.{number}
 use Rattle.parties.specs.declared.answer.Service.{Service}
 use Rattle.parties.specs.Answer.{served}
-use Rattle.title.specs.Memory.{memorySize, memoryFresh}
+use Rattle.title.specs.Memory.{memorySize, MemoryEnd, memoryFresh}
+use Rattle.title.specs.Part.{short}
+use Rattle.title.proofs.FreshMemoryLaws.{fresh-refused, fresh-served}
 use Rattle.runs.specs.declared.answer.Turn.{Turn}
 use Rattle.runs.specs.Acts.{Lent}
 use Rattle.runs.specs.Happens.{needed, Happens}
@@ -120,16 +122,18 @@ module _ (s : Measures) (l : Lengths) (memory : List ℕ) where
   -- the service refuses a memory that is too short, and nothing else
   pub opens-short : (a : Service) (r : Refusal) (n : ℕ) → passes s ≡ true → small s ≡ true → ample s l ≡ true → a ≡ Service.Refused r → served a ≡ memoryFresh s memory .answer → n ≡ number r
       → (opens s l memory ≡ refuses n memory) × (memoryFresh s memory .memory ≡ memory)
-  unfolding opens memoryFresh
-  opens-short a r n e f w g h m = go (leb (memorySize s) (length memory)) refl
+  unfolding opens
+  opens-short a r n e f w g h m = go (decLe (memorySize s) (length memory))
     where
-      go : (b : Bool) → leb (memorySize s) (length memory) ≡ b → (opens s l memory ≡ refuses n memory) × (memoryFresh s memory .memory ≡ memory)
-      go true q =
-          let i : refusal (number r) ≡ serves 0 = rw (g, e, q) at h in
+      go : Dec (memorySize s ≤ length memory) → (opens s l memory ≡ refuses n memory) × (memoryFresh s memory .memory ≡ memory)
+      go (yes q) =
+          let i : refusal (number r) ≡ serves 0 = sym (ap served g) ∙ h ∙ ap (λ (x : MemoryEnd). x .answer) (fresh-served s memory e q) in
           let z : _≡_ {A = ℕ} 0 1 = cc in absurd (omega arith)
-      go false q =
-          let i : refusal (number r) ≡ refusal 2 = rw (g, e, q) at h in
-          let j : 2 ≡ n = cc in (rw (e, f, w, q) (ap (λ (x : ℕ). refuses x memory) j), rw (e, q) refl)
+      go (no q) =
+          let d = fresh-refused s memory 2 (short e (omega arith)) in
+          let i : refusal (number r) ≡ refusal 2 = sym (ap served g) ∙ h ∙ sym (d .0) in
+          let j : 2 ≡ n = cc in
+          (rw (e, f, w, lt-leb (memorySize s) (length memory) (omega arith)) (ap (λ (x : ℕ). refuses x memory) j), sym (d .1))
 
   pub opens-taken : (a : Service) (k : ℕ) → passes s ≡ true → small s ≡ true → ample s l ≡ true → a ≡ Service.Served k → served a ≡ memoryFresh s memory .answer
       → opens s l memory ≡ record { line = headerLine (s .m) (s .n) (s .k) (s .t) (s .f); stage = 1; memory = memoryFresh s memory .memory }

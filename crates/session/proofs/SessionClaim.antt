@@ -9,7 +9,7 @@ use Rattle.title.specs.ServiceClaim.{ServiceClaim}
 use Rattle.runs.specs.Oldest.{honestAll}
 use Rattle.runs.proofs.RunClaim.{after-demand-3, all-honest}
 use Rattle.session.specs.declared.session.Session.{Session}
-use Rattle.session.specs.Session.{Runs, Live}
+use Rattle.session.specs.Session.{Live}
 
 -- once a `config` was taken: of the run that the session has made, and of the memory
 pub live-demand-3 : (x : Session) (memory post page : List ℕ) (l : Live x memory post page) (e : x .stage ≡ 1) → Differ (RunPiece (x .measures) honestAll (l .runs e .events) (fresh (x .measures)))

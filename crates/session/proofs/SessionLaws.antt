@@ -1,57 +1,48 @@
 -- Laws of a session: fresh memory begins a run, and each operation goes on with it.
-use mathlib.Core.Path.{_≡_, refl}
-use mathlib.Core.Bool.{Bool, true, false}
+use mathlib.Core.Path.{_≡_, sym, ap, _∙_}
+use mathlib.Core.Bool.{Bool, true}
 use mathlib.Core.List.{List, [], _∷_, _++_, append-nil, append-assoc}
 use Prim.Native.Nat.{ℕ, zero, suc, _+_, _-_, _≤_, _<_}
+use native.Mathlib.Decide.{decLe}
 use native.Mathlib.Numerals.{add-one}
 use native.Mathlib.Omega.{arith}
-use borrow.Author.Tests.{leb-true}
-use lib.Dec.{leb}
 use lib.ListN.{length, take, getD, length-append}
 use lib.Seq.{take-suc, take-all}
 use Rattle.protocol.specs.declared.measures.Measures.{Measures}
 use Rattle.protocol.specs.Measures.{passes}
 use Rattle.protocol.specs.Answer.{Served, refuses, serves}
-use Rattle.protocol.specs.Format.{writeMany}
-use Rattle.protocol.specs.Run.{Event, fresh, run}
+use Rattle.protocol.specs.Run.{Event}
 use Rattle.protocol.specs.Claim.{Lent as Given}
 use Rattle.parties.specs.declared.answer.Service.{Service}
 use Rattle.parties.specs.Answer.{served}
 use Rattle.title.specs.Memory.{memorySize, memoryFresh}
+use Rattle.title.specs.Part.{short}
+use Rattle.title.proofs.FreshMemoryLaws.{fresh-refused}
 use Rattle.title.proofs.Service.{fresh-serves}
 use Rattle.runs.specs.declared.answer.Turn.{Turn}
-use Rattle.runs.specs.Parcels.{Listed, properAll, bodies}
-use Rattle.runs.specs.UnderWay.{UnderWay, After}
+use Rattle.runs.specs.UnderWay.{After}
 use Rattle.runs.specs.Acts.{Lent}
 use Rattle.runs.specs.Happens.{Happens}
-use Rattle.runs.specs.Oldest.{honestAll, Continues}
-use Rattle.runs.proofs.OldestLaws.{continues-more, happens-continues, lent-more}
+use Rattle.runs.specs.Oldest.{honestAll}
+use Rattle.runs.proofs.RunClaim.{fresh-after}
+use Rattle.runs.proofs.OldestLaws.{Continues, continues-more, happens-continues, lent-more}
 use Rattle.session.specs.declared.session.Session.{Session}
 use Rattle.session.specs.declared.settle.Settled.{Settled}
 use Rattle.session.specs.Settle.{Settles}
-use Rattle.session.specs.Session.{Runs, Live, Held, LiveIn, held, Feeds, FeedsAll, FeedsInput}
+use Rattle.session.specs.Session.{Runs, Held, LiveIn, held, Feeds, FeedsAll, FeedsInput}
 use Rattle.session.proofs.SettleLaws.{settles-continue}
 
 -- ---- a run begins
 
-none-listed : (post : List ℕ) → Listed [] 0 post
-unfolding writeMany properAll
-none-listed post = record { within = omega arith; written = refl; allProper = refl }
-
-none-under-way : (s : Measures) (honest : ℕ → Bool) → UnderWay [] (run s honest [] (fresh s))
-unfolding run bodies
-none-under-way s honest = record { calls = λ c. refl; returns = λ c. refl; toNode = λ c i. refl; toClient = λ i c. refl }
-
 -- memory that was made fresh is long enough
 pub fresh-long : (s : Measures) (memory : List ℕ) (a : Service) (k : ℕ) → passes s ≡ true → a ≡ Service.Served k → served a ≡ memoryFresh s memory .answer
     → memorySize s ≤ length memory
-unfolding memoryFresh
-fresh-long s memory a k ok e f = go (leb (memorySize s) (length memory)) refl
+fresh-long s memory a k ok e f = go (decLe (memorySize s) (length memory))
   where
-    go : (b : Bool) → leb (memorySize s) (length memory) ≡ b → memorySize s ≤ length memory
-    go true g = leb-true (memorySize s) (length memory) g
-    go false g =
-        let h : serves k ≡ refuses 2 = rw (e, ok, g) at f in
+    go : Dec (memorySize s ≤ length memory) → memorySize s ≤ length memory
+    go (yes h) = h
+    go (no h) =
+        let g : serves k ≡ refuses 2 = sym (ap served e) ∙ f ∙ sym (fresh-refused s memory 2 (short ok (omega arith)) .0) in
         let z : _≡_ {A = ℕ} 0 1 = cc in absurd (omega arith)
 
 pub fresh-runs : (x : Session) (s : Measures) (memory after post : List ℕ) (a : Service) (k : ℕ) → x .measures ≡ s → x .used ≡ 0 → passes s ≡ true
@@ -63,12 +54,7 @@ fresh-runs x s memory after post a k m u ok e f g =
       measures = rw m ok;
       after =
           rw (m, u, g)
-          (record {
-            serves = fresh-serves s ok honestAll memory (fresh-long s memory a k ok e f);
-            parcels = [];
-            listed = none-listed post;
-            underWay = none-under-way s honestAll;
-          });
+          (fresh-after s honestAll (memoryFresh s memory .memory) post (fresh-serves s ok honestAll memory (fresh-long s memory a k ok e f)));
     }
 
 -- ---- it goes on

@@ -12,8 +12,8 @@ use Rattle.protocol.specs.Run.{Event}
 use Rattle.runs.specs.declared.answer.Turn.{Turn}
 use Rattle.runs.specs.UnderWay.{After}
 use Rattle.runs.specs.Acts.{Lent}
-use Rattle.runs.specs.Oldest.{honestAll, Continues}
-use Rattle.runs.proofs.OldestLaws.{continues-same, continues-more, oldest-continues}
+use Rattle.runs.specs.Oldest.{honestAll}
+use Rattle.runs.proofs.OldestLaws.{Continues, continues-same, continues-more, oldest-continues}
 use Rattle.session.specs.declared.settle.Settled.{Settled}
 use Rattle.session.specs.Say.{happenedLine, Says}
 use Rattle.session.specs.Settle.{Desk, desk, Hands, Settles}

@@ -3,7 +3,6 @@ pub mod RecordPartLaws
 pub mod TablePartLaws
 pub mod FreshMemoryLaws
 pub mod PartLaws
-pub mod ServerLaws
 pub mod ShowsLaws
 pub mod FreshLaws
 pub mod Service

@@ -1,64 +1,43 @@
 -- The memory's parts: their sizes and places, and what a part that was lent leaves when it is back.
-use mathlib.Core.Path.{_≡_, refl, sym, ap, ap₂, subst, _∙_}
-use mathlib.Core.Bool.{true, false}
-use mathlib.Core.List.{List, [], _∷_, _++_}
-use Prim.Native.Nat.{ℕ, zero, suc, _+_, _-_, _*_, _<_, _≤_}
+use mathlib.Core.Path.{_≡_, sym, ap, ap₂, subst, subst⁻¹, _∙_}
+use mathlib.Core.Bool.{true}
+use mathlib.Core.List.{List, [], _++_}
+use Prim.Native.Nat.{ℕ, _+_, _-_, _*_, _<_, _≤_}
 use native.Mathlib.Nat.{mul-le-mul}
 use native.Mathlib.Decide.{decLe, decLt}
 use native.Mathlib.Omega.{arith}
 use borrow.Author.Tests.{le-leb, lt-leb, lt-ltb, le-ltb}
-use lib.Dec.{leb}
-use lib.ListN.{length, take, drop, length-drop, take-append-drop}
-use lib.Seq.{drop-drop, length-take-le}
+use lib.ListN.{length, take, drop, length-drop}
+use lib.Seq.{length-take-le}
 use Rattle.protocol.specs.declared.measures.Measures.{Measures}
-use Rattle.protocol.specs.Measures.{passes, pointerSize, places, placeSize}
+use Rattle.protocol.specs.Measures.{passes}
 use Rattle.protocol.specs.Client.{clientSize}
 use Rattle.protocol.specs.DirectoryEvents.{directorySize}
 use Rattle.protocol.specs.NodeEvents.{tableSize}
 use Rattle.protocol.proofs.MeasureLaws.{passed}
+use Rattle.protocol.proofs.LacksLaws as lacks
+use Rattle.protocol.proofs.LacksLaws.{Lacks}
 use Rattle.records.specs.declared.answer.Refusal.{Refusal}
 use Rattle.records.specs.Answer.{number}
 use Rattle.records.specs.Places.{splice}
 use Rattle.records.proofs.SizeLaws.{table-bound, below-rows}
+use Rattle.records.proofs.SpliceLaws.{splice-self, splice-back}
 use Rattle.client.proofs.ClientFormLaws.{sizes as clientSizes}
 use Rattle.parties.proofs.NodeSizeLaws.{sizes as tableSizes}
 use Rattle.title.specs.declared.memory.Part.{Part}
 use Rattle.title.specs.Memory.{memorySize, tableAt, recordAt, partOf, Put}
-use Rattle.title.specs.Part.{Refuses, Stands, Placed}
+use Rattle.title.specs.Part.{Refuses, measures, short, Stands, Placed}
 
 -- ---- sizes
 
-pub record Sizes (s : Measures) : Type 0 where
-  pub clients : (1 ≤ s .m) × (s .m ≤ 8)
-  pub nodes : (1 ≤ s .n) × (s .n ≤ 16)
-  pub named : s .t + s .k ≤ 16
-  pub bytes : s .f ≤ 4096
-  pub squares : s .m * s .m ≤ 64
-  pub pointers : (s .m + 1) * pointerSize s ≤ 4671
-  pub pieces : (s .n * (34 + s .f) ≡ s .n * 34 + s .n * s .f) × (s .n * s .f ≤ 65536)
-  pub held : places s * placeSize s ≤ 525184
-  pub memory : memorySize s ≤ 9011448
-
-pub sizes : (s : Measures) → passes s ≡ true → Sizes s
-sizes s h =
-    let p = passed s h in
+pub memory-bound : (s : Measures) → passes s ≡ true → memorySize s ≤ 9011448
+memory-bound s h =
     let c = clientSizes s h in
-    let t = tableSizes s h in
-    let table : tableSize s ≤ 525186 = omega (arith, t .table) in
+    let table : tableSize s ≤ 525186 = omega (arith, tableSizes s h .table) in
     let client : clientSize s ≤ 71351 = omega (arith, c .clients, c .nodes, c .pointer, c .pointers, c .pieces) in
     let tables : s .n * tableSize s ≤ 8402976 = mul-le-mul (c .nodes) table in
     let records : s .m * clientSize s ≤ 570808 = mul-le-mul (c .clients) client in
-    record {
-      clients = p .clients;
-      nodes = p .nodes;
-      named = c .named;
-      bytes = c .bytes;
-      squares = t .squares;
-      pointers = c .pointers;
-      pieces = c .pieces;
-      held = t .table;
-      memory = omega (arith, table-bound s h);
-    }
+    omega (arith, table-bound s h)
 
 -- ---- places
 
@@ -84,45 +63,28 @@ module _ (s : Measures) where
   record-none c a = simp (le-ltb c (s .m) a) (omega arith)
 
 module _ (s : Measures) (h : passes s ≡ true) where
-  pub table-within : (i : ℕ) → tableAt s i + tableSize s ≤ memorySize s
-  table-within i = go (decLe 1 i) (decLe i (s .n))
+  pub table-ends : (i : ℕ) → tableAt s i + tableSize s ≤ directorySize s + s .n * tableSize s
+  table-ends i = go (decLe 1 i) (decLe i (s .n))
     where
       first : 0 * tableSize s + tableSize s ≤ s .n * tableSize s
-      first = below-rows 0 (s .n) (tableSize s) (sizes s h .nodes .0)
+      first = below-rows 0 (s .n) (tableSize s) (passed s h .nodes .0)
 
-      go : Dec (1 ≤ i) → Dec (i ≤ s .n) → tableAt s i + tableSize s ≤ memorySize s
+      go : Dec (1 ≤ i) → Dec (i ≤ s .n) → tableAt s i + tableSize s ≤ directorySize s + s .n * tableSize s
       go (yes a) (yes b) = omega (arith, table-own s i a b, below-rows (i - 1) (s .n) (tableSize s) (omega arith))
       go (yes a) (no b) = omega (arith, table-above s i a (omega arith), first)
       go (no a) b = omega (arith, table-none s i (omega arith), first)
+
+  pub table-within : (i : ℕ) → tableAt s i + tableSize s ≤ memorySize s
+  table-within i = omega (arith, table-ends i)
 
   pub record-within : (c : ℕ) → recordAt s c + clientSize s ≤ memorySize s
   record-within c = go (decLt c (s .m))
     where
       go : Dec (c < s .m) → recordAt s c + clientSize s ≤ memorySize s
       go (yes a) = omega (arith, record-own s c a, below-rows c (s .m) (clientSize s) a)
-      go (no a) = omega (arith, record-none s c (omega arith), below-rows 0 (s .m) (clientSize s) (sizes s h .clients .0))
+      go (no a) = omega (arith, record-none s c (omega arith), below-rows 0 (s .m) (clientSize s) (passed s h .clients .0))
 
--- ---- bytes in their place
-
-taken : (n : ℕ) (t : List ℕ) → take n t ++ drop (length (take n t)) t ≡ t
-taken zero t = refl
-taken (suc n) [] = refl
-taken (suc n) (x ∷ t) = ap (λ (l : List ℕ). x ∷ l) (taken n t)
-
--- bytes over themselves, also where there are fewer
-pub splice-taken : (t : List ℕ) (at n : ℕ) → splice t at (take n (drop at t)) ≡ t
-unfolding splice
-splice-taken t at n =
-    let p = take n (drop at t) in
-    ap (λ (l : List ℕ). take at t ++ (p ++ l)) (sym (drop-drop (length p) at t))
-    ∙ ap (λ (l : List ℕ). take at t ++ l) (taken n (drop at t))
-    ∙ take-append-drop at t
-
--- bytes that were lent and are back
-pub splice-back : (t new : List ℕ) (at size : ℕ) → length new ≡ size → take at t ++ (new ++ drop size (drop at t)) ≡ splice t at new
-unfolding splice
-splice-back t new at size e =
-    ap (λ (u : List ℕ). take at t ++ (new ++ u)) (drop-drop size at t ∙ ap (λ (k : ℕ). drop (at + k) t) (sym e))
+-- ---- bytes that are lent
 
 pub length-lent : (t : List ℕ) (at to : ℕ) → to ≤ length t → length (take (to - at) (drop at t)) ≡ to - at
 length-lent t at to h = length-take-le (to - at) (drop at t) (rw length-drop (omega arith))
@@ -130,24 +92,25 @@ length-lent t at to h = length-take-le (to - at) (drop at t) (rw length-drop (om
 -- ---- parts
 
 module _ (s : Measures) (at size : ℕ) (memory : List ℕ) where
-  part-long : memorySize s ≤ length memory → partOf s at size memory ≡ take size (drop at memory)
+  pub part-is : memorySize s ≤ length memory → partOf s at size memory ≡ take size (drop at memory)
   unfolding partOf
-  part-long h = simp (le-leb (memorySize s) (length memory) h)
+  part-is h = simp (le-leb (memorySize s) (length memory) h)
 
   part-short : length memory < memorySize s → partOf s at size memory ≡ []
   unfolding partOf
   part-short h = simp (lt-leb (memorySize s) (length memory) h)
 
-  -- a party refuses the part of a memory that is too short
-  pub part-lacks : length memory < memorySize s → 0 < size → leb size (length (partOf s at size memory)) ≡ false
-  part-lacks h l = ap (λ (t : List ℕ). leb size (length t)) (part-short h) ∙ lt-leb size 0 l
+  -- a party refuses the part of a memory that is refused, with the same number
+  pub part-lacks : (passes s ≡ true → 0 < size) → (n : ℕ) → Refuses s (length memory) n → Lacks s size (partOf s at size memory) n
+  part-lacks z _ (measures h) = lacks.measures h
+  part-lacks z _ (short h l) = lacks.short h (subst⁻¹ (λ (t : List ℕ). length t < size) (part-short l) (z h))
 
   part-kept : splice memory at (partOf s at size memory) ≡ memory
   part-kept = go (decLe (memorySize s) (length memory))
     where
       go : Dec (memorySize s ≤ length memory) → splice memory at (partOf s at size memory) ≡ memory
-      go (yes h) = ap (splice memory at) (part-long h) ∙ splice-taken memory at size
-      go (no h) = ap (splice memory at) (part-short (omega arith)) ∙ splice-taken memory at 0
+      go (yes h) = ap (splice memory at) (part-is h) ∙ sym (splice-self memory at size)
+      go (no h) = ap (splice memory at) (part-short (omega arith)) ∙ sym (splice-self memory at 0)
 
   -- an event that is refused leaves the memory as it was
   pub put-kept : (new : List ℕ) → new ≡ partOf s at size memory → Put memory at (partOf s at size memory) new memory
@@ -173,7 +136,7 @@ module _ (s : Measures) (at size : ℕ) (memory : List ℕ) (a b : ℕ) (z : Sta
   pub part-lent : take (b - a) (drop a memory) ≡ partOf s at size memory
   part-lent =
       let n : b - a ≡ size = omega (arith, z .first, z .last) in
-      (λ j. take (n j) (drop (z .first j) memory)) ∙ sym (part-long s at size memory (z .long))
+      (λ j. take (n j) (drop (z .first j) memory)) ∙ sym (part-is s at size memory (z .long))
 
   pub put-back : (lent new : List ℕ) → length lent ≡ length (take (b - a) (drop a memory)) → lent ≡ new
       → Put memory at (partOf s at size memory) new (take a memory ++ (lent ++ drop (b - a) (drop a memory)))

@@ -3,24 +3,21 @@ use mathlib.Core.Path.{_≡_, sym, ap, _∙_}
 use mathlib.Core.List.{List, _++_}
 use Prim.Native.Nat.{ℕ, _-_}
 use native.Mathlib.Omega.{arith}
-use borrow.Author.Tests.{leb-false}
 use lib.ListN.{length, take, drop}
 use Rattle.protocol.specs.declared.measures.Measures.{Measures}
 use Rattle.protocol.specs.Client.{clientSize}
 use Rattle.protocol.specs.Answer.{ClientAnswer, refused}
 use Rattle.protocol.specs.ClientEvents.{ClientEnd, unchanged}
-use Rattle.client_record.proofs.LacksLaws as lacks
-use Rattle.client_record.proofs.LacksLaws.{Lacks}
+use Rattle.protocol.proofs.LacksLaws.{Lacks}
 use Rattle.title.specs.Memory.{recordAt, recordIn, Put}
-use Rattle.title.specs.Part.{Refuses, measures, short, Stands}
+use Rattle.title.specs.Part.{Refuses, Stands}
 use Rattle.title.proofs.MemoryLaws.{part-lacks, put-kept, part-lent, put-back}
 
 -- ---- an event that is refused by the memory alone
 
 module _ (s : Measures) (memory : List ℕ) (c : ℕ) where
-  pub record-lacks : (n : ℕ) → Refuses s (length memory) n → Lacks s (recordIn s c memory) n
-  record-lacks _ (measures h) = lacks.measures h
-  record-lacks _ (short h l) = lacks.short h (leb-false (clientSize s) (length (recordIn s c memory)) (part-lacks s (recordAt s c) (clientSize s) memory l (omega arith)))
+  pub record-lacks : (n : ℕ) → Refuses s (length memory) n → Lacks s (clientSize s) (recordIn s c memory) n
+  record-lacks = part-lacks s (recordAt s c) (clientSize s) memory (λ h. omega arith)
 
   -- its answer, and nothing changes
   pub refused-ends : (n : ℕ) (e : ClientEnd) (room out : List ℕ) → e ≡ unchanged (refused n) (recordIn s c memory) room out

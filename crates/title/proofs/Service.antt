@@ -1,25 +1,20 @@
 -- The claim holds of the service's memory after every list of events.
-use mathlib.Core.Path.{_≡_, refl, subst⁻¹}
+use mathlib.Core.Path.{_≡_, subst⁻¹}
 use mathlib.Core.Bool.{Bool, true}
-use mathlib.Core.List.{List, [], _∷_, _++_}
+use mathlib.Core.List.{List, []}
 use Prim.Native.Nat.{ℕ, _≤_}
 use lib.ListN.{length}
 use Rattle.protocol.specs.declared.measures.Measures.{Measures}
 use Rattle.protocol.specs.Measures.{passes}
-use Rattle.protocol.specs.Run.{State, Event, carryOut, run, fresh}
+use Rattle.protocol.specs.Run.{State, Event, run, fresh}
 use Rattle.protocol.specs.Claim.{Claim, AllLent, Differ, RunPiece, dishonest}
+use Rattle.protocol.proofs.RunLaws.{run-last}
 use Rattle.protocol.proofs.Demand.{demand-3}
 use Rattle.title.specs.Memory.{memorySize, memoryFresh}
 use Rattle.title.specs.Service.{Shows, Serves}
 use Rattle.title.specs.ServiceClaim.{inMemory, ServiceClaim}
 use Rattle.title.proofs.ShowsLaws.{handed-shows}
 use Rattle.title.proofs.FreshLaws.{fresh-shows}
-
-run-last : (s : Measures) (honest : ℕ → Bool) (es : List Event) (e : Event) (st : State)
-    → run s honest (es ++ (e ∷ [])) st ≡ carryOut s honest e (run s honest es st) .state
-unfolding run
-run-last s honest [] e st = refl
-run-last s honest (x ∷ es) e st = run-last s honest es e (carryOut s honest x st .state)
 
 -- the claim of a state is the claim of a memory that shows it
 shown-claim : (s : Measures) (honest : ℕ → Bool) (memory : List ℕ) (st : State) → Shows s memory st → Claim s honest st

@@ -1,4 +1,4 @@
--- What each function of the service leaves shows the run's state after the event.
+-- What each function of the service leaves shows the run's state after the event: one lemma for each function, from its contract.
 use mathlib.Core.Path.{_≡_, refl, sym, ap, subst⁻¹, _∙_}
 use mathlib.Core.Bool.{Bool, true, false, cond, _&&_}
 use mathlib.Core.List.{List, [], _∷_}
@@ -15,15 +15,17 @@ use Rattle.protocol.specs.ClientEvents.{ClientEnd, startDeposit, startReading, 
 use Rattle.protocol.specs.DirectoryEvents.{DirectoryEnd, directorySize, directoryUpdate, directoryScan}
 use Rattle.protocol.specs.NodeEvents.{NodeEnd, tableSize, nodeMessage}
 use Rattle.protocol.specs.Run.{History, State, Answered, Call, scanCall, updateCall, Return, updated, rows, upd, nothing}
-use Rattle.protocol.specs.Run.{stays, goes, told, handed, delivered, carried, carries, keeps, brought, isRefused}
+use Rattle.protocol.specs.Run.{stays, goes, told, carried, keeps, isRefused}
 use Rattle.protocol.specs.Run.{Event, deposit, reading, carry, hand, bring, deliver, lie, carryOut, tick}
 use Rattle.protocol.proofs.Cells.{by-eq}
+use Rattle.protocol.proofs.RunLaws.{head-scan, head-update, head-updated, head-rows, head-to-node, head-lost, head-to-client, none-called, none-returned, none-to-node, none-to-client}
 use Rattle.protocol.proofs.RefusalLaws.{Guarded, deposit-guarded, reading-guarded, updated-guarded, scanned-guarded, message-guarded}
+use Rattle.protocol.proofs.TableRefusalLaws.{Keeps, Refuses, refused-keeps, update-keeps, scan-keeps, node-keeps, node-refuses}
 use Rattle.title.specs.Memory.{partOf, directoryIn, tableAt, tableIn, recordAt, recordIn, Put}
-use Rattle.title.specs.Service.{Shows, Deposits, Reads, ToNode, Called, Returned, Brought, Delivered, Lied, Handed}
-use Rattle.title.proofs.PartLaws.{directory-table, directory-record, table-record, directory-fits, table-fits, record-fits, tables-apart, records-apart}
+use Rattle.title.specs.Service.{Shows, Deposits, Reads, Updated, Scanned, ToClient, Updates, ToNode, Called, Returned, Brought, Delivered, Lied, Handed}
+use Rattle.title.proofs.MemoryLaws.{table-within, record-within}
+use Rattle.title.proofs.PartLaws.{directory-table, directory-record, table-record, directory-fits, tables-apart, records-apart}
 use Rattle.title.proofs.PartLaws.{both-true, put-long, put-own, put-before, put-after, put-same}
-use Rattle.title.proofs.ServerLaws.{Keeps, Refuses, refused-keeps, update-keeps, scan-keeps, node-keeps, node-refuses}
 
 module _ (s : Measures) (ok : passes s ≡ true) (memory after : List ℕ) (st : State) (o : Shows s memory st) where
   -- the tables and records are those before
@@ -41,10 +43,10 @@ module _ (s : Measures) (ok : passes s ≡ true) (memory after : List ℕ) (st :
 
   module _ (c : ℕ) (new : List ℕ) (p : Put memory (recordAt s c) (recordIn s c memory) new after) where
     record-same : new ≡ recordIn s c memory → after ≡ memory
-    record-same = put-same s memory (o .long) (recordAt s c) (clientSize s) (record-fits s ok c) new after p
+    record-same = put-same s memory (o .long) (recordAt s c) (clientSize s) (record-within s ok c) new after p
 
     record-before : (to size : ℕ) → to + size ≤ recordAt s c → partOf s to size after ≡ partOf s to size memory
-    record-before = put-before s memory (o .long) (recordAt s c) (clientSize s) (record-fits s ok c) new after p
+    record-before = put-before s memory (o .long) (recordAt s c) (clientSize s) (record-within s ok c) new after p
 
     other-record : c < s .m → (j : ℕ) → j < s .m → (j ≡ c → ⊥) → recordIn s j after ≡ recordIn s j memory
     other-record l j k g = go (decLt j c)
@@ -53,12 +55,12 @@ module _ (s : Measures) (ok : passes s ≡ true) (memory after : List ℕ) (st :
         go (yes h) = record-before (recordAt s j) (clientSize s) (records-apart s j c h l)
         go (no h) =
             let e : c < j = omega arith in
-            put-after s memory (o .long) (recordAt s c) (clientSize s) (record-fits s ok c) new after p (recordAt s j) (clientSize s) (records-apart s c j e k)
+            put-after s memory (o .long) (recordAt s c) (clientSize s) (record-within s ok c) new after p (recordAt s j) (clientSize s) (records-apart s c j e k)
 
     record-shows : c < s .m → (t : State) → t .directory ≡ st .directory → t .nodes ≡ st .nodes → t .clients ≡ upd (st .clients) c new → Shows s after t
     record-shows l t d n q =
         record {
-          long = put-long s memory (o .long) (recordAt s c) (clientSize s) (record-fits s ok c) new after p;
+          long = put-long s memory (o .long) (recordAt s c) (clientSize s) (record-within s ok c) new after p;
           directory = record-before 0 (directorySize s) (directory-record s c) ∙ o .directory ∙ sym d;
           nodes = λ i lo up.
               record-before (tableAt s i) (tableSize s) (table-record s ok i c) ∙ o .nodes i lo up ∙ sym (ap (λ (f : ℕ → List ℕ). f i) n);
@@ -67,7 +69,7 @@ module _ (s : Measures) (ok : passes s ≡ true) (memory after : List ℕ) (st :
       where
         cell : (j : ℕ) → j < s .m → recordIn s j after ≡ upd (st .clients) c new j
         cell j k =
-            by-eq j c (λ e g. rw e (rw g (put-own s memory (o .long) (recordAt s c) (clientSize s) (record-fits s ok c) new after p)))
+            by-eq j c (λ e g. rw e (rw g (put-own s memory (o .long) (recordAt s c) (clientSize s) (record-within s ok c) new after p)))
             (λ e g. rw e (other-record l j k g ∙ o .clients j k))
 
   -- an event of client c: refused, nothing changes; else its record does
@@ -93,33 +95,54 @@ module _ (s : Measures) (ok : passes s ≡ true) (memory after : List ℕ) (st :
             let up : s .m ≤ c = omega arith in
             rw (g .bounded up (st .clients c)) (same-shows (unchanged (g .bounded up (recordIn s c memory))) _ refl refl refl)
 
+  -- deposit
   pub deposit-shows : (c : ℕ) (page : List ℕ) (honest : ℕ → Bool) → Deposits s c page memory after → Shows s after (carryOut s honest (deposit c page) st .state)
   unfolding carryOut
   deposit-shows c page honest p = turn-shows c (λ b. startDeposit s c b page) (deposit-guarded s c page) p _ _ _ _ _
 
-  pub reading-shows : (c : ℕ) (room : List ℕ) (honest : ℕ → Bool) → Reads s c room memory after → Shows s after (carryOut s honest (reading c room) st .state)
+  -- read
+  pub read-shows : (c : ℕ) (room : List ℕ) (honest : ℕ → Bool) → Reads s c room memory after → Shows s after (carryOut s honest (reading c room) st .state)
   unfolding carryOut
-  reading-shows c room honest p = turn-shows c (λ b. startReading s c b room) (reading-guarded s c room) p _ _ _ _ _
+  read-shows c room honest p = turn-shows c (λ b. startReading s c b room) (reading-guarded s c room) p _ _ _ _ _
 
-  pub hand-shows : (c : ℕ) (room : List ℕ) (honest : ℕ → Bool) → Returned s c room (st .returns c) memory after
+  -- updated
+  pub updated-shows : (c : ℕ) (room : List ℕ) (honest : ℕ → Bool) (q : List Return) → st .returns c ≡ updated ∷ q → Updated s c room memory after
       → Shows s after (carryOut s honest (hand c room) st .state)
-  unfolding carryOut
-  hand-shows c room honest = go (st .returns c)
-    where
-      go : (q : List Return) → Returned s c room q memory after → Shows s after (handed s c room q st .state)
-      go [] p = same-shows p _ refl refl refl
-      go (updated ∷ q) p = turn-shows c (λ b. updateAnswer s c b room) (updated-guarded s c room) p _ _ _ _ _
-      go (rows l ∷ q) p = turn-shows c (λ b. scanAnswer s c b l room) (scanned-guarded s c l room) p _ _ _ _ _
+  updated-shows c room honest q e p =
+      rw (head-updated s honest st c room q e) (turn-shows c (λ b. updateAnswer s c b room) (updated-guarded s c room) p _ _ _ _ _)
 
-  pub deliver-shows : (i c : ℕ) (room out : List ℕ) (honest : ℕ → Bool) → Delivered s c i room out (st .toClient i c) memory after
+  -- scanned
+  pub scanned-shows : (c : ℕ) (l room : List ℕ) (honest : ℕ → Bool) (q : List Return) → st .returns c ≡ rows l ∷ q → Scanned s c l room memory after
+      → Shows s after (carryOut s honest (hand c room) st .state)
+  scanned-shows c l room honest q e p =
+      rw (head-rows s honest st c room l q e) (turn-shows c (λ b. scanAnswer s c b l room) (scanned-guarded s c l room) p _ _ _ _ _)
+
+  hand-shows : (c : ℕ) (room : List ℕ) (honest : ℕ → Bool) → Returned s c room (st .returns c) memory after
+      → Shows s after (carryOut s honest (hand c room) st .state)
+  hand-shows c room honest = go (st .returns c) refl
+    where
+      go : (q : List Return) → st .returns c ≡ q → Returned s c room q memory after → Shows s after (carryOut s honest (hand c room) st .state)
+      go [] e p = rw (none-returned s honest st c room e) (same-shows p _ refl refl refl)
+      go (updated ∷ q) e p = updated-shows c room honest q e p
+      go (rows l ∷ q) e p = scanned-shows c l room honest q e p
+
+  -- to_client
+  pub to-client-shows : (i c : ℕ) (m room out : List ℕ) (honest : ℕ → Bool) (q : List (List ℕ)) → st .toClient i c ≡ m ∷ q
+      → ToClient s c i m room out memory after → Shows s after (carryOut s honest (deliver i c room out) st .state)
+  to-client-shows i c m room out honest q e p =
+      rw (head-to-client s honest st i c room out m q e)
+      (turn-shows c (λ b. clientMessage s c i b m room out) (message-guarded s c i m room out) p _ _ _ _ _)
+
+  deliver-shows : (i c : ℕ) (room out : List ℕ) (honest : ℕ → Bool) → Delivered s c i room out (st .toClient i c) memory after
       → Shows s after (carryOut s honest (deliver i c room out) st .state)
-  unfolding carryOut
-  deliver-shows i c room out honest = go (st .toClient i c)
+  deliver-shows i c room out honest = go (st .toClient i c) refl
     where
-      go : (q : List (List ℕ)) → Delivered s c i room out q memory after → Shows s after (delivered s i c room out q st .state)
-      go [] p = same-shows p _ refl refl refl
-      go (m ∷ q) p = turn-shows c (λ b. clientMessage s c i b m room out) (message-guarded s c i m room out) p _ _ _ _ _
+      go : (q : List (List ℕ)) → st .toClient i c ≡ q → Delivered s c i room out q memory after
+          → Shows s after (carryOut s honest (deliver i c room out) st .state)
+      go [] e p = rw (none-to-client s honest st i c room out e) (same-shows p _ refl refl refl)
+      go (m ∷ q) e p = to-client-shows i c m room out honest q e p
 
+  -- to_client, with bytes of a dishonest node
   pub lie-shows : (i c : ℕ) (bytes room out : List ℕ) (honest : ℕ → Bool) → Lied s (honest i) c i bytes room out memory after
       → Shows s after (carryOut s honest (lie i c bytes room out) st .state)
   unfolding carryOut
@@ -146,42 +169,55 @@ module _ (s : Measures) (ok : passes s ≡ true) (memory after : List ℕ) (st :
         behind = put-after s memory (o .long) 0 (directorySize s) (directory-fits s) new after p
 
   module _ (c : ℕ) (q : List Call) (r : Return) (done same : History) where
-    scanned-shows : after ≡ memory → (e : DirectoryEnd) → e .table ≡ st .directory → (a : Served) → Shows s after (carried c q r e done same a st .state)
-    scanned-shows p e k (refuses n) = same-shows p _ refl refl refl
-    scanned-shows p e k (serves len) = same-shows p _ k refl refl
+    looked : after ≡ memory → (e : DirectoryEnd) → e .table ≡ st .directory → (a : Served) → Shows s after (carried c q r e done same a st .state)
+    looked p e k (refuses n) = same-shows p _ refl refl refl
+    looked p e k (serves len) = same-shows p _ k refl refl
 
-    updated-shows : (new : List ℕ) → Put memory 0 (directoryIn s memory) new after → (e : DirectoryEnd) → e .table ≡ new → (a : Served)
+    put-in : (new : List ℕ) → Put memory 0 (directoryIn s memory) new after → (e : DirectoryEnd) → e .table ≡ new → (a : Served)
         → Keeps (st .directory) a (e .table) → Shows s after (carried c q r e done same a st .state)
-    updated-shows new p e f (refuses n) k =
+    put-in new p e f (refuses n) k =
         same-shows (put-same s memory (o .long) 0 (directorySize s) (directory-fits s) new after p (sym f ∙ k ∙ sym (o .directory))) _ refl refl refl
-    updated-shows new p e f (serves len) k = directory-shows new p _ f refl refl
+    put-in new p e f (serves len) k = directory-shows new p _ f refl refl
 
-  pub carry-shows : (c : ℕ) (room : List ℕ) (honest : ℕ → Bool) → Called s c (st .calls c) memory after
+  -- update
+  pub update-shows : (c : ℕ) (fields room : List ℕ) (honest : ℕ → Bool) (q : List Call) → st .calls c ≡ updateCall fields ∷ q → Updates s c fields memory after
       → Shows s after (carryOut s honest (carry c room) st .state)
-  unfolding carryOut
-  carry-shows c room honest = go (st .calls c)
+  update-shows c fields room honest q e p =
+      let d = directoryUpdate s c (st .directory) fields in
+      rw (head-update s honest st c room fields q e)
+      (put-in c q _ _ _ (directoryUpdate s c (directoryIn s memory) fields .table) p d
+      (ap (λ (x : List ℕ). directoryUpdate s c x fields .table) (sym (o .directory)))
+      (d .answer) (update-keeps s (st .directory) c fields))
+
+  -- scan: beside the memory, the answer and the rows are those of the run's directory
+  pub scan-shows : (c : ℕ) (room : List ℕ) (honest : ℕ → Bool) (q : List Call) → st .calls c ≡ scanCall ∷ q → after ≡ memory
+      → Shows s after (carryOut s honest (carry c room) st .state) × (directoryScan s (directoryIn s memory) room ≡ directoryScan s (st .directory) room)
+  scan-shows c room honest q e p =
+      let d = directoryScan s (st .directory) room in (
+        rw (head-scan s honest st c room q e) (looked c q _ _ _ p d (scan-keeps s (st .directory) room) (d .answer)),
+        ap (λ (x : List ℕ). directoryScan s x room) (o .directory),
+      )
+
+  carry-shows : (c : ℕ) (room : List ℕ) (honest : ℕ → Bool) → Called s c (st .calls c) memory after
+      → Shows s after (carryOut s honest (carry c room) st .state)
+  carry-shows c room honest = go (st .calls c) refl
     where
-      go : (q : List Call) → Called s c q memory after → Shows s after (carries s c room q st .state)
-      go [] p = same-shows p _ refl refl refl
-      go (scanCall ∷ q) p =
-          let e = directoryScan s (st .directory) room in scanned-shows c q _ _ _ p e (scan-keeps s (st .directory) room) (e .answer)
-      go (updateCall fields ∷ q) p =
-          let e = directoryUpdate s c (st .directory) fields in
-          updated-shows c q _ _ _ (directoryUpdate s c (directoryIn s memory) fields .table) p e
-          (ap (λ (x : List ℕ). directoryUpdate s c x fields .table) (sym (o .directory)))
-          (e .answer) (update-keeps s (st .directory) c fields)
+      go : (q : List Call) → st .calls c ≡ q → Called s c q memory after → Shows s after (carryOut s honest (carry c room) st .state)
+      go [] e p = rw (none-called s honest st c room e) (same-shows p _ refl refl refl)
+      go (scanCall ∷ q) e p = scan-shows c room honest q e p .0
+      go (updateCall fields ∷ q) e p = update-shows c fields room honest q e p
 
   -- ---- node i's table is written back
 
   module _ (i : ℕ) (new : List ℕ) (p : Put memory (tableAt s i) (tableIn s i memory) new after) where
     table-same : new ≡ tableIn s i memory → after ≡ memory
-    table-same = put-same s memory (o .long) (tableAt s i) (tableSize s) (table-fits s ok i) new after p
+    table-same = put-same s memory (o .long) (tableAt s i) (tableSize s) (table-within s ok i) new after p
 
     table-before : (to size : ℕ) → to + size ≤ tableAt s i → partOf s to size after ≡ partOf s to size memory
-    table-before = put-before s memory (o .long) (tableAt s i) (tableSize s) (table-fits s ok i) new after p
+    table-before = put-before s memory (o .long) (tableAt s i) (tableSize s) (table-within s ok i) new after p
 
     table-after : (to size : ℕ) → tableAt s i + tableSize s ≤ to → partOf s to size after ≡ partOf s to size memory
-    table-after = put-after s memory (o .long) (tableAt s i) (tableSize s) (table-fits s ok i) new after p
+    table-after = put-after s memory (o .long) (tableAt s i) (tableSize s) (table-within s ok i) new after p
 
     other-table : 1 ≤ i → i ≤ s .n → (j : ℕ) → 1 ≤ j → j ≤ s .n → (j ≡ i → ⊥) → tableIn s j after ≡ tableIn s j memory
     other-table lo up j lo′ up′ g = go (decLt j i)
@@ -193,7 +229,7 @@ module _ (s : Measures) (ok : passes s ≡ true) (memory after : List ℕ) (st :
     table-shows : 1 ≤ i → i ≤ s .n → (t : State) → t .directory ≡ st .directory → t .nodes ≡ upd (st .nodes) i new → t .clients ≡ st .clients → Shows s after t
     table-shows lo up t d n c =
         record {
-          long = put-long s memory (o .long) (tableAt s i) (tableSize s) (table-fits s ok i) new after p;
+          long = put-long s memory (o .long) (tableAt s i) (tableSize s) (table-within s ok i) new after p;
           directory = table-before 0 (directorySize s) (directory-table s i) ∙ o .directory ∙ sym d;
           nodes = λ j lo′ up′. cell j lo′ up′ ∙ sym (ap (λ (f : ℕ → List ℕ). f j) n);
           clients = λ j l.
@@ -202,7 +238,7 @@ module _ (s : Measures) (ok : passes s ≡ true) (memory after : List ℕ) (st :
       where
         cell : (j : ℕ) → 1 ≤ j → j ≤ s .n → tableIn s j after ≡ upd (st .nodes) i new j
         cell j lo′ up′ =
-            by-eq j i (λ e g. rw e (rw g (put-own s memory (o .long) (tableAt s i) (tableSize s) (table-fits s ok i) new after p)))
+            by-eq j i (λ e g. rw e (rw g (put-own s memory (o .long) (tableAt s i) (tableSize s) (table-within s ok i) new after p)))
             (λ e g. rw e (other-table lo up j lo′ up′ g ∙ o .nodes j lo′ up′))
 
   module _ (c i : ℕ) (q : List (List ℕ)) (m room : List ℕ) (p : ToNode s i m room memory after) where
@@ -239,21 +275,30 @@ module _ (s : Measures) (ok : passes s ≡ true) (memory after : List ℕ) (st :
             (refused-keeps (tableIn s i memory) (there .table) (there .answer) (node-refuses s (tableIn s i memory) m room i e) (node-keeps s (tableIn s i memory) m room i)))
             (nodeMessage s i (st .nodes i) m room) (nodeMessage s i (st .nodes i) m room .answer) (node-refuses s (st .nodes i) m room i e)
 
-  pub bring-shows : (c i : ℕ) (room : List ℕ) (honest : ℕ → Bool) → Brought s (honest i) i room (st .toNode c i) memory after
+  -- to_node
+  pub to-node-shows : (c i : ℕ) (m room : List ℕ) (honest : ℕ → Bool) (q : List (List ℕ)) → honest i ≡ true → st .toNode c i ≡ m ∷ q → ToNode s i m room memory after
       → Shows s after (carryOut s honest (bring c i room) st .state)
-  unfolding carryOut
-  bring-shows c i room honest = go (honest i) (st .toNode c i) refl
+  to-node-shows c i m room honest q h e p = rw (head-to-node s honest st c i room m q h e) (node-shows c i q m room p)
+
+  bring-shows : (c i : ℕ) (room : List ℕ) (honest : ℕ → Bool) → Brought s (honest i) i room (st .toNode c i) memory after
+      → Shows s after (carryOut s honest (bring c i room) st .state)
+  bring-shows c i room honest = go (honest i) (st .toNode c i) refl refl
     where
-      go : (h : Bool) (q : List (List ℕ)) → honest i ≡ h → Brought s h i room q memory after → Shows s after (brought s honest c i room q st .state)
-      go true [] e p = same-shows p _ refl refl refl
-      go false [] e p = same-shows p _ refl refl refl
-      go true (m ∷ q) e p = rw e (node-shows c i q m room p)
-      go false (m ∷ q) e p = rw e (same-shows p _ refl refl refl)
+      gone : (m : List ℕ) (q : List (List ℕ)) → honest i ≡ false → st .toNode c i ≡ m ∷ q → after ≡ memory
+          → Shows s after (carryOut s honest (bring c i room) st .state)
+      gone m q h e p = rw (head-lost s honest st c i room m q h e) (same-shows p _ refl refl refl)
+
+      go : (h : Bool) (q : List (List ℕ)) → honest i ≡ h → st .toNode c i ≡ q → Brought s h i room q memory after
+          → Shows s after (carryOut s honest (bring c i room) st .state)
+      go true [] h e p = rw (none-to-node s honest st c i room e) (same-shows p _ refl refl refl)
+      go false [] h e p = rw (none-to-node s honest st c i room e) (same-shows p _ refl refl refl)
+      go true (m ∷ q) h e p = to-node-shows c i m room honest q h e p
+      go false (m ∷ q) h e p = gone m q h e p
 
   -- every event
   pub handed-shows : (honest : ℕ → Bool) (e : Event) → Handed s honest e st memory after → Shows s after (carryOut s honest e st .state)
   handed-shows honest (deposit c page) p = deposit-shows c page honest p
-  handed-shows honest (reading c room) p = reading-shows c room honest p
+  handed-shows honest (reading c room) p = read-shows c room honest p
   handed-shows honest (carry c room) p = carry-shows c room honest p
   handed-shows honest (hand c room) p = hand-shows c room honest p
   handed-shows honest (bring c i room) p = bring-shows c i room honest p

@@ -1,46 +1,52 @@
 -- The directory's and a node's table in the memory: what an event at the party leaves.
-use mathlib.Core.Path.{_≡_, refl, ap, _∙_}
-use mathlib.Core.Bool.{true}
+use mathlib.Core.Path.{_≡_, sym, ap, _∙_}
 use mathlib.Core.List.{List, _++_}
-use Prim.Native.Nat.{ℕ, _-_, _<_, _≤_}
+use Prim.Native.Nat.{ℕ, _-_, _≤_}
 use native.Mathlib.Nat.{mul-le-mul}
 use native.Mathlib.Omega.{arith}
 use lib.ListN.{length, take, drop}
 use Rattle.protocol.specs.declared.measures.Measures.{Measures}
-use Rattle.protocol.specs.Measures.{passes, rowSize}
+use Rattle.protocol.specs.Measures.{rowSize}
 use Rattle.protocol.specs.Answer.{Served, refuses}
 use Rattle.protocol.specs.DirectoryEvents.{DirectoryEnd, directorySize, directoryUpdate, directoryScan}
 use Rattle.protocol.specs.NodeEvents.{NodeEnd, tableSize, nodeMessage}
+use Rattle.protocol.proofs.MeasureLaws.{passed}
+use Rattle.protocol.proofs.LacksLaws.{Lacks, update-lacks, scan-lacks, node-lacks}
 use Rattle.title.specs.Memory.{directoryIn, tableAt, tableIn, Put}
-use Rattle.title.specs.Part.{Refuses, measures, short, Stands}
-use Rattle.title.proofs.MemoryLaws.{sizes, part-lacks, put-kept, part-lent, put-back}
+use Rattle.title.specs.Part.{Refuses, Stands}
+use Rattle.title.proofs.MemoryLaws.{part-lacks, put-kept, part-lent, put-back}
 
 -- ---- an event that is refused by the memory alone
 
-module _ (s : Measures) (memory : List ℕ) where
-  directory-some : passes s ≡ true → 0 < directorySize s
-  directory-some h = let r : 1 ≤ rowSize s = omega arith in mul-le-mul (sizes s h .clients .0) r
+module _ (s : Measures) (memory : List ℕ) (n : ℕ) (r : Refuses s (length memory) n) where
+  directory-lacks : Lacks s (directorySize s) (directoryIn s memory) n
+  directory-lacks = part-lacks s 0 (directorySize s) memory (λ h. let l : 1 ≤ rowSize s = omega arith in mul-le-mul (passed s h .clients .0) l) n r
 
-  pub update-refused : (c n : ℕ) → Refuses s (length memory) n → (fields : List ℕ) → let e = directoryUpdate s c (directoryIn s memory) fields in
+  pub update-refused : (c : ℕ) (fields : List ℕ) → let e = directoryUpdate s c (directoryIn s memory) fields in
       (refuses n ≡ e .answer) × Put memory 0 (directoryIn s memory) (e .table) memory
-  unfolding directoryUpdate
-  update-refused c _ (measures h) fields = rw h (refl, put-kept s 0 (directorySize s) memory (directoryIn s memory) refl)
-  update-refused c _ (short h l) fields =
-      rw (h, part-lacks s 0 (directorySize s) memory l (directory-some h)) (refl, put-kept s 0 (directorySize s) memory (directoryIn s memory) refl)
+  update-refused c fields =
+      let q = update-lacks s (directoryIn s memory) n directory-lacks c fields in (
+        ap (λ (e : DirectoryEnd). e .answer) (sym q),
+        put-kept s 0 (directorySize s) memory (directoryUpdate s c (directoryIn s memory) fields .table) (ap (λ (e : DirectoryEnd). e .table) q),
+      )
 
-  pub scan-refused : (n : ℕ) → Refuses s (length memory) n → (room : List ℕ) → let e = directoryScan s (directoryIn s memory) room in
-      (refuses n ≡ e .answer) × (room ≡ e .room)
-  unfolding directoryScan
-  scan-refused _ (measures h) room = rw h (refl, refl)
-  scan-refused _ (short h l) room = rw (h, part-lacks s 0 (directorySize s) memory l (directory-some h)) (refl, refl)
+  pub scan-refused : (room : List ℕ) → let e = directoryScan s (directoryIn s memory) room in (refuses n ≡ e .answer) × (room ≡ e .room)
+  scan-refused room =
+      let q = sym (scan-lacks s (directoryIn s memory) n directory-lacks room) in (
+        ap (λ (e : DirectoryEnd). e .answer) q,
+        ap (λ (e : DirectoryEnd). e .room) q,
+      )
 
-  pub node-refused : (i n : ℕ) → Refuses s (length memory) n → (message room : List ℕ) → let e = nodeMessage s i (tableIn s i memory) message room in
+  pub node-refused : (i : ℕ) (message room : List ℕ) → let e = nodeMessage s i (tableIn s i memory) message room in
       (refuses n ≡ e .answer) × Put memory (tableAt s i) (tableIn s i memory) (e .table) memory × (room ≡ e .room)
-  unfolding nodeMessage
-  node-refused i _ (measures h) message room = rw h (refl, put-kept s (tableAt s i) (tableSize s) memory (tableIn s i memory) refl, refl)
-  node-refused i _ (short h l) message room =
-      rw (h, part-lacks s (tableAt s i) (tableSize s) memory l (omega arith))
-      (refl, put-kept s (tableAt s i) (tableSize s) memory (tableIn s i memory) refl, refl)
+  node-refused i message room =
+      let q =
+      node-lacks s (tableIn s i memory) n (part-lacks s (tableAt s i) (tableSize s) memory (λ h. omega arith) n r) i message room
+      in (
+        ap (λ (e : NodeEnd). e .answer) (sym q),
+        put-kept s (tableAt s i) (tableSize s) memory (nodeMessage s i (tableIn s i memory) message room .table) (ap (λ (e : NodeEnd). e .table) q),
+        ap (λ (e : NodeEnd). e .room) (sym q),
+      )
 
 -- ---- an event that the party is handed: what it says of the part lent, said of the part in the memory
 

@@ -18,7 +18,7 @@ pub record Shows (s : Measures) (memory : List ℕ) (st : State) : Type 0 where
   pub nodes : (i : ℕ) → 1 ≤ i → i ≤ s .n → tableIn s i memory ≡ st .nodes i
   pub clients : (c : ℕ) → c < s .m → recordIn s c memory ≡ st .clients c
 
--- ---- what each of its functions leaves, as their contracts say
+-- ---- what each of its functions leaves of the memory, as its contract says; a scan leaves it as it was
 
 abbrev pub Deposits : Measures → ℕ → List ℕ → List ℕ → List ℕ → Type 0
 Deposits s c page memory after = Put memory (recordAt s c) (recordIn s c memory) (startDeposit s c (recordIn s c memory) page .client) after

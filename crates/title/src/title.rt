@@ -20,12 +20,13 @@ ghost use Rattle.protocol.specs.DirectoryEvents.{directoryUpdate, directoryScan
 ghost use Rattle.protocol.specs.NodeEvents.{nodeMessage};
 ghost use Rattle.parties.specs.Answer.{served};
 ghost use Rattle.client.specs.Answer.{answered};
-ghost use Rattle.title.specs.Memory.{Put, directoryIn, tableAt, tableIn, recordAt, recordIn};
+ghost use Rattle.title.specs.Memory.{directoryIn, tableIn, recordIn};
+ghost use Rattle.title.specs.Service.{Deposits, Reads, Updated, Scanned, ToClient, Updates, ToNode};
 
 // The start of a deposit at client c.
 pub fn deposit(s: Measures, c: usize, memory: &mut [u8], page: &[u8]) -> ClientAnswer
     ensures { λ r. ⌜ (answered r ≡ startDeposit s c (recordIn s c (now (memory .entry))) (now (page .entry)) .answer)
-        × Put (now (memory .entry)) (recordAt s c) (recordIn s c (now (memory .entry))) (startDeposit s c (recordIn s c (now (memory .entry))) (now (page .entry)) .client) (now (memory .exit)) ⌝ }
+        × Deposits s c (now (page .entry)) (now (memory .entry)) (now (memory .exit)) ⌝ }
 {
     let part = record_part(s, c, memory.len());
     match part {
@@ -37,7 +38,7 @@ pub fn deposit(s: Measures, c: usize, memory: &mut [u8], page: &[u8]) -> ClientA
 // The start of a reading at client c.
 pub fn read(s: Measures, c: usize, memory: &mut [u8], room: &mut [u8]) -> ClientAnswer
     ensures { λ r. ⌜ (answered r ≡ startReading s c (recordIn s c (now (memory .entry))) (now (room .entry)) .answer)
-        × Put (now (memory .entry)) (recordAt s c) (recordIn s c (now (memory .entry))) (startReading s c (recordIn s c (now (memory .entry))) (now (room .entry)) .client) (now (memory .exit))
+        × Reads s c (now (room .entry)) (now (memory .entry)) (now (memory .exit))
         × (now (room .exit) ≡ startReading s c (recordIn s c (now (memory .entry))) (now (room .entry)) .room) ⌝ }
 {
     let part = record_part(s, c, memory.len());
@@ -50,7 +51,7 @@ pub fn read(s: Measures, c: usize, memory: &mut [u8], room: &mut [u8]) -> Client
 // The directory's acknowledgement of client c's update, handed to the client.
 pub fn updated(s: Measures, c: usize, memory: &mut [u8], room: &mut [u8]) -> ClientAnswer
     ensures { λ r. ⌜ (answered r ≡ updateAnswer s c (recordIn s c (now (memory .entry))) (now (room .entry)) .answer)
-        × Put (now (memory .entry)) (recordAt s c) (recordIn s c (now (memory .entry))) (updateAnswer s c (recordIn s c (now (memory .entry))) (now (room .entry)) .client) (now (memory .exit))
+        × Updated s c (now (room .entry)) (now (memory .entry)) (now (memory .exit))
         × (now (room .exit) ≡ updateAnswer s c (recordIn s c (now (memory .entry))) (now (room .entry)) .room) ⌝ }
 {
     let part = record_part(s, c, memory.len());
@@ -69,7 +70,7 @@ pub fn scanned(
     room: &mut [u8],
 ) -> ClientAnswer
     ensures { λ r. ⌜ (answered r ≡ scanAnswer s c (recordIn s c (now (memory .entry))) (now (rows .entry)) (now (room .entry)) .answer)
-        × Put (now (memory .entry)) (recordAt s c) (recordIn s c (now (memory .entry))) (scanAnswer s c (recordIn s c (now (memory .entry))) (now (rows .entry)) (now (room .entry)) .client) (now (memory .exit))
+        × Scanned s c (now (rows .entry)) (now (room .entry)) (now (memory .entry)) (now (memory .exit))
         × (now (room .exit) ≡ scanAnswer s c (recordIn s c (now (memory .entry))) (now (rows .entry)) (now (room .entry)) .room) ⌝ }
 {
     let part = record_part(s, c, memory.len());
@@ -90,7 +91,7 @@ pub fn to_client(
     out: &mut [u8],
 ) -> ClientAnswer
     ensures { λ r. ⌜ (answered r ≡ clientMessage s c i (recordIn s c (now (memory .entry))) (now (message .entry)) (now (room .entry)) (now (out .entry)) .answer)
-        × Put (now (memory .entry)) (recordAt s c) (recordIn s c (now (memory .entry))) (clientMessage s c i (recordIn s c (now (memory .entry))) (now (message .entry)) (now (room .entry)) (now (out .entry)) .client) (now (memory .exit))
+        × ToClient s c i (now (message .entry)) (now (room .entry)) (now (out .entry)) (now (memory .entry)) (now (memory .exit))
         × (now (room .exit) ≡ clientMessage s c i (recordIn s c (now (memory .entry))) (now (message .entry)) (now (room .entry)) (now (out .entry)) .room)
         × (now (out .exit) ≡ clientMessage s c i (recordIn s c (now (memory .entry))) (now (message .entry)) (now (room .entry)) (now (out .entry)) .out) ⌝ }
 {
@@ -104,7 +105,7 @@ pub fn to_client(
 // Client c's update, carried out at the directory.
 pub fn update(s: Measures, c: usize, memory: &mut [u8], fields: &[u8]) -> Service
     ensures { λ r. ⌜ (served r ≡ directoryUpdate s c (directoryIn s (now (memory .entry))) (now (fields .entry)) .answer)
-        × Put (now (memory .entry)) 0 (directoryIn s (now (memory .entry))) (directoryUpdate s c (directoryIn s (now (memory .entry))) (now (fields .entry)) .table) (now (memory .exit)) ⌝ }
+        × Updates s c (now (fields .entry)) (now (memory .entry)) (now (memory .exit)) ⌝ }
 {
     let part = directory_part(s, memory.len());
     match part {
@@ -128,7 +129,7 @@ pub fn scan(s: Measures, memory: &[u8], room: &mut [u8]) -> Service
 // A message to node i.
 pub fn to_node(s: Measures, i: usize, memory: &mut [u8], message: &[u8], room: &mut [u8]) -> Service
     ensures { λ r. ⌜ (served r ≡ nodeMessage s i (tableIn s i (now (memory .entry))) (now (message .entry)) (now (room .entry)) .answer)
-        × Put (now (memory .entry)) (tableAt s i) (tableIn s i (now (memory .entry))) (nodeMessage s i (tableIn s i (now (memory .entry))) (now (message .entry)) (now (room .entry)) .table) (now (memory .exit))
+        × ToNode s i (now (message .entry)) (now (room .entry)) (now (memory .entry)) (now (memory .exit))
         × (now (room .exit) ≡ nodeMessage s i (tableIn s i (now (memory .entry))) (now (message .entry)) (now (room .entry)) .room) ⌝ }
 {
     let part = table_part(s, i, memory.len());

@@ -6,7 +6,8 @@ ghost use mathlib.Core.Path.{_≡_};
 ghost use Rattle.protocol.specs.ClientEvents.{startDeposit, startReading, updateAnswer, scanAnswer, clientMessage};
 ghost use Rattle.protocol.specs.DirectoryEvents.{directoryUpdate, directoryScan};
 ghost use Rattle.protocol.specs.NodeEvents.{nodeMessage};
-ghost use Rattle.title.specs.Memory.{Put, memoryFresh, directoryIn, tableAt, tableIn, recordAt, recordIn};
+ghost use Rattle.title.specs.Memory.{memoryFresh, directoryIn, tableIn, recordIn};
+ghost use Rattle.title.specs.Service.{Deposits, Reads, Updated, Scanned, ToClient, Updates, ToNode};
 ghost use Rattle.numbers.specs.Code.{measured, code, told};
 
 #[no_mangle]
@@ -37,7 +38,7 @@ pub extern "C" fn title_deposit(
     answer: &mut [u64; 4],
 )
     ensures { λ _. ⌜ (now (answer .exit) ≡ told (startDeposit (measured m n k t f) c (recordIn (measured m n k t f) c (now (memory .entry))) (now (page .entry)) .answer))
-        × Put (now (memory .entry)) (recordAt (measured m n k t f) c) (recordIn (measured m n k t f) c (now (memory .entry))) (startDeposit (measured m n k t f) c (recordIn (measured m n k t f) c (now (memory .entry))) (now (page .entry)) .client) (now (memory .exit)) ⌝ }
+        × Deposits (measured m n k t f) c (now (page .entry)) (now (memory .entry)) (now (memory .exit)) ⌝ }
 {
     *answer = numbers_of(title::title::deposit(Measures { m, n, k, t, f }, c, memory, page));
 }
@@ -55,7 +56,7 @@ pub extern "C" fn title_read(
     answer: &mut [u64; 4],
 )
     ensures { λ _. ⌜ (now (answer .exit) ≡ told (startReading (measured m n k t f) c (recordIn (measured m n k t f) c (now (memory .entry))) (now (room .entry)) .answer))
-        × Put (now (memory .entry)) (recordAt (measured m n k t f) c) (recordIn (measured m n k t f) c (now (memory .entry))) (startReading (measured m n k t f) c (recordIn (measured m n k t f) c (now (memory .entry))) (now (room .entry)) .client) (now (memory .exit))
+        × Reads (measured m n k t f) c (now (room .entry)) (now (memory .entry)) (now (memory .exit))
         × (now (room .exit) ≡ startReading (measured m n k t f) c (recordIn (measured m n k t f) c (now (memory .entry))) (now (room .entry)) .room) ⌝ }
 {
     *answer = numbers_of(title::title::read(Measures { m, n, k, t, f }, c, memory, room));
@@ -74,7 +75,7 @@ pub extern "C" fn title_updated(
     answer: &mut [u64; 4],
 )
     ensures { λ _. ⌜ (now (answer .exit) ≡ told (updateAnswer (measured m n k t f) c (recordIn (measured m n k t f) c (now (memory .entry))) (now (room .entry)) .answer))
-        × Put (now (memory .entry)) (recordAt (measured m n k t f) c) (recordIn (measured m n k t f) c (now (memory .entry))) (updateAnswer (measured m n k t f) c (recordIn (measured m n k t f) c (now (memory .entry))) (now (room .entry)) .client) (now (memory .exit))
+        × Updated (measured m n k t f) c (now (room .entry)) (now (memory .entry)) (now (memory .exit))
         × (now (room .exit) ≡ updateAnswer (measured m n k t f) c (recordIn (measured m n k t f) c (now (memory .entry))) (now (room .entry)) .room) ⌝ }
 {
     *answer = numbers_of(title::title::updated(Measures { m, n, k, t, f }, c, memory, room));
@@ -94,7 +95,7 @@ pub extern "C" fn title_scanned(
     answer: &mut [u64; 4],
 )
     ensures { λ _. ⌜ (now (answer .exit) ≡ told (scanAnswer (measured m n k t f) c (recordIn (measured m n k t f) c (now (memory .entry))) (now (rows .entry)) (now (room .entry)) .answer))
-        × Put (now (memory .entry)) (recordAt (measured m n k t f) c) (recordIn (measured m n k t f) c (now (memory .entry))) (scanAnswer (measured m n k t f) c (recordIn (measured m n k t f) c (now (memory .entry))) (now (rows .entry)) (now (room .entry)) .client) (now (memory .exit))
+        × Scanned (measured m n k t f) c (now (rows .entry)) (now (room .entry)) (now (memory .entry)) (now (memory .exit))
         × (now (room .exit) ≡ scanAnswer (measured m n k t f) c (recordIn (measured m n k t f) c (now (memory .entry))) (now (rows .entry)) (now (room .entry)) .room) ⌝ }
 {
     *answer = numbers_of(title::title::scanned(Measures { m, n, k, t, f }, c, memory, rows, room));
@@ -116,7 +117,7 @@ pub extern "C" fn title_to_client(
     answer: &mut [u64; 4],
 )
     ensures { λ _. ⌜ (now (answer .exit) ≡ told (clientMessage (measured m n k t f) c i (recordIn (measured m n k t f) c (now (memory .entry))) (now (message .entry)) (now (room .entry)) (now (out .entry)) .answer))
-        × Put (now (memory .entry)) (recordAt (measured m n k t f) c) (recordIn (measured m n k t f) c (now (memory .entry))) (clientMessage (measured m n k t f) c i (recordIn (measured m n k t f) c (now (memory .entry))) (now (message .entry)) (now (room .entry)) (now (out .entry)) .client) (now (memory .exit))
+        × ToClient (measured m n k t f) c i (now (message .entry)) (now (room .entry)) (now (out .entry)) (now (memory .entry)) (now (memory .exit))
         × (now (room .exit) ≡ clientMessage (measured m n k t f) c i (recordIn (measured m n k t f) c (now (memory .entry))) (now (message .entry)) (now (room .entry)) (now (out .entry)) .room)
         × (now (out .exit) ≡ clientMessage (measured m n k t f) c i (recordIn (measured m n k t f) c (now (memory .entry))) (now (message .entry)) (now (room .entry)) (now (out .entry)) .out) ⌝ }
 {
@@ -143,7 +144,7 @@ pub extern "C" fn title_update(
     fields: &[u8],
 ) -> u64
     ensures { λ r. ⌜ (r ≡ code (directoryUpdate (measured m n k t f) c (directoryIn (measured m n k t f) (now (memory .entry))) (now (fields .entry)) .answer))
-        × Put (now (memory .entry)) 0 (directoryIn (measured m n k t f) (now (memory .entry))) (directoryUpdate (measured m n k t f) c (directoryIn (measured m n k t f) (now (memory .entry))) (now (fields .entry)) .table) (now (memory .exit)) ⌝ }
+        × Updates (measured m n k t f) c (now (fields .entry)) (now (memory .entry)) (now (memory .exit)) ⌝ }
 {
     service_code(title::title::update(Measures { m, n, k, t, f }, c, memory, fields))
 }
@@ -177,7 +178,7 @@ pub extern "C" fn title_to_node(
     room: &mut [u8],
 ) -> u64
     ensures { λ r. ⌜ (r ≡ code (nodeMessage (measured m n k t f) i (tableIn (measured m n k t f) i (now (memory .entry))) (now (message .entry)) (now (room .entry)) .answer))
-        × Put (now (memory .entry)) (tableAt (measured m n k t f) i) (tableIn (measured m n k t f) i (now (memory .entry))) (nodeMessage (measured m n k t f) i (tableIn (measured m n k t f) i (now (memory .entry))) (now (message .entry)) (now (room .entry)) .table) (now (memory .exit))
+        × ToNode (measured m n k t f) i (now (message .entry)) (now (room .entry)) (now (memory .entry)) (now (memory .exit))
         × (now (room .exit) ≡ nodeMessage (measured m n k t f) i (tableIn (measured m n k t f) i (now (memory .entry))) (now (message .entry)) (now (room .entry)) .room) ⌝ }
 {
     service_code(title::title::to_node(Measures { m, n, k, t, f }, i, memory, message, room))

@@ -3,8 +3,9 @@ use mathlib.Core.Path.{_∙_}
 use mathlib.Core.List.{List, []}
 use Prim.Native.Nat.{ℕ}
 use Rattle.protocol.specs.ClientEvents.{ClientEnd, startDeposit}
+use Rattle.protocol.proofs.LacksLaws.{deposit-lacks}
 use Rattle.client.specs.Answer.{answered}
-use Rattle.client_record.proofs.LacksLaws.{deposit-lacks, brief-lacks, lacking}
+use Rattle.client_record.proofs.BriefLaws.{brief-lacks, lacking}
 use Rattle.client_record.proofs.RecordLaws.{turned-two}
 use Rattle.client_record.proofs.event.deposit.Statement.{statement}
 use Rattle.client_record.proofs.event.deposit.Tie as tie

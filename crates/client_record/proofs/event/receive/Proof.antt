@@ -1,10 +1,11 @@
 use borrow.Author.Needs.{needs}
 use mathlib.Core.Path.{_∙_}
-use mathlib.Core.List.{List, []}
+use mathlib.Core.List.{List}
 use Prim.Native.Nat.{ℕ}
 use Rattle.protocol.specs.ClientEvents.{ClientEnd, clientMessage}
+use Rattle.protocol.proofs.LacksLaws.{message-lacks}
 use Rattle.client.specs.Answer.{answered}
-use Rattle.client_record.proofs.LacksLaws.{message-lacks, brief-lacks, lacking}
+use Rattle.client_record.proofs.BriefLaws.{brief-lacks, lacking}
 use Rattle.client_record.proofs.RecordLaws.{turned-four}
 use Rattle.client_record.proofs.event.receive.Statement.{statement}
 use Rattle.client_record.proofs.event.receive.Tie as tie

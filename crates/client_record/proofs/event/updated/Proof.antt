@@ -3,8 +3,9 @@ use mathlib.Core.Path.{_∙_}
 use mathlib.Core.List.{List, []}
 use Prim.Native.Nat.{ℕ}
 use Rattle.protocol.specs.ClientEvents.{ClientEnd, updateAnswer}
+use Rattle.protocol.proofs.LacksLaws.{updated-lacks}
 use Rattle.client.specs.Answer.{answered}
-use Rattle.client_record.proofs.LacksLaws.{updated-lacks, brief-lacks, lacking}
+use Rattle.client_record.proofs.BriefLaws.{brief-lacks, lacking}
 use Rattle.client_record.proofs.RecordLaws.{turned-three}
 use Rattle.client_record.proofs.event.updated.Statement.{statement}
 use Rattle.client_record.proofs.event.updated.Tie as tie

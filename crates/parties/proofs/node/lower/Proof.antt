@@ -1,6 +1,5 @@
 use borrow.Author.Needs.{needs}
 use mathlib.Core.Path.{_∙_}
-use native.Mathlib.Omega.{arith}
 use Rattle.records.proofs.SpliceLaws.{splice-self, lowered}
 use Rattle.parties.proofs.node.lower.Statement.{statement}
 use Rattle.parties.proofs.node.lower.Tie as tie
@@ -8,7 +7,7 @@ use Rattle.parties.proofs.node.lower.Tie as tie
 returns : tie.Need-returns
 returns c =
     let a = c .before .before .args in
-    rw (c .if1 .taken) (splice-self (a .t .now) (a .to) (a .z) (omega arith))
+    rw (c .if1 .taken) (splice-self (a .t .now) (a .to) (a .z))
 
 add-move-down : tie.Need-add-move-down
 add-move-down c = search needs

@@ -2,7 +2,7 @@ use borrow.Author.Needs.{needs}
 use mathlib.Core.Path.{ap, _∙_}
 use mathlib.Core.Bool.{not}
 use native.Mathlib.Omega.{arith}
-use Rattle.records.proofs.PositionLaws.{place-less}
+use Rattle.records.proofs.SizeLaws.{below-rows}
 use Rattle.parties.proofs.SeekLaws.{stands-none, stands-here}
 use Rattle.parties.proofs.node.stands.Statement.{statement}
 use Rattle.parties.proofs.node.stands.Tie as tie
@@ -15,17 +15,17 @@ returns c =
 mul-version-at : tie.Need-mul-version-at
 mul-version-at c =
     let a = c .before .before .args in
-    omega (arith, place-less (a .j) (a .count) (a .z) (c .if1 .left))
+    omega (arith, below-rows (a .j) (a .count) (a .z) (c .if1 .left))
 
 add-version-at : tie.Need-add-version-at
 add-version-at c =
     let a = c .before .before .args in
-    omega (arith, place-less (a .j) (a .count) (a .z) (c .if1 .left))
+    omega (arith, below-rows (a .j) (a .count) (a .z) (c .if1 .left))
 
 version-at-requires : tie.Need-version-at-requires
 version-at-requires c κs =
     let a = c .before .before .args in
-    omega (arith, place-less (a .j) (a .count) (a .z) (c .if1 .left))
+    omega (arith, below-rows (a .j) (a .count) (a .z) (c .if1 .left))
 
 below-requires : tie.Need-below-requires
 below-requires c κs = search needs

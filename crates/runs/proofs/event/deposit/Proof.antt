@@ -1,9 +1,10 @@
 use borrow.Author.Needs.{needs}
 use mathlib.Core.Path.{refl, sym}
 use lib.ListN.{length}
+use Rattle.protocol.proofs.DepositStartLaws.{deposit-room}
 use Rattle.runs.specs.Happens.{Capable, Happens}
 use Rattle.runs.specs.Acts.{Acts}
-use Rattle.runs.proofs.GoesLaws.{deposit-room, deposit-goes}
+use Rattle.runs.proofs.GoesLaws.{deposit-goes}
 use Rattle.runs.proofs.EventLaws.{ready-yes, ready-no}
 use Rattle.runs.proofs.event.deposit.Statement.{statement}
 use Rattle.runs.proofs.event.deposit.Tie as tie

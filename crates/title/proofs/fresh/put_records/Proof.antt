@@ -3,7 +3,8 @@ use Prim.Native.Nat.{ℕ, _+_, _-_, _*_, _≤_}
 use native.Mathlib.Omega.{arith}
 use lib.ListN.{length}
 use Rattle.protocol.specs.Client.{writeClient, freshClient}
-use Rattle.title.proofs.FreshMemoryLaws.{Filled, filled-none, filled-next, filled-more, filled-all, record-long}
+use Rattle.protocol.proofs.FreshTableLaws.{client-long}
+use Rattle.title.proofs.FreshMemoryLaws.{Filled, filled-none, filled-next, filled-more, filled-all}
 use Rattle.title.proofs.fresh.put_records.Statement.{statement}
 use Rattle.title.proofs.fresh.put_records.Tie as tie
 
@@ -43,7 +44,7 @@ loop-again c =
     let p = c .before .before .before .before .before .before .before .pre in
     let h : a .from + a .s .m * a .size ≤ length (a .memory .now) = omega (arith, ap (λ (k : ℕ). a .s .m * k) (p .1), p .2) in
     let l = c .before .before .before .before .before .loop in
-    filled-more (a .memory .now) (a .from) (a .size) (a .s .m) (writeClient (a .s) (freshClient (a .s))) (record-long (a .s) (p .0) ∙ sym (p .1)) h (l .at) (l .i) (l .memory) _ (l .inv) (c .before .before .before .before .loop-test .taken) (c .before .before .put-record .ensures)
+    filled-more (a .memory .now) (a .from) (a .size) (a .s .m) (writeClient (a .s) (freshClient (a .s))) (client-long (a .s) (p .0) ∙ sym (p .1)) h (l .at) (l .i) (l .memory) _ (l .inv) (c .before .before .before .before .loop-test .taken) (c .before .before .put-record .ensures)
 
 same-length : tie.Need-same-length Inv-loop μ-loop
 same-length c = c .before .loop .inv .long

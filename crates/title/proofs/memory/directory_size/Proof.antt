@@ -2,7 +2,7 @@ use borrow.Author.Needs.{needs}
 use mathlib.Core.Path.{ap}
 use Prim.Native.Nat.{ℕ, _*_}
 use native.Mathlib.Omega.{arith}
-use Rattle.title.proofs.MemoryLaws.{sizes}
+use Rattle.title.proofs.MemoryLaws.{memory-bound}
 use Rattle.title.proofs.memory.directory_size.Statement.{statement}
 use Rattle.title.proofs.memory.directory_size.Tie as tie
 
@@ -10,7 +10,7 @@ row-size-requires : tie.Need-row-size-requires
 row-size-requires c κs = search needs
 
 mul-result : tie.Need-mul-result
-mul-result c = let z = sizes (c .before .before .args .s) (c .before .before .pre) in omega (arith, z .memory, ap (λ (x : ℕ). c .before .before .args .s .m * x) (c .before .row-size .ensures))
+mul-result c = omega (arith, memory-bound (c .before .before .args .s) (c .before .before .pre), ap (λ (x : ℕ). c .before .before .args .s .m * x) (c .before .row-size .ensures))
 
 returns : tie.Need-returns
 returns c = ap (λ (x : ℕ). c .before .before .args .s .m * x) (c .before .row-size .ensures)

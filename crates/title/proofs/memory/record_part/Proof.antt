@@ -8,7 +8,7 @@ use Rattle.protocol.specs.Measures.{passes}
 use Rattle.protocol.specs.Client.{clientSize}
 use Rattle.title.specs.Memory.{recordAt}
 use Rattle.title.specs.Part.{measures, short}
-use Rattle.title.proofs.MemoryLaws.{sizes, record-within, stands}
+use Rattle.title.proofs.MemoryLaws.{memory-bound, record-within, stands}
 use Rattle.title.proofs.memory.record_part.Statement.{statement}
 use Rattle.title.proofs.memory.record_part.Tie as tie
 
@@ -37,7 +37,7 @@ add-t11 : tie.Need-add-t11
 add-t11 c =
     let s = c .before .before .before .before .before .before .args .s in
     let h = measured (c .before .before .before .before) in
-    omega (arith, sizes s h .memory, record-within s h (c .before .before .before .before .before .before .args .c), c .before .record-at .ensures, c .record-size .ensures)
+    omega (arith, memory-bound s h, record-within s h (c .before .before .before .before .before .before .args .c), c .before .record-at .ensures, c .record-size .ensures)
 
 returns-3 : tie.Need-returns-3
 returns-3 c =

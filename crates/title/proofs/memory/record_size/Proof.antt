@@ -1,6 +1,6 @@
 use borrow.Author.Needs.{needs}
 use native.Mathlib.Omega.{arith}
-use Rattle.title.proofs.MemoryLaws.{sizes}
+use Rattle.client.proofs.ClientFormLaws.{sizes}
 use Rattle.title.proofs.memory.record_size.Statement.{statement}
 use Rattle.title.proofs.memory.record_size.Tie as tie
 

@@ -8,7 +8,7 @@ use Rattle.protocol.specs.Measures.{passes}
 use Rattle.protocol.specs.NodeEvents.{tableSize}
 use Rattle.title.specs.Memory.{tableAt}
 use Rattle.title.specs.Part.{measures, short}
-use Rattle.title.proofs.MemoryLaws.{sizes, table-within, stands}
+use Rattle.title.proofs.MemoryLaws.{memory-bound, table-within, stands}
 use Rattle.title.proofs.memory.table_part.Statement.{statement}
 use Rattle.title.proofs.memory.table_part.Tie as tie
 
@@ -37,7 +37,7 @@ add-t11 : tie.Need-add-t11
 add-t11 c =
     let s = c .before .before .before .before .before .before .args .s in
     let h = measured (c .before .before .before .before) in
-    omega (arith, sizes s h .memory, table-within s h (c .before .before .before .before .before .before .args .i), c .before .table-at .ensures, c .table-size .ensures)
+    omega (arith, memory-bound s h, table-within s h (c .before .before .before .before .before .before .args .i), c .before .table-at .ensures, c .table-size .ensures)
 
 returns-3 : tie.Need-returns-3
 returns-3 c =

@@ -1,6 +1,6 @@
 use borrow.Author.Needs.{needs}
 use native.Mathlib.Omega.{arith}
-use Rattle.title.proofs.MemoryLaws.{sizes}
+use Rattle.parties.proofs.NodeSizeLaws.{sizes}
 use Rattle.title.proofs.memory.table_size.Statement.{statement}
 use Rattle.title.proofs.memory.table_size.Tie as tie
 
@@ -11,13 +11,13 @@ mul-result-2 : tie.Need-mul-result-2
 mul-result-2 c = let z = sizes (c .before .args .s) (c .before .pre) in omega (arith, z .squares)
 
 add-result : tie.Need-add-result
-add-result c = let z = sizes (c .before .before .args .s) (c .before .before .pre) in omega (arith, z .bytes)
+add-result c = let z = sizes (c .before .before .args .s) (c .before .before .pre) in omega (arith, z .place)
 
 mul-result-3 : tie.Need-mul-result-3
-mul-result-3 c = let z = sizes (c .before .before .args .s) (c .before .before .pre) in omega (arith, z .held)
+mul-result-3 c = let z = sizes (c .before .before .args .s) (c .before .before .pre) in omega (arith, z .table)
 
 add-result-2 : tie.Need-add-result-2
-add-result-2 c = let z = sizes (c .before .before .args .s) (c .before .before .pre) in omega (arith, z .held)
+add-result-2 c = let z = sizes (c .before .before .args .s) (c .before .before .pre) in omega (arith, z .table)
 
 returns : tie.Need-returns
 returns c = search needs

@@ -41,7 +41,7 @@ returns c =
     let a = c .before .before .before .before .before .before .before .args in
     let n = c .before .part .given .0 .0 in
     let r = placed-refused (a .s) (length (a .memory .now)) (tableAt (a .s) (a .i)) (tableSize (a .s)) (c .before .before .before .table-part .result) (c .before .before .before .table-part .ensures) n (c .before .part .given .1) in
-    node-refused (a .s) (a .memory .now) (a .i) (number n) r (a .message .now) (a .room .now)
+    node-refused (a .s) (a .memory .now) (number n) r (a .i) (a .message .now) (a .room .now)
 
 same-length : tie.Need-same-length
 same-length c = search needs

@@ -40,7 +40,7 @@ returns c =
     let a = c .before .before .before .before .before .before .args in
     let n = c .before .part .given .0 .0 in
     let r = placed-refused (a .s) (length (a .memory .now)) 0 (directorySize (a .s)) (c .before .before .before .directory-part .result) (c .before .before .before .directory-part .ensures) n (c .before .part .given .1) in
-    update-refused (a .s) (a .memory .now) (a .c) (number n) r (a .fields .now)
+    update-refused (a .s) (a .memory .now) (number n) r (a .c) (a .fields .now)
 
 same-length : tie.Need-same-length
 same-length c = search needs

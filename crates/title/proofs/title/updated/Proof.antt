@@ -3,8 +3,8 @@ use mathlib.Core.List.{[]}
 use lib.ListN.{length}
 use Rattle.protocol.specs.Client.{clientSize}
 use Rattle.protocol.specs.ClientEvents.{updateAnswer}
+use Rattle.protocol.proofs.LacksLaws.{updated-lacks}
 use Rattle.records.specs.Answer.{number}
-use Rattle.client_record.proofs.LacksLaws.{updated-lacks}
 use Rattle.title.specs.Memory.{recordAt}
 use Rattle.title.specs.Part.{Stands}
 use Rattle.title.proofs.MemoryLaws.{placed-within, placed-refused, part-order}

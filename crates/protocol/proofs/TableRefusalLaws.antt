@@ -1,4 +1,4 @@
--- The directory's or a node's event that is refused leaves the table as it was, and a node's number out of bounds is refused.
+-- An event at the directory or a node that is refused leaves the table as it was, and a node's number out of bounds is refused.
 use mathlib.Core.Path.{_≡_, refl}
 use mathlib.Core.Bool.{Bool, true, false, cond, _&&_}
 use mathlib.Core.List.{List, []}
