@@ -350,7 +350,7 @@ module _ (t : List ℕ) (b : Bytes t) (v : Version) (n j : ℕ) (e : j ≡ rank 
       let q = insert-old t v n j e h in
       record {
         many = sym (ap length q ∙ from-length (versionAt t) 5 1 n);
-        laid = splice-self t 1 (n * 5) (omega arith) ∙ ap (splice t 1) (run-bytes t b 1 n (omega arith) ∙ ap (writeMany writeVersion) (sym q));
+        laid = splice-self t 1 (n * 5) ∙ ap (splice t 1) (run-bytes t b 1 n (omega arith) ∙ ap (writeMany writeVersion) (sym q));
       }
 
   pub added-new : (ltb j n && not (below v (versionAt t (1 + j * 5)))) ≡ false → (u : List ℕ)

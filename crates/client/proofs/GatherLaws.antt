@@ -102,7 +102,7 @@ module _ (n map : ℕ) (t : List ℕ) (at : ℕ) (ht : at + 7 + 32 * n ≤ lengt
         within = omega arith;
         source = omega arith;
         target = omega (arith, ap length (gathered-none n map t at));
-        moved = splice-self t (at + 7) 0 (omega arith) ∙ ap (splice t (at + 7)) (sym (gathered-none n map t at));
+        moved = splice-self t (at + 7) 0 ∙ ap (splice t (at + 7)) (sym (gathered-none n map t at));
       }
 
   module _ (u : List ℕ) (from to i : ℕ) (w : Gathered n map t at u from to i) where
@@ -200,7 +200,7 @@ module _ (s : Measures) (h : passes s ≡ true) (map : ℕ) (b : map < 2 ^ s .n)
         ev ∙ ap (λ (l : List ℕ). paste l (at + 5) y 2) eu ∙ paste-all (splice t (at + 7) digests) (at + 5) y 2 (sym ly)
         ∙ splice-before t (at + 5) (at + 7) y digests (omega arith) (omega arith)
         ∙ ap (λ (l : List ℕ). splice l (at + 5) (y ++ digests))
-        (splice-self t at 5 (omega arith) ∙ ap (splice t at) (version-bytes t at bt (omega arith)))
+        (splice-self t at 5 ∙ ap (splice t at) (version-bytes t at bt (omega arith)))
         ∙ splice-next t at x (y ++ digests) (at + 5) (omega arith) (omega arith)
         ∙ ap (splice t at) pointer-written
         in

@@ -106,7 +106,7 @@ module _ (s : Measures) (area : List ℕ) (b : Bytes area) (o : isSome (readReta
   pub laid-none : (room : List ℕ) (at size : ℕ) → size ≡ pointerSize s → at ≤ length room → Laid s area room at room at size 0
   unfolding writeMany
   laid-none room at size e h =
-      record { within = omega arith; source = omega arith; target = omega arith; laid = splice-self room at 0 (omega arith) }
+      record { within = omega arith; source = omega arith; target = omega arith; laid = splice-self room at 0 }
 
   module _ (room : List ℕ) (at : ℕ) (fits : at + s .m * pointerSize s ≤ length room) (u : List ℕ) (end from q : ℕ) (w : Laid s area room at u end from q) where
     pub laid-length : length u ≡ length room

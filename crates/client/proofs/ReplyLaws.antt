@@ -39,7 +39,7 @@ use Rattle.client.specs.declared.reply.Standing.{Standing}
 use Rattle.client.specs.Answer.{answered}
 use Rattle.records.specs.Places.{numberAt}
 use Rattle.client.specs.Record.{recordOf, workAt}
-use Rattle.client.specs.Reply.{repliedEnd, mapsAt, lengthsAt, standingAt, countsAt, digestPlace, matchesAt, wentOn, cleared, mapped, areaPut, piecePut, lengthsWith}
+use Rattle.client.specs.Reply.{repliedEnd, mapsAt, standingAt, countsAt, digestPlace, matchesAt, wentOn, cleared, mapped, areaPut, piecePut, lengthsWith}
 use Rattle.client.proofs.ClientFormLaws.{sizes}
 use Rattle.client.proofs.ClientRecordLaws.{Shown, written-parts, area-length, idle-work, turned-written}
 use Rattle.client.proofs.GateLaws.{work-within, Opened, found, found-reads, found-shows}
@@ -47,6 +47,10 @@ use Rattle.client.proofs.MatchLaws.{rank-below, digest-found}
 use Rattle.records.proofs.PlaceLaws.{number-there, version-there}
 use Rattle.records.proofs.SpliceLaws.{paste-all, splice-parts, drop-past, paste-past, many-part, many-put}
 use Rattle.client.proofs.StepLaws.{fetchesOf, fetching-step}
+
+-- where the lengths stand, after the maps; then the areas
+abbrev pub lengthsAt : Measures → ℕ
+lengthsAt s = mapsAt s + 4
 
 -- ---- bytes at places
 

@@ -18,7 +18,7 @@ use Rattle.client.specs.Draw.{rowsOf}
 
 -- the clients of a bit map are those whose reading is noticed
 abbrev pub Notices : Measures → ℕ → Retained → List Row → ℕ → Type 0
-Notices s own x rows map = (q : ℕ) → q < s .m → stands map (q + 1) ≡ noticed own (clientOf 0 (record { 0 = 0 }) x Work.idle) rows q
+Notices s own x rows map = (q : ℕ) → q < s .m → stands map (q + 1) ≡ noticed own (clientOf (record { 0 = 0 }) x Work.idle) rows q
 
 -- what is frozen and reserved for client q after it, where v is the new version
 abbrev pub frozenNow : ℕ → Retained → Version → ℕ → Version

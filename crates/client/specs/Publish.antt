@@ -22,7 +22,7 @@ pointerFrom s map t at = pointerOf (versionAt t at) map (digestsIn (s .n) t at)
 
 -- the record of a deposit's update, by what the client retains
 abbrev pub updateOf : Retained → Pointer → List ℕ
-updateOf x p = writeRecord (depositFields (clientOf 0 (record { 0 = 0 }) x idle) p)
+updateOf x p = writeRecord (depositFields (clientOf (record { 0 = 0 }) x idle) p)
 
 -- what the acknowledgement of a version's store does to a client's record and room
 abbrev pub storedEnd : Measures → ℕ → Version → List ℕ → List ℕ → List ℕ → ClientEnd

@@ -31,12 +31,9 @@ repliedEnd s i v x client room out = onClient s client room out (readClient s cl
 
 -- ---- what the code reads of a reading's work
 
--- where the maps of counted and of matching nodes stand, after the pointer; then the lengths, and the areas
+-- where the maps of counted and of matching nodes stand, after the pointer
 abbrev pub mapsAt : Measures → ℕ
 mapsAt s = workAt s + pointerSize s
-
-abbrev pub lengthsAt : Measures → ℕ
-lengthsAt s = mapsAt s + 4
 
 -- the picked version and its nodes at a place, the two maps at another
 abbrev pub standingAt : List ℕ → ℕ → ℕ → Standing

@@ -2,7 +2,6 @@ mod acknowledge;
 pub mod answer;
 mod choose;
 mod draw;
-pub mod event;
 mod free;
 mod freeze;
 mod gate;

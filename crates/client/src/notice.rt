@@ -54,7 +54,7 @@ fn kept_index(s: Measures, area: &[u8], q: usize) -> ReadingIndex
 fn notices_client(s: Measures, own: usize, size: usize, area: &[u8], rows: &[u8], q: usize) -> bool
     requires { ⌜ (passes s ≡ true) × (isSome (readRetained s (now area)) ≡ true) × (workAt s ≤ length (now area)) × (size ≡ rowSize s)
         × (s .m * rowSize s ≤ length (now rows)) × (isSome (readDirectory s (now rows)) ≡ true) × (q < s .m) ⌝ }
-    ensures { λ r. ⌜ r ≡ noticed own (clientOf 0 (record { 0 = 0 }) (retainedIn s (now (area .entry))) Work.idle) (rowsOf (readDirectory s (now (rows .entry)))) q ⌝ }
+    ensures { λ r. ⌜ r ≡ noticed own (clientOf (record { 0 = 0 }) (retainedIn s (now (area .entry))) Work.idle) (rowsOf (readDirectory s (now (rows .entry)))) q ⌝ }
 {
     let kept = kept_index(s, area, q);
     let shown = shown_index(s, size, rows, q);

@@ -1,7 +1,7 @@
-// Events at a client through `client::event`: a local phase is lent to it, and goes back with the answer as from `client::turn`.
-use client::event;
+// Events at a client through `client_event::event`: a local phase is lent to it, and goes back with the answer as from `client::turn`.
 use client::phase::Phase;
 use client::phase::Turned;
+use client_event::event;
 use protocol::measures::Measures;
 
 pub fn fresh(mut p: Phase, s: Measures, area: &mut [u8]) -> Turned {

@@ -4,7 +4,7 @@ use native.Mathlib.Omega.{arith}
 use borrow.Author.Tests.{not-true, not-false}
 use Rattle.coding.proofs.BytesLaws.{stride}
 use Rattle.records.specs.Places.{rank}
-use Rattle.records.proofs.PositionLaws.{place-less}
+use Rattle.records.proofs.SizeLaws.{below-rows}
 use Rattle.parties.proofs.SeekLaws.{rank-end, rank-found, rank-on}
 use Rattle.client.proofs.free.seek.Statement.{statement}
 use Rattle.client.proofs.free.seek.Tie as tie
@@ -27,7 +27,7 @@ loop-holds c =
 version-at-requires : tie.Need-version-at-requires Inv-loop μ-loop
 version-at-requires c κs =
     let a = c .before .before .before .args in
-    omega (arith, place-less (c .before .loop .j) (a .count) 5 (c .loop-test .taken))
+    omega (arith, below-rows (c .before .loop .j) (a .count) 5 (c .loop-test .taken))
 
 below-requires : tie.Need-below-requires Inv-loop μ-loop
 below-requires c κs =
@@ -46,7 +46,7 @@ returns c =
 add-at : tie.Need-add-at Inv-loop μ-loop
 add-at c =
     let a = c .before .before .before .before .before .before .args in
-    omega (arith, place-less (c .before .before .before .before .loop .j) (a .count) 5 (c .before .before .before .loop-test .taken))
+    omega (arith, below-rows (c .before .before .before .before .loop .j) (a .count) 5 (c .before .before .before .loop-test .taken))
 
 add-j : tie.Need-add-j Inv-loop μ-loop
 add-j c =

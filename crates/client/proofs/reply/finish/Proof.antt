@@ -7,9 +7,8 @@ use lib.Seq.{paste}
 use Rattle.coding.specs.Answer.{joinOutcome}
 use Rattle.coding.specs.Join.{JoinEnd}
 use Rattle.client.specs.Record.{recordOf}
-use Rattle.client.specs.Reply.{lengthsAt}
 use Rattle.client.proofs.ClientFormLaws.{sizes}
-use Rattle.client.proofs.ReplyLaws.{matches-short, lengths-within, clear-done, page-end, refused-end, join-told}
+use Rattle.client.proofs.ReplyLaws.{lengthsAt, matches-short, lengths-within, clear-done, page-end, refused-end, join-told}
 use Rattle.client.proofs.StartLaws.{ends-four}
 use Rattle.client.proofs.GateLaws.{work-within, Opened}
 use borrow.Author.Needs.{needs}

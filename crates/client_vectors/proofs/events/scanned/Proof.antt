@@ -1,5 +1,5 @@
 -- `client_vectors::events::scanned` is safe and ends: a walk of its MIR, by hand. The struct in its local is lent for a lifetime that is made for the call, `event::scanned` is called, the lifetime is ended, and the struct is taken back at its last value.
--- All that the proof knows of `event::scanned` is that it meets its contract, and of what that says nothing is used. Assumes nothing.
+-- All that the proof knows of `event::scanned` is that it meets its contract, and of what that says nothing is used.
 use mathlib.Core.Path.{_≡_, refl, ap}
 use Prim.Native.Nat.{ℕ, _<_, _^_}
 use mathlib.Core.List.{[], _∷_, List}
@@ -53,10 +53,10 @@ use Rattle.client.proofs.answer.ClientAnswer as N
 use Rattle.client.proofs.answer.ClientAnswer.Laws as N′
 use Rattle.client.proofs.phase.Turned as T
 use Rattle.client.proofs.phase.Turned.Laws as T′
-use Rattle.client.proofs.event.scanned as callee
-use Rattle.client.proofs.event.scanned.Symbol as callee-def
-use Rattle.client.proofs.event.scanned.Symbol.{name as #event}
-use Rattle.client.proofs.event.scanned.Met as callee-thm
+use Rattle.client_event.proofs.event.scanned as callee
+use Rattle.client_event.proofs.event.scanned.Symbol as callee-def
+use Rattle.client_event.proofs.event.scanned.Symbol.{name as #event}
+use Rattle.client_event.proofs.event.scanned.Met as callee-thm
 use Rattle.client_vectors.proofs.Loan.{structVal, StructIs, AnswerIs, both, both-is, answer-at, cell, Lies, cell-in, cell-out}
 use Rattle.client_vectors.proofs.events.scanned.Key.{name as #lent}
 use Rattle.client_vectors.proofs.events.scanned as lent
@@ -180,4 +180,4 @@ scanned-spec 𝓤 H 𝓜 𝓖 𝓡 =
     entered 𝓤 H (tripleOf 𝓤 H (𝓖 .A) lent.signature (lent.spec 𝓤 H (𝓖 .A) (𝓜 .mem) (𝓡 .run)))
     (tables 𝓤 H 𝓜 𝓡 code.env .C) (tables 𝓤 H 𝓜 𝓡 code.env .Λ) #lent code.function (code.unfolded 𝓤 H 𝓜 𝓡)
     (lent-meets 𝓤 H (𝓖 .A) (givenOf 𝓤 H 𝓜 𝓖) (𝓜 .mem) (𝓡 .run) (tablesOf 𝓤 H 𝓜 (tables 𝓤 H 𝓜 𝓡 code.env))
-    (cited 𝓤 H (Callee 𝓤 H (𝓖 .A) (𝓜 .mem) (𝓡 .run)) 𝓜 𝓡 code.env #event callee-def.routine code.calls-client·event·scanned (callee-thm.met 𝓤 H 𝓜 𝓖 𝓡)))
+    (cited 𝓤 H (Callee 𝓤 H (𝓖 .A) (𝓜 .mem) (𝓡 .run)) 𝓜 𝓡 code.env #event callee-def.routine code.calls-client-event·event·scanned (callee-thm.met 𝓤 H 𝓜 𝓖 𝓡)))

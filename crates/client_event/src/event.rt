@@ -1,17 +1,17 @@
 // Events at a client, whose phase is lent.
-use crate::answer::ClientAnswer;
-use crate::phase::Phase;
-use crate::turn::fresh_client;
-use crate::turn::message;
-use crate::turn::scan_answer;
-use crate::turn::start_deposit;
-use crate::turn::start_reading;
-use crate::turn::update_answer;
+use client::answer::ClientAnswer;
+use client::phase::Phase;
+use client::turn::fresh_client;
+use client::turn::message;
+use client::turn::scan_answer;
+use client::turn::start_deposit;
+use client::turn::start_reading;
+use client::turn::update_answer;
 use protocol::measures::Measures;
 ghost use mathlib.Core.Path.{_≡_};
 ghost use Rattle.protocol.specs.ClientEvents.{clientFresh, startDeposit, startReading, updateAnswer, scanAnswer, clientMessage};
 ghost use Rattle.client.specs.Answer.{answered};
 ghost use Rattle.client.specs.Record.{recordOf};
 
 // A fresh record is written.
 pub fn fresh(p: &mut Phase, s: Measures, area: &mut [u8]) -> ClientAnswer

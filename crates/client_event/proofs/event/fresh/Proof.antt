@@ -1,5 +1,5 @@
--- `client::fresh` meets its contract: a walk of its MIR, by hand. The borrow is opened, the struct is copied out of it, `fresh_client` is called by value, the new struct is stored, and the borrow is closed.
--- All that the proof knows of `fresh_client` is that it meets its contract. Assumes nothing.
+-- `event::fresh` meets its contract: a walk of its MIR, by hand. The borrow is opened, the struct is copied out of it, `fresh_client` is called by value, the new struct is stored, and the borrow is closed.
+-- All that the proof knows of `fresh_client` is that it meets its contract.
 use mathlib.Core.Path.{_≡_, refl, ap}
 use Prim.Native.Nat.{ℕ}
 use mathlib.Core.List.{[], _∷_, List}
@@ -41,27 +41,27 @@ use denote.Triple.Walked.{says, Stays, stay-ref, stay-none, gave-slice, walkOf, 
 use denote.Exit.{yes}
 use denote.Triple.Clauses.{ensured, lasts}
 use Rattle.protocol.specs.ClientEvents.{clientFresh}
 use Rattle.client.specs.Answer.{answered}
 use Rattle.client.specs.Record.{recordOf}
 use Rattle.client.specs.declared.phase.Phase.{Phase}
 use Rattle.client.specs.declared.phase.Turned.{Turned}
 use Rattle.protocol.specs.declared.measures.Measures.{Measures}
 use Rattle.protocol.proofs.measures.Measures as X0
 use Rattle.protocol.proofs.measures.Measures.Laws as X0′
 use Rattle.client.proofs.phase.Phase as S
 use Rattle.client.proofs.phase.Phase.Laws as S′
 use Rattle.client.proofs.answer.ClientAnswer as N
 use Rattle.client.proofs.answer.ClientAnswer.Laws as N′
 use Rattle.client.proofs.phase.Turned as T
 use Rattle.client.proofs.phase.Turned.Laws as T′
 use Rattle.client.proofs.turn.fresh_client as callee
 use Rattle.client.proofs.turn.fresh_client.Symbol as callee-def
 use Rattle.client.proofs.turn.fresh_client.Symbol.{name as #client·fresh-client}
 use Rattle.client.proofs.turn.fresh_client.Met as callee-thm
-use Rattle.client.proofs.event.fresh.Key.{name as #client·fresh}
-use Rattle.client.proofs.event.fresh as event
-use Rattle.client.proofs.event.fresh.Statement as stated
-use Rattle.client.proofs.event.fresh.Code as code
+use Rattle.client_event.proofs.event.fresh.Key.{name as #event·fresh}
+use Rattle.client_event.proofs.event.fresh as event
+use Rattle.client_event.proofs.event.fresh.Statement as stated
+use Rattle.client_event.proofs.event.fresh.Code as code
 
 abbrev stayed : Stays (event.ended .signature .params) (event.ended .kept)
 stayed = (stay-ref (0 ∷ []) tt (plain (λ _. S.the-row)), (stay-none (λ _. X0.the-row) yes, (gave-slice (1 ∷ []) tt (plain (λ _. u8)), tt)))
@@ -169,6 +169,6 @@ pub fresh-spec : {M : Type 1} → stated.statement M
 unfolding code.routine tablesOf
 fresh-spec 𝓤 H 𝓜 𝓖 𝓡 =
     entered 𝓤 H (tripleOf 𝓤 H (𝓖 .A) event.signature (event.spec 𝓤 H (𝓖 .A) (𝓜 .mem) (𝓡 .run)))
-    (tables 𝓤 H 𝓜 𝓡 code.env .C) (tables 𝓤 H 𝓜 𝓡 code.env .Λ) #client·fresh code.function (code.unfolded 𝓤 H 𝓜 𝓡)
+    (tables 𝓤 H 𝓜 𝓡 code.env .C) (tables 𝓤 H 𝓜 𝓡 code.env .Λ) #event·fresh code.function (code.unfolded 𝓤 H 𝓜 𝓡)
     (event-meets 𝓤 H (𝓖 .A) (givenOf 𝓤 H 𝓜 𝓖) (𝓜 .mem) (𝓡 .run) (tablesOf 𝓤 H 𝓜 (tables 𝓤 H 𝓜 𝓡 code.env))
     (cited 𝓤 H (Callee 𝓤 H (𝓖 .A) (𝓜 .mem) (𝓡 .run)) 𝓜 𝓡 code.env #client·fresh-client callee-def.routine code.calls-client·turn·fresh-client (callee-thm.met 𝓤 H 𝓜 𝓖 𝓡)))

@@ -1,5 +1,5 @@
--- `client::receive` meets its contract: a walk of its MIR, by hand. The borrow is opened, the struct is copied out of it, `message` is called by value, the new struct is stored, and the borrow is closed.
--- All that the proof knows of `message` is that it meets its contract. Assumes nothing.
+-- `event::receive` meets its contract: a walk of its MIR, by hand. The borrow is opened, the struct is copied out of it, `message` is called by value, the new struct is stored, and the borrow is closed.
+-- All that the proof knows of `message` is that it meets its contract.
 use mathlib.Core.Path.{_≡_, refl, ap}
 use Prim.Native.Nat.{ℕ, _<_, _^_}
 use mathlib.Core.List.{[], _∷_, List}
@@ -42,27 +42,27 @@ use denote.Triple.Walked.{says, Stays, stay-ref, stay-none, stay-none-slice, gav
 use denote.Exit.{yes}
 use denote.Triple.Clauses.{ensured, lasts}
 use Rattle.protocol.specs.ClientEvents.{clientMessage}
 use Rattle.client.specs.Answer.{answered}
 use Rattle.client.specs.Record.{recordOf}
 use Rattle.client.specs.declared.phase.Phase.{Phase}
 use Rattle.client.specs.declared.phase.Turned.{Turned}
 use Rattle.protocol.specs.declared.measures.Measures.{Measures}
 use Rattle.protocol.proofs.measures.Measures as X0
 use Rattle.protocol.proofs.measures.Measures.Laws as X0′
 use Rattle.client.proofs.phase.Phase as S
 use Rattle.client.proofs.phase.Phase.Laws as S′
 use Rattle.client.proofs.answer.ClientAnswer as N
 use Rattle.client.proofs.answer.ClientAnswer.Laws as N′
 use Rattle.client.proofs.phase.Turned as T
 use Rattle.client.proofs.phase.Turned.Laws as T′
 use Rattle.client.proofs.turn.message as callee
 use Rattle.client.proofs.turn.message.Symbol as callee-def
 use Rattle.client.proofs.turn.message.Symbol.{name as #client·message}
 use Rattle.client.proofs.turn.message.Met as callee-thm
-use Rattle.client.proofs.event.receive.Key.{name as #client·receive}
-use Rattle.client.proofs.event.receive as event
-use Rattle.client.proofs.event.receive.Statement as stated
-use Rattle.client.proofs.event.receive.Code as code
+use Rattle.client_event.proofs.event.receive.Key.{name as #event·receive}
+use Rattle.client_event.proofs.event.receive as event
+use Rattle.client_event.proofs.event.receive.Statement as stated
+use Rattle.client_event.proofs.event.receive.Code as code
 
 abbrev stayed : Stays (event.ended .signature .params) (event.ended .kept)
 stayed = (stay-ref (0 ∷ []) tt (plain (λ _. S.the-row)), (stay-none (λ _. X0.the-row) yes, (stay-none (λ _. usize) yes, (stay-none (λ _. usize) yes, (gave-slice (1 ∷ []) tt (plain (λ _. u8)), (stay-none-slice (2 ∷ []) tt (plain (λ _. u8)) yes, (gave-slice (3 ∷ []) tt (plain (λ _. u8)), (gave-slice (4 ∷ []) tt (plain (λ _. u8)), tt))))))))
@@ -192,6 +192,6 @@ pub receive-spec : {M : Type 1} → stated.statement M
 unfolding code.routine tablesOf
 receive-spec 𝓤 H 𝓜 𝓖 𝓡 =
     entered 𝓤 H (tripleOf 𝓤 H (𝓖 .A) event.signature (event.spec 𝓤 H (𝓖 .A) (𝓜 .mem) (𝓡 .run)))
-    (tables 𝓤 H 𝓜 𝓡 code.env .C) (tables 𝓤 H 𝓜 𝓡 code.env .Λ) #client·receive code.function (code.unfolded 𝓤 H 𝓜 𝓡)
+    (tables 𝓤 H 𝓜 𝓡 code.env .C) (tables 𝓤 H 𝓜 𝓡 code.env .Λ) #event·receive code.function (code.unfolded 𝓤 H 𝓜 𝓡)
     (event-meets 𝓤 H (𝓖 .A) (givenOf 𝓤 H 𝓜 𝓖) (𝓜 .mem) (𝓡 .run) (tablesOf 𝓤 H 𝓜 (tables 𝓤 H 𝓜 𝓡 code.env))
     (cited 𝓤 H (Callee 𝓤 H (𝓖 .A) (𝓜 .mem) (𝓡 .run)) 𝓜 𝓡 code.env #client·message callee-def.routine code.calls-client·turn·message (callee-thm.met 𝓤 H 𝓜 𝓖 𝓡)))
