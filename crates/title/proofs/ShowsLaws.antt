@@ -39,6 +39,17 @@ module _ (s : Measures) (ok : passes s ≡ true) (memory after : List ℕ) (st :
         clients = λ j l. o .clients j l ∙ sym (ap (λ (f : ℕ → List ℕ). f j) c);
       })
 
+  -- ---- what a party makes of its part of the memory, answer, room and output included, is what it makes of the run's
+
+  pub client-same : (c : ℕ) → c < s .m → (f : List ℕ → ClientEnd) → f (recordIn s c memory) ≡ f (st .clients c)
+  client-same c l f = ap f (o .clients c l)
+
+  pub directory-same : (f : List ℕ → DirectoryEnd) → f (directoryIn s memory) ≡ f (st .directory)
+  directory-same f = ap f (o .directory)
+
+  pub node-same : (i : ℕ) → 1 ≤ i → i ≤ s .n → (f : List ℕ → NodeEnd) → f (tableIn s i memory) ≡ f (st .nodes i)
+  node-same i lo up f = ap f (o .nodes i lo up)
+
   -- ---- client c's record is written back
 
   module _ (c : ℕ) (new : List ℕ) (p : Put memory (recordAt s c) (recordIn s c memory) new after) where
@@ -195,7 +206,7 @@ module _ (s : Measures) (ok : passes s ≡ true) (memory after : List ℕ) (st :
   scan-shows c room honest q e p =
       let d = directoryScan s (st .directory) room in (
         rw (head-scan s honest st c room q e) (looked c q _ _ _ p d (scan-keeps s (st .directory) room) (d .answer)),
-        ap (λ (x : List ℕ). directoryScan s x room) (o .directory),
+        directory-same (λ x. directoryScan s x room),
       )
 
   carry-shows : (c : ℕ) (room : List ℕ) (honest : ℕ → Bool) → Called s c (st .calls c) memory after
