@@ -3,3 +3,4 @@ pub mod ReadLaws
 pub mod CommandLaws
 pub mod TextLaws
 pub mod SentencesLaws
+pub mod LengthLaws

@@ -77,7 +77,7 @@ unfolding hexOf
 hex-append [] b = refl
 hex-append (x ∷ a) b = ap (λ (l : List ℕ). hexDigit (x / 16) ∷ hexDigit (x % 16) ∷ l) (hex-append a b)
 
-hex-length : (b : List ℕ) → length (hexOf b) ≡ 2 * length b
+pub hex-length : (b : List ℕ) → length (hexOf b) ≡ 2 * length b
 unfolding hexOf
 hex-length [] = refl
 hex-length (x ∷ b) = omega (arith, hex-length b)

@@ -41,7 +41,8 @@ pub record Adds (text : List ℕ) (at : ℕ) (b : List ℕ) (after : List ℕ) (
   pub within : at ≤ length text → r ≤ length text
   pub same : length after ≡ length text
 
--- a line stands at the front of a text that is long enough, r is its length, and the rest of the text is as it was; in any case r is within the text
+-- a line stands at the front of a text that is long enough, r is its length, and the rest of the text is as it was
+-- of a shorter text all bytes afterwards are free, and r is any number within it
 pub record Line (text : List ℕ) (line : List ℕ) (after : List ℕ) (r : ℕ) : Type 0 where
   pub whole : length line ≤ length text → (r ≡ length line) × (take r after ≡ line) × (drop r after ≡ drop r text)
   pub within : r ≤ length text

@@ -1,4 +1,5 @@
 pub mod SayLaws
+pub mod FitLaws
 pub mod SettleLaws
 pub mod SessionLaws
 pub mod LineLaws
