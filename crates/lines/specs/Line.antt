@@ -21,7 +21,7 @@ numbersOf zero ws = []
 numbersOf (suc n) [] = limit ∷ numbersOf n []
 numbersOf (suc n) (w ∷ ws) = numberOr (numberOf w) ∷ numbersOf n ws
 
--- a page of these bytes stands at the front of the slice, as far as the slice has room: n of them
+-- a page of these bytes stands at the front of the slice, as far as the slice has room: n of them; behind them the slice is free
 pub record Kept (bytes : List ℕ) (n : ℕ) (page : List ℕ) : Type 0 where
   pub size : n ≡ min (length bytes) (length page)
   pub front : take n page ≡ take n bytes
@@ -32,7 +32,7 @@ PageIs none page Page.Nothing = Unit {0}
 PageIs (some bytes) page (Page.Bytes n) = Kept bytes n page
 PageIs (some bytes) page Page.Nothing = ⊥
 
--- what was read of the bytes p of a line, without the line feed
+-- what was read of the bytes p of a line, without the line feed; of a `Line` and a page that no p gives, what `asked` answers is free
 pub record LineOf (p page : List ℕ) (l : Line) : Type 0 where
   pub count : l .words ≡ min 8 (length (words p))
   pub bytes : every (λ b. ltb b 256) (first (words p)) ≡ true

@@ -57,6 +57,7 @@ pub record Paired (w : List ℕ) (r : Reading) (page : List ℕ) : Type 0 where
   pub kept : Kept (hexBytes w) (r .bytes) page
 
 -- ---- the front p of a line was read: some words ended, and one is under way
+-- of a `Reading` and a page that no p gives, what `next` and `ended` make of them is free, the page's bytes too
 pub record Read (p : List ℕ) (r : Reading) (page : List ℕ) : Type 0 where
   pub ended : List (List ℕ)
   pub under : List ℕ
@@ -70,4 +71,5 @@ pub record Read (p : List ℕ) (r : Reading) (page : List ℕ) : Type 0 where
   pub long : r .len ≡ min 8 (length under)
   pub value : r .value ≡ valueOf under
   pub hex : r .hex ≡ every hexDigit under
+  -- from the word's first byte that is no hex digit on, the whole slice is free, and so are `odd`, `high` and `bytes`; a new word begins anew
   pub pairs : every hexDigit under ≡ true → Paired under r page

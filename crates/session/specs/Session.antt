@@ -157,6 +157,7 @@ Later (Asked.deposit c bytes) s page x y = Operates s c (Deposits s c (x .used) 
 Later Asked.other s page x y = Refuses 4 x y
 
 -- ---- a line p ended, by the stage; the page is as it was
+-- of a session whose reading no p gives, nothing of this is promised; free are the measures after a first line that is refused
 
 pub record Ends (x : Held) (p : List ℕ) (y : Held) (len : ℕ) : Type 0 where
   pub first : x .session .stage ≡ 0 → First (standLine p) (lengths x) (x .lent .memory) (x .text) (y .lent .memory) (y .text) (y .session) len
@@ -177,13 +178,14 @@ pub record Takes (x : Held) (b : ℕ) (y : Held) : Type 0 where
   pub read : (p : List ℕ) → Read p (x .session .reading) (x .page) → Read (p ++ (b ∷ [])) (y .session .reading) (y .page)
 
 -- ---- a byte of the input: a line feed ends the line; in any case a session stays live
+-- of a session whose reading no p gives, a line feed leaves all but the page free, and any other byte the reading and the page
 
 pub record Feeds (x : Held) (b : ℕ) (y : Held) (len : ℕ) : Type 0 where
   pub live : LiveIn x → LiveIn y
   pub ends : b ≡ 10 → (y .page ≡ x .page) × ((p : List ℕ) → Read p (x .session .reading) (x .page) → Ends x p y len)
   pub takes : (b ≡ 10 → ⊥) → Takes x b y × (len ≡ 0)
 
--- its end: a last line may lack its line feed
+-- its end: a last line may lack its line feed; if no p gives the reading, all but the page is free
 pub record Closes (x y : Held) (len : ℕ) : Type 0 where
   pub live : LiveIn x → LiveIn y
   pub ends : x .session .open ≡ true → (p : List ℕ) → Read p (x .session .reading) (x .page) → Ends x p y len
