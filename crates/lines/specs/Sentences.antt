@@ -1,4 +1,4 @@
--- The lines that a program prints. Assumes nothing.
+-- The lines that a program prints.
 use mathlib.Core.Path.{_≡_, refl}
 use mathlib.Core.List.{List, [], _∷_, _++_}
 use Prim.Native.Nat.{ℕ, _+_, _≤_}
@@ -46,7 +46,7 @@ pub record Adds (text : List ℕ) (at : ℕ) (b : List ℕ) (after : List ℕ) (
 pub record Line (text : List ℕ) (line : List ℕ) (after : List ℕ) (r : ℕ) : Type 0 where
   pub whole : length line ≤ length text → (r ≡ length line) × (take r after ≡ line) × (drop r after ≡ drop r text)
   pub within : r ≤ length text
-  -- this follows; with it a caller's `&text[..r]` needs no proof
+  -- and within the text afterwards
   pub counted : r ≡ length (take r after)
 
 -- ---- examples, each computed

@@ -1,4 +1,4 @@
--- Words that are printed, and what it is to put them into a text. Assumes nothing.
+-- Words that are printed, and what it is to put them into a text.
 use mathlib.Core.Path.{_≡_}
 use mathlib.Core.Bool.{cond}
 use mathlib.Core.List.{List, [], _∷_, _++_}

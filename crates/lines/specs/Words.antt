@@ -5,6 +5,7 @@ use mathlib.Core.Option.{Option, none, some}
 use Prim.Native.Nat.{ℕ, _+_, _-_, _*_}
 use lib.Dec.{leb, ltb, eqb}
 use lib.ListN.{length}
+use Rattle.lines.specs.Ascii.{ascii}
 
 -- ---- words: what stands between the spaces
 
@@ -85,7 +86,7 @@ hexBytes (a ∷ []) = []
 hexBytes (a ∷ b ∷ w) = (hexValue a * 16 + hexValue b) ∷ hexBytes w
 
 abbrev pub emptyWord : List ℕ
-emptyWord = 101 ∷ 109 ∷ 112 ∷ 116 ∷ 121 ∷ []
+emptyWord = ascii "empty"
 
 unfoldable pub pageOf : List ℕ → Option (List ℕ)
 pageOf w = cond (same w emptyWord) (some []) (cond (every hexDigit w && not (odd w) && not (void w)) (some (hexBytes w)) none)
