@@ -260,8 +260,10 @@ class Script:
             return self.run.liar(*values)
         if name == b'show':
             return self.run.show(*values)
-        self.run.begun = True
-        return EVENTS[name](self.run, *values)
+        what = EVENTS[name](self.run, *values)
+        if not what.startswith('error:'):
+            self.run.begun = True
+        return what
 
     def config(self, values):
         self.run = None
@@ -536,6 +538,16 @@ def two_errors():
     return [stand.joined([CONFIG, b'liar 4'] + x) for x in both]
 
 
+def errors_change_nothing():
+    """After a line that is answered by an error a liar may still be named; after an event, also one that is refused, none may."""
+    begin, then = [b'config 3 5 1 2 8', b'liar 2'], [b'liar 3', b'lie 3 0 05', b'liar 3', b'show 3']
+    wrong = [b'lie 1 0 05', b'lie 0 0 05', b'lie 9 9 05', b'lie 3 3 empty', b'lie 2 0 ' + b'05' * MANY, b'lie 2 9 ' + b'05' * (MANY + 1), b'stand',
+             b'lie 2 0', b'config 3 5 1 2']
+    out = [begin + [x] + then for x in wrong] + [begin + wrong * 2 + then]
+    out += [begin + [b'liar 1'] + wrong + [b'liar 3'], begin + [b'lie 1 9 05', b'lie 2 9 05', b'liar 3', b'lie 1 9 05', b'liar 2']]
+    return [stand.joined(x) for x in out]
+
+
 def lengths(r):
     """Pages and liars' bytes at the edges of what fits and of what is taken."""
     out = []
@@ -611,7 +623,7 @@ TOLD = [os.path.join(os.path.dirname(os.path.abspath(__file__)), '..', 'docs', '
 def scripts():
     r = random.Random(1)
     out = [open(name, 'rb').read() for name in TOLD]
-    out += order_of_lines() + two_errors() + comments() + same_twice() + late_requests() + reading_among_deposits() + liars_bytes()
+    out += order_of_lines() + two_errors() + errors_change_nothing() + comments() + same_twice() + late_requests() + reading_among_deposits() + liars_bytes()
     return out + [piled_up()] + lengths(r) + spoiled_scripts(r) + walks(r)
 
 

@@ -21,7 +21,7 @@ use title::fresh::fresh;
 use title::table_part;
 
 pub struct Run {
-    // 0 before a `config`, 1 after it, 2 after the first event.
+    // 0 before a `config`, 1 after it, 2 after the first event, also one that is refused.
     pub stage: u8,
     pub measures: Measures,
     // The dishonest nodes.
@@ -160,11 +160,10 @@ fn is_liar(x: Run, i: usize) -> bool {
 }
 
 fn no_liar(x: Run, i: usize, text: &mut [u8]) -> Answer {
-    let s = x.measures;
     let a = bytes(text, 0, b"error: node ");
     let b = report::number(text, a, i);
     let n = bytes(text, b, b" is no liar\n");
-    at_stage(2, s, x.liars, x.used, n)
+    stays(x, n)
 }
 
 fn lie(
@@ -185,7 +184,7 @@ fn lie(
     }
     if page.len() <= n {
         let a = bytes(text, 0, b"error: too many bytes\n");
-        return at_stage(2, s, x.liars, x.used, a);
+        return stays(x, a);
     }
     let t = event::lie(
         s,
@@ -212,6 +211,15 @@ fn holds(text: &mut [u8], i: usize, table: &[u8], f: usize) -> usize {
     bytes(text, d, b"\n")
 }
 
+// A node's table; after a `config` the memory has it.
+fn table(text: &mut [u8], s: Measures, i: usize, memory: &[u8]) -> usize {
+    let part = table_part(s, i, memory.len());
+    match part {
+        Part::Refused(_) => 0,
+        Part::Within(from, to) => holds(text, i, &memory[from..to], s.f),
+    }
+}
+
 fn show(x: Run, i: usize, memory: &[u8], text: &mut [u8]) -> Answer {
     let s = x.measures;
     if i < 1 || s.n < i {
@@ -219,18 +227,8 @@ fn show(x: Run, i: usize, memory: &[u8], text: &mut [u8]) -> Answer {
         let n = bytes(text, a, b"refused 3\n");
         return stays(x, n);
     }
-    let part = table_part(s, i, memory.len());
-    match part {
-        Part::Refused(_) => stays(x, 0),
-        Part::Within(from, to) => {
-            // no such part is ever given; the test spares its law
-            if to < from || memory.len() < to {
-                return stays(x, 0);
-            }
-            let n = holds(text, i, &memory[from..to], s.f);
-            stays(x, n)
-        }
-    }
+    let n = table(text, s, i, memory);
+    stays(x, n)
 }
 
 fn deposit(
