@@ -3,6 +3,7 @@
 
     replay.py FOLDER            writes FOLDER/stdin (all scripts, one after the other) and FOLDER/stdout (what they must print)
     replay.py SCRIPT.txt ...    writes beside each script, as SCRIPT.out, what it must print
+    replay.py --wrong FAULT SCRIPT.txt    prints what the script would print with a fault in the clean-up: `unscanned` or `unfrozen`
 
 Directory and node are reference.py's, the client is client.py's, lines are read as in stand.py; here stands what is under way: each client's calls
 and their answers, and the messages between each client and each node, oldest first. What document 01 promises of a run is asserted as it goes: a
@@ -279,6 +280,35 @@ def answer(script):
     s = Script()
     said = [s.line(line) for line in lines(script)]
     return ''.join(what + '\n' for what in said if what is not None).encode()
+
+
+# Wrong clean-ups
+
+
+def wrong_freeze(fault):
+    """A deposit's second scan. `unscanned` drops the version before by what was known before this scan, `unfrozen` without regard to frozen pointers."""
+
+    def freeze(s, own, c, rows, room):
+        pointer, before, free = c.work, c.written[:2], {c.written[:2]}
+        early = free - {p[:2] for p in c.frozen} - set(c.reserved)
+        for p, (_, _, _, (reading,)) in enumerate(rows):
+            if p != own and reading > c.indices[p]:
+                free |= {c.frozen[p][:2], c.reserved[p]}
+                c.frozen[p], c.reserved[p], c.indices[p] = pointer, before, reading
+        free -= set(c.reserved)
+        if fault == 'unscanned':
+            free = free - {p[:2] for p in c.frozen} | early
+        message = b'\3' + b''.join(client.write_version(x) for x in sorted(free - {NONE[:2]}))
+        c.step, c.work, c.written = client.IDLE, None, pointer
+        return 'deposited %s %d' % (shown(pointer[:2]), len(message)), client.front(room, message)
+
+    return freeze
+
+
+def go_wrong(fault):
+    """What honest nodes then lack is not asserted any more."""
+    assert fault in ('unscanned', 'unfrozen')
+    client.freeze, Run.kept = wrong_freeze(fault), lambda self, i: None
 
 
 # Walks
@@ -639,6 +669,10 @@ def kind(line):
 
 
 def main(arguments):
+    if arguments[0] == '--wrong':
+        go_wrong(arguments[1])
+        sys.stdout.buffer.write(answer(open(arguments[2], 'rb').read()))
+        return
     if arguments[0].endswith('.txt'):
         for name in arguments:
             open(name[:-4] + '.out', 'wb').write(answer(open(name, 'rb').read()))
