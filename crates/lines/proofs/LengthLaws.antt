@@ -1,15 +1,13 @@
 -- How long a printed line is at most.
 use mathlib.Core.Path.{_≡_}
-use mathlib.Core.Bool.{Bool, true, false, cond}
-use mathlib.Core.List.{List, [], _∷_, _++_}
-use Prim.Native.Nat.{ℕ, zero, suc, _+_, _*_, _/_, _%_, _^_, _<_, _≤_}
+use mathlib.Core.List.{List, [], _∷_}
+use Prim.Native.Nat.{ℕ, zero, suc, _+_, _*_, _/_, _^_, _<_, _≤_}
 use native.Mathlib.Decide.{decLt}
 use native.Mathlib.Nat.{pow-suc}
 use native.Mathlib.Omega.{arith}
 use borrow.Author.Tests.{lt-ltb, le-ltb}
 use lib.ListN.{length, length-append}
-use Rattle.lines.specs.Text.{decimalWithin, decimalOf, hexOf}
-use Rattle.lines.specs.Ascii.{ascii}
+use Rattle.lines.specs.Text.{decimalWithin}
 use Rattle.lines.specs.Sentences.{spacedNumber, shown, headerLine, refusedLine, depositedLine, nothingLine, pageLine}
 use Rattle.lines.proofs.TextLaws.{hex-length}
 
