@@ -1,12 +1,19 @@
-//! The client in plain Rust, from document 01: a record is read into values, an event does its step on them, and what comes of it is
-//! written back whole. A refused event writes nothing.
+//! The client, as document 01 and docs/LAYOUTS.md define it.
 
-use crate::parties::{pass, proper, put_version, read_rows, Bytes, Pointer, Record, NONE};
-use crate::plain;
-use jolbizna::{ClientAnswer, Measures, Version};
 use std::collections::{BTreeMap, BTreeSet};
 
+use crate::coding::{self, DIGEST};
+use crate::parties::{
+    directory_bytes, drawn, ensure, pass, pointer_bytes, put_area, put_front, put_version,
+    read_rows, row_bytes, Bytes, Pointer, Record, NONE,
+};
+use jolbizna::{ClientAnswer, Measures, Version};
+
+/// Numbers of nodes, from 1 on.
 pub type Nodes = BTreeSet<usize>;
+
+/// An event's answer, or the number of its refusal.
+type Outcome = Result<ClientAnswer, u32>;
 
 pub fn nodes_of(map: u16) -> Nodes {
     (1..=16).filter(|i| map >> (i - 1) & 1 == 1).collect()
@@ -17,8 +24,8 @@ pub fn map_of(nodes: &Nodes) -> u16 {
 }
 
 pub fn digest(piece: &[u8]) -> Vec<u8> {
-    let mut out = vec![0; 32];
-    plain::digest(piece, &mut out).expect("the output has room");
+    let mut out = vec![0; DIGEST];
+    coding::digest(piece, &mut out).expect("the output is long enough");
     out
 }
 
@@ -27,92 +34,50 @@ impl Pointer {
         nodes_of(self.nodes)
     }
 
-    /// The digest of a named node's piece.
-    fn digest(&self, node: usize) -> Option<&[u8]> {
-        let at = self.named().iter().position(|i| *i == node)?;
-        Some(&self.digests[32 * at..][..32])
+    /// To the nodes that stored, with their digests out of those of all nodes.
+    fn new(version: Version, stored: &Nodes, digests: &[Vec<u8>]) -> Self {
+        let digests = stored
+            .iter()
+            .flat_map(|i| &digests[i - 1])
+            .copied()
+            .collect();
+        Pointer {
+            version,
+            nodes: map_of(stored),
+            digests,
+        }
+    }
+
+    /// Whether a piece is the one of this node.
+    fn matches(&self, node: usize, piece: &[u8]) -> bool {
+        let place = self.named().iter().position(|&i| i == node);
+        place.is_some_and(|place| self.digests[place * DIGEST..][..DIGEST] == digest(piece))
     }
 }
 
-/// Where the client's operation stands.
+/// What the client awaits, with what it works on: steps 0 to 7.
 #[derive(Clone, Debug, PartialEq)]
 pub enum Step {
     Idle,
-    /// A deposit awaits its first scan.
     Scanning {
         page: Vec<u8>,
     },
-    /// A deposit awaits acknowledgements; with the digests of all n pieces.
     Storing {
         version: Version,
         stored: Nodes,
         digests: Vec<Vec<u8>>,
     },
-    /// A deposit awaits its update, then its second scan; with the new pointer.
     Updating(Pointer),
     Freezing(Pointer),
-    /// A reading awaits its update, then its scan.
     Raising,
     Picking,
-    /// A reading awaits replies; with the nodes whose reply counted and, among them, those whose piece matches.
     Fetching {
         pointer: Pointer,
         counted: Nodes,
         matching: Nodes,
+        /// Those of length at least 1.
         pieces: BTreeMap<usize, Vec<u8>>,
     },
-}
-
-fn read_some(s: Measures, b: &mut Bytes) -> Option<Pointer> {
-    Pointer::read(s, b).filter(|p| p.version != NONE)
-}
-
-fn read_page(s: Measures, b: &mut Bytes) -> Option<Step> {
-    let len = b.u32()? as usize;
-    if len > s.page() {
-        return None;
-    }
-    let page = b.take(len)?.to_vec();
-    Some(Step::Scanning { page })
-}
-
-fn read_storing(s: Measures, b: &mut Bytes) -> Option<Step> {
-    let version = b.version()?;
-    let stored = nodes_of(b.u16()?);
-    let digests = (0..s.n)
-        .map(|_| Some(b.take(32)?.to_vec()))
-        .collect::<Option<_>>()?;
-    let known = stored.last().is_none_or(|i| *i <= s.n);
-    (proper(s, version) && known && stored.len() < s.t + s.k).then_some(Step::Storing {
-        version,
-        stored,
-        digests,
-    })
-}
-
-fn read_fetching(s: Measures, b: &mut Bytes) -> Option<Step> {
-    let pointer = read_some(s, b)?;
-    let counted = nodes_of(b.u16()?);
-    let matching = nodes_of(b.u16()?);
-    let lens: Vec<u16> = (0..s.n).map(|_| b.u16()).collect::<Option<_>>()?;
-    let mut pieces = BTreeMap::new();
-    for (i, len) in (1..).zip(lens) {
-        let area = b.take(s.f)?;
-        let piece = area.get(..len as usize)?;
-        if !Bytes(&area[piece.len()..]).zeros() {
-            return None;
-        }
-        if !piece.is_empty() {
-            pieces.insert(i, piece.to_vec());
-        }
-    }
-    let known = matching.last().is_none_or(|i| *i <= s.n);
-    (known && matching.len() < s.k).then_some(Step::Fetching {
-        pointer,
-        counted,
-        matching,
-        pieces,
-    })
 }
 
 impl Step {
@@ -129,22 +94,56 @@ impl Step {
         }
     }
 
-    fn read(s: Measures, number: u8, area: &[u8]) -> Option<Step> {
-        let mut b = Bytes(area);
-        let step = match number {
-            0 => Step::Idle,
-            1 => read_page(s, &mut b)?,
-            2 => read_storing(s, &mut b)?,
-            3 => Step::Updating(read_some(s, &mut b)?),
-            4 => Step::Freezing(read_some(s, &mut b)?),
-            5 => Step::Raising,
-            6 => Step::Picking,
-            7 => read_fetching(s, &mut b)?,
-            _ => return None,
-        };
-        b.zeros().then_some(step)
+    /// Leaves the spare bytes.
+    fn read(s: Measures, number: u8, work: &mut Bytes) -> Option<Self> {
+        match number {
+            0 => Some(Step::Idle),
+            1 => Step::read_scanning(s, work),
+            2 => Step::read_storing(s, work),
+            3 => read_new(s, work).map(Step::Updating),
+            4 => read_new(s, work).map(Step::Freezing),
+            5 => Some(Step::Raising),
+            6 => Some(Step::Picking),
+            7 => Step::read_fetching(s, work),
+            _ => None,
+        }
     }
 
+    fn read_scanning(s: Measures, work: &mut Bytes) -> Option<Self> {
+        let length = work.u32()? as usize;
+        let page = work.take(length)?.to_vec();
+        (length <= page_bytes(s)).then_some(Step::Scanning { page })
+    }
+
+    fn read_storing(s: Measures, work: &mut Bytes) -> Option<Self> {
+        let version = work.version()?;
+        let stored = nodes_of(work.u16()?);
+        let digests = (0..s.n)
+            .map(|_| work.take(DIGEST).map(<[u8]>::to_vec))
+            .collect::<Option<_>>()?;
+        let formed = drawn(s, version) && stored.len() < s.t + s.k && within(s, &stored);
+        formed.then_some(Step::Storing {
+            version,
+            stored,
+            digests,
+        })
+    }
+
+    fn read_fetching(s: Measures, work: &mut Bytes) -> Option<Self> {
+        let pointer = read_new(s, work)?;
+        let counted = nodes_of(work.u16()?);
+        let matching = nodes_of(work.u16()?);
+        let pieces = read_pieces(s, work)?;
+        let formed = matching.len() < s.k && within(s, &matching);
+        formed.then_some(Step::Fetching {
+            pointer,
+            counted,
+            matching,
+            pieces,
+        })
+    }
+
+    /// Without the spare bytes.
     fn write(&self, s: Measures) -> Vec<u8> {
         let mut out = Vec::new();
         match self {
@@ -172,56 +171,68 @@ impl Step {
                 pointer.write(&mut out);
                 out.extend(map_of(counted).to_be_bytes());
                 out.extend(map_of(matching).to_be_bytes());
-                let (areas, lens) = laid_out(s, pieces);
-                out.extend(lens.iter().flat_map(|len| len.to_be_bytes()));
-                out.extend(areas);
+                let (lens, room) = spread(s, pieces);
+                out.extend(lens.iter().flat_map(|length| length.to_be_bytes()));
+                out.extend(room);
             }
         }
-        out.resize(s.work(), 0);
         out
     }
 }
 
-/// Pieces in n areas of F bytes, and their lengths, as joining takes them.
-fn laid_out(s: Measures, pieces: &BTreeMap<usize, Vec<u8>>) -> (Vec<u8>, Vec<u16>) {
-    let (mut areas, mut lens) = (vec![0; s.n * s.f], vec![0; s.n]);
-    for (i, piece) in pieces {
-        areas[(i - 1) * s.f..][..piece.len()].copy_from_slice(piece);
-        lens[i - 1] = piece.len() as u16;
-    }
-    (areas, lens)
+/// Nodes that there are.
+fn within(s: Measures, nodes: &Nodes) -> bool {
+    nodes.iter().all(|&i| i <= s.n)
 }
 
-/// A client's record. `written` is the pointer of the last deposit that ended; an open one's stands in its step.
+/// A pointer that is not none.
+fn read_new(s: Measures, bytes: &mut Bytes) -> Option<Pointer> {
+    Pointer::read(s, bytes).filter(|pointer| *pointer != Pointer::none())
+}
+
+/// Lengths of all nodes' pieces, then their areas.
+fn read_pieces(s: Measures, work: &mut Bytes) -> Option<BTreeMap<usize, Vec<u8>>> {
+    let lengths: Vec<u16> = (0..s.n).map(|_| work.u16()).collect::<Option<_>>()?;
+    let mut pieces = BTreeMap::new();
+    for (i, length) in (1..).zip(lengths) {
+        let mut area = Bytes(work.take(s.f)?);
+        let piece = area.take(length.into())?;
+        if !area.zeros() {
+            return None;
+        }
+        if !piece.is_empty() {
+            pieces.insert(i, piece.to_vec());
+        }
+    }
+    Some(pieces)
+}
+
+/// Lengths of all nodes' pieces, and the room of pieces.
+fn spread(s: Measures, pieces: &BTreeMap<usize, Vec<u8>>) -> (Vec<u16>, Vec<u8>) {
+    let mut lens = Vec::new();
+    let mut room = Vec::new();
+    for i in 1..=s.n {
+        let piece = pieces.get(&i).map_or(&[][..], Vec::as_slice);
+        lens.push(piece.len() as u16);
+        put_area(&mut room, piece, s.f);
+    }
+    (lens, room)
+}
+
+/// A client's record.
 #[derive(Clone, Debug, PartialEq)]
 pub struct Client {
     pub step: Step,
-    /// The reading index.
     pub index: u32,
+    /// Of the last deposit that ended.
     pub written: Pointer,
     pub frozen: Vec<Pointer>,
     pub reserved: Vec<Version>,
-    /// The reading indices last kept of the clients.
+    /// The reading indices last kept.
     pub kept: Vec<u32>,
 }
 
-fn read_area(s: Measures, b: &mut Bytes) -> Option<Pointer> {
-    let mut area = Bytes(b.take(s.pointer())?);
-    Pointer::read(s, &mut area).filter(|_| area.zeros())
-}
-
-fn write_area(s: Measures, pointer: &Pointer, out: &mut Vec<u8>) {
-    let end = out.len() + s.pointer();
-    pointer.write(out);
-    out.resize(end, 0);
-}
-
-fn read_reserved(s: Measures, b: &mut Bytes) -> Option<Version> {
-    b.version().filter(|v| *v == NONE || proper(s, *v))
-}
-
 impl Client {
-    /// Idle, its pointers none, its indices 0.
     fn fresh(s: Measures) -> Self {
         Client {
             step: Step::Idle,
@@ -233,20 +244,20 @@ impl Client {
         }
     }
 
-    /// The measures pass, and the bytes are enough.
     pub fn read(s: Measures, record: &[u8]) -> Option<Self> {
-        let mut b = Bytes(&record[..s.record()]);
-        let (step, index) = (b.u8()?, b.u32()?);
-        let written = read_area(s, &mut b)?;
+        let mut bytes = Bytes(record.get(..record_bytes(s))?);
+        let number = bytes.u8()?;
+        let index = bytes.u32()?;
+        let written = read_area(s, &mut bytes)?;
         let frozen = (0..s.m)
-            .map(|_| read_area(s, &mut b))
+            .map(|_| read_area(s, &mut bytes))
             .collect::<Option<_>>()?;
         let reserved = (0..s.m)
-            .map(|_| read_reserved(s, &mut b))
+            .map(|_| read_reserved(s, &mut bytes))
             .collect::<Option<_>>()?;
-        let kept = (0..s.m).map(|_| b.u32()).collect::<Option<_>>()?;
-        let step = Step::read(s, step, b.0)?;
-        Some(Client {
+        let kept = (0..s.m).map(|_| bytes.u32()).collect::<Option<_>>()?;
+        let step = Step::read(s, number, &mut bytes)?;
+        bytes.zeros().then_some(Client {
             step,
             index,
             written,
@@ -259,328 +270,163 @@ impl Client {
     pub fn write(&self, s: Measures, record: &mut [u8]) {
         let mut out = vec![self.step.number()];
         out.extend(self.index.to_be_bytes());
-        write_area(s, &self.written, &mut out);
-        for pointer in &self.frozen {
-            write_area(s, pointer, &mut out);
+        for pointer in [&self.written].into_iter().chain(&self.frozen) {
+            let mut bytes = Vec::new();
+            pointer.write(&mut bytes);
+            put_area(&mut out, &bytes, pointer_bytes(s));
         }
-        for version in &self.reserved {
-            put_version(&mut out, *version);
+        for &version in &self.reserved {
+            put_version(&mut out, version);
         }
         for index in &self.kept {
             out.extend(index.to_be_bytes());
         }
-        out.extend(self.step.write(s));
-        record[..s.record()].copy_from_slice(&out);
-    }
-
-    /// The operation, which leaves the record idle unless a step is put in.
-    fn take(&mut self) -> Step {
-        std::mem::replace(&mut self.step, Step::Idle)
+        put_area(&mut out, &self.step.write(s), work_bytes(s));
+        put_front(record, &out);
     }
 }
 
-fn lay(room: &mut [u8], bytes: &[u8]) {
-    room[..bytes.len()].copy_from_slice(bytes);
+/// A pointer in an area of its own.
+fn read_area(s: Measures, bytes: &mut Bytes) -> Option<Pointer> {
+    let mut area = Bytes(bytes.take(pointer_bytes(s))?);
+    let pointer = Pointer::read(s, &mut area)?;
+    area.zeros().then_some(pointer)
 }
 
-/// The answer, or a refusal's number.
-type Turn = Result<ClientAnswer, u32>;
-
-impl Client {
-    fn begin_deposit(&mut self, s: Measures, page: &[u8]) -> Turn {
-        if self.step != Step::Idle {
-            return Err(5);
-        }
-        if page.len() > s.page() {
-            return Err(6);
-        }
-        let page = page.to_vec();
-        self.step = Step::Scanning { page };
-        Ok(ClientAnswer::Scan)
-    }
-
-    fn begin_reading(&mut self, room: &mut [u8]) -> Turn {
-        if self.step != Step::Idle {
-            return Err(5);
-        }
-        self.index = self.index.checked_add(1).ok_or(7u32)?;
-        self.step = Step::Raising;
-        let fields = Record {
-            reading: Some(self.index),
-            ..Record::default()
-        };
-        Ok(publish(&fields, room))
-    }
-
-    fn updated(&mut self) -> Turn {
-        self.step = match self.take() {
-            Step::Updating(pointer) => Step::Freezing(pointer),
-            Step::Raising => Step::Picking,
-            _ => return Err(5),
-        };
-        Ok(ClientAnswer::Scan)
-    }
-
-    fn scanned(&mut self, s: Measures, own: usize, rows: &[Record], room: &mut [u8]) -> Turn {
-        match self.take() {
-            Step::Scanning { page } => Ok(self.draw(s, own, rows, &page, room)),
-            Step::Freezing(pointer) => Ok(self.freeze(own, rows, pointer, room)),
-            Step::Picking => Ok(self.pick(own, rows, room)),
-            _ => Err(5),
-        }
-    }
-
-    /// The new sequence is one above the highest written one; piece i goes to node i. After the last number there is none.
-    fn draw(
-        &mut self,
-        s: Measures,
-        own: usize,
-        rows: &[Record],
-        page: &[u8],
-        room: &mut [u8],
-    ) -> ClientAnswer {
-        let highest = rows.iter().filter_map(|row| row.written.as_ref());
-        let highest = highest.map(|p| p.version.0).max().unwrap_or(0);
-        let Some(sequence) = highest.checked_add(1) else {
-            return ClientAnswer::Spent;
-        };
-        let version = (sequence, own as u8);
-        let mut front = vec![1];
-        put_version(&mut front, version);
-        lay(room, &front);
-        let areas = &mut room[front.len()..];
-        let len = plain::split(s.n, s.k, s.f, page, areas).expect("a page that was taken fits");
-        let pieces = areas.chunks(s.f).take(s.n);
-        self.step = Step::Storing {
-            version,
-            stored: Nodes::new(),
-            digests: pieces.map(|area| digest(&area[..len])).collect(),
-        };
-        ClientAnswer::Stores(version, len)
-    }
-
-    /// Others' new readings are noted; what nobody may be reading any more is freed, and the deposit ends.
-    fn freeze(
-        &mut self,
-        own: usize,
-        rows: &[Record],
-        pointer: Pointer,
-        room: &mut [u8],
-    ) -> ClientAnswer {
-        let previous = self.written.version;
-        let mut free = BTreeSet::from([previous]);
-        for (p, row) in rows.iter().enumerate() {
-            let index = row.reading.unwrap_or(0);
-            if p != own && index > self.kept[p] {
-                free.insert(self.frozen[p].version);
-                free.insert(self.reserved[p]);
-                self.frozen[p] = pointer.clone();
-                self.reserved[p] = previous;
-                self.kept[p] = index;
-            }
-        }
-        for version in self.frozen.iter().map(|p| p.version) {
-            free.remove(&version);
-        }
-        for version in self.reserved.iter().chain([&NONE]) {
-            free.remove(version);
-        }
-        let version = pointer.version;
-        self.written = pointer;
-        let mut message = vec![3];
-        for version in free {
-            put_version(&mut message, version);
-        }
-        lay(room, &message);
-        ClientAnswer::Deposited(version, message.len())
-    }
-
-    /// Of each row the written pointer, or the one that its writer froze for this reading; the highest of them, on a tie the lowest row's.
-    fn pick(&mut self, own: usize, rows: &[Record], room: &mut [u8]) -> ClientAnswer {
-        let mut highest = Pointer::none();
-        for row in rows {
-            let frozen_index = row.frozen_indices.as_ref().map_or(0, |list| list[own]);
-            let part = if self.index > frozen_index {
-                row.written.as_ref()
-            } else {
-                row.frozen.as_ref().map(|list| &list[own])
-            };
-            highest = match part {
-                Some(p) if p.version > highest.version => p.clone(),
-                _ => highest,
-            };
-        }
-        if highest.version == NONE {
-            return ClientAnswer::Empty;
-        }
-        let mut message = vec![2];
-        put_version(&mut message, highest.version);
-        lay(room, &message);
-        let answer = ClientAnswer::Requests(highest.version, highest.nodes);
-        self.step = Step::Fetching {
-            pointer: highest,
-            counted: Nodes::new(),
-            matching: Nodes::new(),
-            pieces: BTreeMap::new(),
-        };
-        answer
-    }
-
-    /// An acknowledgement of this version adds its node once; at t + k nodes the pointer is published, with what was frozen before.
-    fn stored(&mut self, s: Measures, node: usize, of: Version, room: &mut [u8]) -> ClientAnswer {
-        let Step::Storing {
-            version,
-            stored,
-            digests,
-        } = &mut self.step
-        else {
-            return ClientAnswer::Waits;
-        };
-        if of != *version || !stored.insert(node) || stored.len() < s.t + s.k {
-            return ClientAnswer::Waits;
-        }
-        let pointer = Pointer {
-            version: *version,
-            nodes: map_of(stored),
-            digests: stored.iter().flat_map(|i| digests[i - 1].clone()).collect(),
-        };
-        self.step = Step::Updating(pointer.clone());
-        let fields = Record {
-            written: Some(pointer),
-            frozen: Some(self.frozen.clone()),
-            frozen_indices: Some(self.kept.clone()),
-            reading: None,
-        };
-        publish(&fields, room)
-    }
-
-    /// The first reply of a named node with this version counts. The k-th piece that matches ends the reading, if they join.
-    fn replied(
-        &mut self,
-        s: Measures,
-        node: usize,
-        of: Version,
-        piece: Option<&[u8]>,
-        out: &mut [u8],
-    ) -> Turn {
-        let Step::Fetching {
-            pointer,
-            counted,
-            matching,
-            pieces,
-        } = &mut self.step
-        else {
-            return Ok(ClientAnswer::Waits);
-        };
-        let Some(wanted) = pointer.digest(node) else {
-            return Ok(ClientAnswer::Waits);
-        };
-        if of != pointer.version || !counted.insert(node) {
-            return Ok(ClientAnswer::Waits);
-        }
-        let fits = piece.filter(|p| (1..=s.f).contains(&p.len()));
-        if let Some(piece) = fits.filter(|p| digest(p) == wanted) {
-            matching.insert(node);
-            pieces.insert(node, piece.to_vec());
-        }
-        if matching.len() == s.k {
-            let (areas, lens) = laid_out(s, pieces);
-            let joined = plain::join(s.n, s.k, s.f, map_of(matching), &areas, &lens, out);
-            let len = joined.map_err(|_| 4u32)?;
-            self.step = Step::Idle;
-            return Ok(ClientAnswer::Page(of, len));
-        }
-        if pointer.named().is_subset(counted) {
-            self.step = Step::Idle;
-            return Ok(ClientAnswer::Failed);
-        }
-        Ok(ClientAnswer::Waits)
-    }
+fn read_reserved(s: Measures, bytes: &mut Bytes) -> Option<Version> {
+    bytes
+        .version()
+        .filter(|&version| version == NONE || drawn(s, version))
 }
 
-/// An update's record in the room.
-fn publish(fields: &Record, room: &mut [u8]) -> ClientAnswer {
-    let fields = fields.write();
-    lay(room, &fields);
-    ClientAnswer::Update(fields.len())
+/// Bytes of the longest page.
+fn page_bytes(s: Measures) -> usize {
+    s.k * s.f - 4
+}
+
+/// Bytes of a record's work area.
+fn work_bytes(s: Measures) -> usize {
+    pointer_bytes(s) + 4 + s.n * (2 + DIGEST + s.f)
+}
+
+/// Bytes of a record.
+fn record_bytes(s: Measures) -> usize {
+    5 + (s.m + 1) * pointer_bytes(s) + 9 * s.m + work_bytes(s)
+}
+
+/// Bytes of an event's room.
+fn room_bytes(s: Measures) -> usize {
+    row_bytes(s) + 6 + s.n * s.f
 }
 
 /// A message to a client.
 pub enum Message<'a> {
     Stored(Version),
     Freed,
+    /// With a piece, or "not held".
     Reply(Version, Option<&'a [u8]>),
 }
 
 pub fn read_message(s: Measures, message: &[u8]) -> Option<Message<'_>> {
-    let mut b = Bytes(message);
-    let tag = b.u8()?;
-    if tag == 5 {
-        return b.0.is_empty().then_some(Message::Freed);
-    }
-    let version = b.version().filter(|v| proper(s, *v))?;
-    match (tag, b.0) {
-        (4, []) => Some(Message::Stored(version)),
-        (6, [0]) => Some(Message::Reply(version, None)),
-        (6, [1, piece @ ..]) => Some(Message::Reply(version, Some(piece))),
+    let mut bytes = Bytes(message);
+    match bytes.u8()? {
+        4 => {
+            let version = read_named(s, &mut bytes)?;
+            bytes.0.is_empty().then_some(Message::Stored(version))
+        }
+        5 => bytes.0.is_empty().then_some(Message::Freed),
+        6 => {
+            let version = read_named(s, &mut bytes)?;
+            match bytes.u8()? {
+                0 => bytes.0.is_empty().then_some(Message::Reply(version, None)),
+                1 => Some(Message::Reply(version, Some(bytes.0))),
+                _ => None,
+            }
+        }
         _ => None,
     }
 }
 
-/// What the caller may have done wrong: measures, slices that are too short, numbers. Lengths are worked out of measures that pass.
-fn gate(s: Measures, enough: impl Fn() -> bool, own: usize, node: usize) -> Result<(), u32> {
-    if !pass(s) {
-        return Err(1);
-    }
-    if !enough() {
-        return Err(2);
-    }
-    if own >= s.m || !(1..=s.n).contains(&node) {
-        return Err(3);
-    }
-    Ok(())
-}
-
-/// A step on the record that the bytes show. They are written only if the step is not refused.
-fn on(s: Measures, record: &mut [u8], step: impl FnOnce(&mut Client) -> Turn) -> Turn {
-    let mut client = Client::read(s, record).ok_or(4u32)?;
-    let answer = step(&mut client)?;
-    client.write(s, record);
-    Ok(answer)
-}
-
-fn told(turn: Turn) -> ClientAnswer {
-    turn.unwrap_or_else(ClientAnswer::Refused)
+/// A version as messages name it.
+fn read_named(s: Measures, bytes: &mut Bytes) -> Option<Version> {
+    bytes.version().filter(|&version| drawn(s, version))
 }
 
 pub fn fresh(s: Measures, record: &mut [u8]) -> ClientAnswer {
-    told(gate(s, || record.len() >= s.record(), 0, 1).map(|()| {
-        Client::fresh(s).write(s, record);
-        ClientAnswer::Waits
-    }))
+    try_fresh(s, record).unwrap_or_else(ClientAnswer::Refused)
 }
 
-/// A deposit starts.
+fn try_fresh(s: Measures, record: &mut [u8]) -> Outcome {
+    ensure(pass(s), 1)?;
+    ensure(record.len() >= record_bytes(s), 2)?;
+    Client::fresh(s).write(s, record);
+    Ok(ClientAnswer::Waits)
+}
+
 pub fn deposit(s: Measures, own: usize, record: &mut [u8], page: &[u8]) -> ClientAnswer {
-    told(
-        gate(s, || record.len() >= s.record(), own, 1)
-            .and_then(|()| on(s, record, |client| client.begin_deposit(s, page))),
-    )
+    try_deposit(s, own, record, page).unwrap_or_else(ClientAnswer::Refused)
 }
 
-/// A reading starts.
+fn try_deposit(s: Measures, own: usize, record: &mut [u8], page: &[u8]) -> Outcome {
+    ensure(pass(s), 1)?;
+    ensure(record.len() >= record_bytes(s), 2)?;
+    ensure(own < s.m, 3)?;
+    let mut client = Client::read(s, record).ok_or(4u32)?;
+    ensure(client.step == Step::Idle, 5)?;
+    ensure(page.len() <= page_bytes(s), 6)?;
+    client.step = Step::Scanning {
+        page: page.to_vec(),
+    };
+    client.write(s, record);
+    Ok(ClientAnswer::Scan)
+}
+
 pub fn read(s: Measures, own: usize, record: &mut [u8], room: &mut [u8]) -> ClientAnswer {
-    let enough = || record.len() >= s.record() && room.len() >= s.room();
-    told(gate(s, enough, own, 1).and_then(|()| on(s, record, |client| client.begin_reading(room))))
+    try_read(s, own, record, room).unwrap_or_else(ClientAnswer::Refused)
 }
 
-/// The directory has carried out the update.
+fn try_read(s: Measures, own: usize, record: &mut [u8], room: &mut [u8]) -> Outcome {
+    ensure(pass(s), 1)?;
+    ensure(
+        record.len() >= record_bytes(s) && room.len() >= room_bytes(s),
+        2,
+    )?;
+    ensure(own < s.m, 3)?;
+    let mut client = Client::read(s, record).ok_or(4u32)?;
+    ensure(client.step == Step::Idle, 5)?;
+    client.index = client.index.checked_add(1).ok_or(7u32)?;
+    client.step = Step::Raising;
+    let update = Record {
+        reading: Some(client.index),
+        ..Record::default()
+    }
+    .write();
+    client.write(s, record);
+    put_front(room, &update);
+    Ok(ClientAnswer::Update(update.len()))
+}
+
 pub fn updated(s: Measures, own: usize, record: &mut [u8], room: &mut [u8]) -> ClientAnswer {
-    let enough = || record.len() >= s.record() && room.len() >= s.room();
-    told(gate(s, enough, own, 1).and_then(|()| on(s, record, Client::updated)))
+    try_updated(s, own, record, room).unwrap_or_else(ClientAnswer::Refused)
 }
 
-/// The directory's rows.
+fn try_updated(s: Measures, own: usize, record: &mut [u8], room: &mut [u8]) -> Outcome {
+    ensure(pass(s), 1)?;
+    ensure(
+        record.len() >= record_bytes(s) && room.len() >= room_bytes(s),
+        2,
+    )?;
+    ensure(own < s.m, 3)?;
+    let mut client = Client::read(s, record).ok_or(4u32)?;
+    client.step = match client.step {
+        Step::Updating(pointer) => Step::Freezing(pointer),
+        Step::Raising => Step::Picking,
+        _ => return Err(5),
+    };
+    client.write(s, record);
+    Ok(ClientAnswer::Scan)
+}
+
 pub fn scanned(
     s: Measures,
     own: usize,
@@ -588,17 +434,36 @@ pub fn scanned(
     rows: &[u8],
     room: &mut [u8],
 ) -> ClientAnswer {
-    let enough =
-        || record.len() >= s.record() && rows.len() >= s.directory() && room.len() >= s.room();
-    told(gate(s, enough, own, 1).and_then(|()| {
-        on(s, record, |client| {
-            let rows = read_rows(s, rows).ok_or(4u32)?;
-            client.scanned(s, own, &rows, room)
-        })
-    }))
+    try_scanned(s, own, record, rows, room).unwrap_or_else(ClientAnswer::Refused)
 }
 
-/// A node's message.
+fn try_scanned(
+    s: Measures,
+    own: usize,
+    record: &mut [u8],
+    rows: &[u8],
+    room: &mut [u8],
+) -> Outcome {
+    ensure(pass(s), 1)?;
+    ensure(
+        record.len() >= record_bytes(s)
+            && rows.len() >= directory_bytes(s)
+            && room.len() >= room_bytes(s),
+        2,
+    )?;
+    ensure(own < s.m, 3)?;
+    let mut client = Client::read(s, record).ok_or(4u32)?;
+    let rows = read_rows(s, rows).ok_or(4u32)?;
+    let answer = match client.step.clone() {
+        Step::Scanning { page } => client.draw(s, own, &page, &rows, room),
+        Step::Freezing(pointer) => client.freeze(own, pointer, &rows, room),
+        Step::Picking => client.pick(own, &rows, room),
+        _ => return Err(5),
+    };
+    client.write(s, record);
+    Ok(answer)
+}
+
 pub fn receive(
     s: Measures,
     own: usize,
@@ -608,14 +473,225 @@ pub fn receive(
     room: &mut [u8],
     out: &mut [u8],
 ) -> ClientAnswer {
-    let enough = || record.len() >= s.record() && room.len() >= s.room() && out.len() >= s.page();
-    told(gate(s, enough, own, node).and_then(|()| {
-        on(s, record, |client| {
-            match read_message(s, message).ok_or(4u32)? {
-                Message::Stored(version) => Ok(client.stored(s, node, version, room)),
-                Message::Freed => Ok(ClientAnswer::Waits),
-                Message::Reply(version, piece) => client.replied(s, node, version, piece, out),
+    try_receive(s, own, node, record, message, room, out).unwrap_or_else(ClientAnswer::Refused)
+}
+
+fn try_receive(
+    s: Measures,
+    own: usize,
+    node: usize,
+    record: &mut [u8],
+    message: &[u8],
+    room: &mut [u8],
+    out: &mut [u8],
+) -> Outcome {
+    ensure(pass(s), 1)?;
+    ensure(
+        record.len() >= record_bytes(s)
+            && room.len() >= room_bytes(s)
+            && out.len() >= page_bytes(s),
+        2,
+    )?;
+    ensure(own < s.m && (1..=s.n).contains(&node), 3)?;
+    let mut client = Client::read(s, record).ok_or(4u32)?;
+    let answer = match read_message(s, message).ok_or(4u32)? {
+        Message::Stored(version) => client.acknowledged(s, node, version, room),
+        Message::Freed => ClientAnswer::Waits,
+        Message::Reply(version, piece) => client.replied(s, node, version, piece, out)?,
+    };
+    client.write(s, record);
+    Ok(answer)
+}
+
+/// The steps of a deposit.
+impl Client {
+    /// Draws a version and sends the pieces.
+    fn draw(
+        &mut self,
+        s: Measures,
+        own: usize,
+        page: &[u8],
+        rows: &[Record],
+        room: &mut [u8],
+    ) -> ClientAnswer {
+        let highest = rows
+            .iter()
+            .flat_map(|row| &row.written)
+            .map(|pointer| pointer.version.0)
+            .max();
+        let Some(sequence) = highest.unwrap_or(0).checked_add(1) else {
+            self.step = Step::Idle;
+            return ClientAnswer::Spent;
+        };
+        let version = (sequence, own as u8);
+        put_front(room, &message(1, &[version]));
+        let pieces = &mut room[6..];
+        let length = coding::split(s.n, s.k, s.f, page, pieces)
+            .expect("the page and the room were measured");
+        let digests = pieces
+            .chunks(s.f)
+            .take(s.n)
+            .map(|area| digest(&area[..length]))
+            .collect();
+        self.step = Step::Storing {
+            version,
+            stored: Nodes::new(),
+            digests,
+        };
+        ClientAnswer::Stores(version, length)
+    }
+
+    /// Counts a node once; the node that makes t + k brings the update.
+    fn acknowledged(
+        &mut self,
+        s: Measures,
+        node: usize,
+        acknowledged: Version,
+        room: &mut [u8],
+    ) -> ClientAnswer {
+        let Step::Storing {
+            version,
+            stored,
+            digests,
+        } = &mut self.step
+        else {
+            return ClientAnswer::Waits;
+        };
+        if acknowledged != *version {
+            return ClientAnswer::Waits;
+        }
+        stored.insert(node);
+        if stored.len() < s.t + s.k {
+            return ClientAnswer::Waits;
+        }
+        let pointer = Pointer::new(*version, stored, digests);
+        self.step = Step::Updating(pointer.clone());
+        let update = Record {
+            written: Some(pointer),
+            frozen: Some(self.frozen.clone()),
+            frozen_indices: Some(self.kept.clone()),
+            reading: None,
+        };
+        let update = update.write();
+        put_front(room, &update);
+        ClientAnswer::Update(update.len())
+    }
+
+    /// Freezes and reserves for new readings, and ends the deposit with the list of versions to drop.
+    fn freeze(
+        &mut self,
+        own: usize,
+        pointer: Pointer,
+        rows: &[Record],
+        room: &mut [u8],
+    ) -> ClientAnswer {
+        let version = pointer.version;
+        let previous = self.written.version;
+        let mut free = BTreeSet::from([previous]);
+        for (other, row) in rows.iter().enumerate().filter(|(other, _)| *other != own) {
+            let index = row.reading.unwrap_or(0);
+            if index > self.kept[other] {
+                free.extend([self.frozen[other].version, self.reserved[other]]);
+                self.frozen[other] = pointer.clone();
+                self.reserved[other] = previous;
+                self.kept[other] = index;
             }
-        })
-    }))
+        }
+        free.retain(|freed| *freed != NONE && !self.retains(*freed));
+        self.written = pointer;
+        self.step = Step::Idle;
+        let message = message(3, &Vec::from_iter(free));
+        put_front(room, &message);
+        ClientAnswer::Deposited(version, message.len())
+    }
+
+    /// Whether a version is frozen or reserved for any client.
+    fn retains(&self, version: Version) -> bool {
+        self.frozen.iter().any(|pointer| pointer.version == version)
+            || self.reserved.contains(&version)
+    }
+}
+
+/// The steps of a reading.
+impl Client {
+    /// Asks the nodes of the highest pointer, if there is one.
+    fn pick(&mut self, own: usize, rows: &[Record], room: &mut [u8]) -> ClientAnswer {
+        let mut highest = &Pointer::none();
+        for pointer in rows.iter().filter_map(|row| offered(row, own, self.index)) {
+            if pointer.version > highest.version {
+                highest = pointer;
+            }
+        }
+        if highest.version == NONE {
+            self.step = Step::Idle;
+            return ClientAnswer::Empty;
+        }
+        put_front(room, &message(2, &[highest.version]));
+        self.step = Step::Fetching {
+            pointer: highest.clone(),
+            counted: Nodes::new(),
+            matching: Nodes::new(),
+            pieces: BTreeMap::new(),
+        };
+        ClientAnswer::Requests(highest.version, highest.nodes)
+    }
+
+    /// Counts a named node's first reply; the k-th piece that matches ends the reading, and so does the last reply.
+    fn replied(
+        &mut self,
+        s: Measures,
+        node: usize,
+        replied: Version,
+        piece: Option<&[u8]>,
+        out: &mut [u8],
+    ) -> Outcome {
+        let Step::Fetching {
+            pointer,
+            counted,
+            matching,
+            pieces,
+        } = &mut self.step
+        else {
+            return Ok(ClientAnswer::Waits);
+        };
+        let named = pointer.named();
+        if replied != pointer.version || !named.contains(&node) || !counted.insert(node) {
+            return Ok(ClientAnswer::Waits);
+        }
+        let version = pointer.version;
+        let proper = piece.filter(|piece| (1..=s.f).contains(&piece.len()));
+        if let Some(piece) = proper.filter(|piece| pointer.matches(node, piece)) {
+            matching.insert(node);
+            pieces.insert(node, piece.to_vec());
+        }
+        if matching.len() >= s.k {
+            let (lens, room) = spread(s, pieces);
+            let length = coding::join(s.n, s.k, s.f, map_of(matching), &room, &lens, out)?;
+            self.step = Step::Idle;
+            return Ok(ClientAnswer::Page(version, length));
+        }
+        if named.is_subset(counted) {
+            self.step = Step::Idle;
+            return Ok(ClientAnswer::Failed);
+        }
+        Ok(ClientAnswer::Waits)
+    }
+}
+
+/// The pointer that a row offers to this reading.
+fn offered(row: &Record, own: usize, index: u32) -> Option<&Pointer> {
+    if index > *row.frozen_indices.as_ref()?.get(own)? {
+        row.written.as_ref()
+    } else {
+        row.frozen.as_ref()?.get(own)
+    }
+}
+
+/// A tag and versions.
+fn message(tag: u8, versions: &[Version]) -> Vec<u8> {
+    let mut message = vec![tag];
+    for &version in versions {
+        put_version(&mut message, version);
+    }
+    message
 }

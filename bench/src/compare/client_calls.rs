@@ -1,8 +1,8 @@
 //! Calls without order to a client's events, valid and damaged: two implementations must answer and leave the same.
 
 use crate::client::{digest, map_of, read_message, Client, Nodes, Step};
+use crate::coding;
 use crate::parties::{put_version, write_rows, Pointer, Record, NONE};
-use crate::plain;
 use crate::random::{
     measures, number, other_measures, rare, spoil, spoil_byte, spoil_directory, version, who,
     Numbers,
@@ -87,7 +87,7 @@ fn pieces(numbers: &mut Numbers, s: Measures) -> Vec<Vec<u8>> {
     let page = numbers.below(s.page() + 1);
     let page = numbers.bytes(page);
     let mut room = vec![0; s.n * s.f];
-    let len = plain::split(s.n, s.k, s.f, &page, &mut room).expect("the page fits");
+    let len = coding::split(s.n, s.k, s.f, &page, &mut room).expect("the page fits");
     let mut pieces: Vec<Vec<u8>> = room.chunks(s.f).map(|area| area[..len].to_vec()).collect();
     let kind = numbers.below(8);
     let short = 1 + numbers.below(s.f);

@@ -1,4 +1,4 @@
-//! Pieces and digests, timed on the proved side, in plain Rust and in a library. Each input is compared before it is timed.
+//! Pieces and digests, timed on the proved side, in plain Rust and in a library. Each input is compared on all sides before it is timed.
 
 use crate::clock::{Section, Task, Work};
 use crate::isal::{Joiner, Splitter};
@@ -21,6 +21,9 @@ const WITH_ROWS: usize = 3;
 fn split_task(name: String, n: usize, k: usize, page: &[u8], room: &[u8]) -> Task {
     let (ours, theirs) = (page.to_vec(), page.to_vec());
     let (mut our_room, mut their_room) = (room.to_vec(), room.to_vec());
+    let answer = coding::split(n, k, F, page, &mut our_room);
+    let same = answer == plain::split(n, k, F, page, &mut their_room) && our_room == their_room;
+    assert!(same, "{name}: the baseline differs");
     Task::new(name, page.len(), move || {
         black_box(coding::split(n, k, F, &ours, &mut our_room)).ok();
     })
@@ -72,6 +75,11 @@ impl Join<'_> {
         let (ours, our_lens) = (self.pieces.to_vec(), self.lens.to_vec());
         let (theirs, their_lens) = (self.pieces.to_vec(), self.lens.to_vec());
         let (mut our_out, mut their_out) = (out.to_vec(), out.to_vec());
+        let other = plain::join(n, k, F, present, &theirs, &their_lens, &mut their_out);
+        assert!(
+            other == answer && their_out == end,
+            "{name}: the baseline differs"
+        );
         Task::new(name, page.len(), move || {
             black_box(coding::join(
                 n,
@@ -128,8 +136,10 @@ fn digest_task(numbers: &mut Numbers, len: usize, openssl: Option<OpenSsl>) -> T
     let s = numbers.bytes(len);
     let (digest, answer) = same_digest(&s, 32);
     assert_eq!(answer, Ok(0));
-    let (ours, theirs, libs) = (s.clone(), s.clone(), s);
     let (mut our_out, mut their_out, mut lib_out) = ([0; 32], [0; 32], [0; 32]);
+    let same = plain::digest(&s, &mut their_out) == answer && their_out[..] == digest;
+    assert!(same, "digest of {len} bytes: the baseline differs");
+    let (ours, theirs, libs) = (s.clone(), s.clone(), s);
     Task::new(format!("digest of {len} bytes"), len, move || {
         black_box(coding::digest(&ours, &mut our_out)).ok();
     })

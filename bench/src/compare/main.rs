@@ -4,6 +4,7 @@ mod calls;
 mod client;
 mod client_calls;
 mod clock;
+mod coding;
 mod coding_tasks;
 mod isal;
 mod libraries;

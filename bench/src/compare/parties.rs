@@ -1,25 +1,59 @@
-//! The directory and the data node in plain Rust, from document 01: a table is read into values, and what the step makes of them is
-//! written back whole.
+//! The directory and the data node, as document 01 and docs/LAYOUTS.md define them.
 
-use jolbizna::{Answer, Measures, Version};
 use std::collections::BTreeMap;
 
-/// Whether the measures are within bounds.
-pub fn pass(s: Measures) -> bool {
-    // Any numbers may come, so the sum is taken in more bits.
-    let named = 2 * s.t as u128 + s.k as u128;
-    (1..=8).contains(&s.m)
-        && (1..=16).contains(&s.n)
-        && s.k >= 1
-        && named <= s.n as u128
-        && (1..=4096).contains(&s.f)
-        && s.k * s.f >= 4
-}
+use crate::coding::DIGEST;
+use jolbizna::{Answer, Measures, Version};
 
+/// Below all versions that are drawn.
 pub const NONE: Version = (0, 255);
 
-pub fn proper(s: Measures, v: Version) -> bool {
-    v.0 >= 1 && (v.1 as usize) < s.m
+/// Any numbers may come, so each is bounded before it is multiplied.
+pub fn pass(s: Measures) -> bool {
+    let clients = (1..=8).contains(&s.m);
+    let nodes =
+        (1..=16).contains(&s.n) && (1..=s.n).contains(&s.k) && s.t <= s.n && 2 * s.t + s.k <= s.n;
+    let pieces = (1..=4096).contains(&s.f);
+    clients && nodes && pieces && s.k * s.f >= 4
+}
+
+/// Bytes of the longest pointer.
+pub fn pointer_bytes(s: Measures) -> usize {
+    7 + DIGEST * (s.t + s.k)
+}
+
+/// Bytes of a row's area.
+pub fn row_bytes(s: Measures) -> usize {
+    1 + (s.m + 1) * pointer_bytes(s) + 4 * s.m + 4
+}
+
+/// Bytes of a directory table, and of a scan's answer.
+pub fn directory_bytes(s: Measures) -> usize {
+    s.m * row_bytes(s)
+}
+
+/// Pieces that a node has places for.
+fn places(s: Measures) -> usize {
+    2 * s.m * s.m
+}
+
+/// Bytes of a node table.
+fn node_bytes(s: Measures) -> usize {
+    2 + places(s) * (7 + s.f)
+}
+
+/// A refusal with this number, unless the condition holds.
+pub fn ensure(holds: bool, number: u32) -> Result<(), u32> {
+    if holds {
+        Ok(())
+    } else {
+        Err(number)
+    }
+}
+
+/// A version that a deposit may have drawn.
+pub fn drawn(s: Measures, (sequence, client): Version) -> bool {
+    sequence >= 1 && usize::from(client) < s.m
 }
 
 /// What is left to read.
@@ -27,10 +61,7 @@ pub struct Bytes<'a>(pub &'a [u8]);
 
 impl<'a> Bytes<'a> {
     pub fn take(&mut self, n: usize) -> Option<&'a [u8]> {
-        if self.0.len() < n {
-            return None;
-        }
-        let (front, rest) = self.0.split_at(n);
+        let (front, rest) = self.0.split_at_checked(n)?;
         self.0 = rest;
         Some(front)
     }
@@ -52,19 +83,33 @@ impl<'a> Bytes<'a> {
     }
 
     pub fn zeros(&self) -> bool {
-        self.0.iter().all(|b| *b == 0)
+        self.0.iter().all(|&byte| byte == 0)
     }
 }
 
-pub fn put_version(out: &mut Vec<u8>, v: Version) {
-    out.extend(v.0.to_be_bytes());
-    out.push(v.1);
+pub fn put_version(out: &mut Vec<u8>, (sequence, client): Version) {
+    out.extend(sequence.to_be_bytes());
+    out.push(client);
+}
+
+/// Adds bytes in an area, with zeros behind them.
+pub fn put_area(out: &mut Vec<u8>, bytes: &[u8], area: usize) {
+    let end = out.len() + area;
+    out.extend(bytes);
+    out.resize(end, 0);
+}
+
+/// Writes at the front; the rest stays.
+pub fn put_front(slice: &mut [u8], bytes: &[u8]) {
+    slice[..bytes.len()].copy_from_slice(bytes);
 }
 
 #[derive(Clone, Debug, PartialEq)]
 pub struct Pointer {
     pub version: Version,
+    /// Bit i - 1 for node i.
     pub nodes: u16,
+    /// Those of the nodes named, ascending.
     pub digests: Vec<u8>,
 }
 
@@ -77,21 +122,22 @@ impl Pointer {
         }
     }
 
-    pub fn read(s: Measures, b: &mut Bytes) -> Option<Self> {
-        let (version, nodes) = (b.version()?, b.u16()?);
-        let count = nodes.count_ones() as usize;
-        let known = (nodes as u32) < 1 << s.n;
-        let none = version == NONE && nodes == 0;
-        let named = proper(s, version) && count == s.t + s.k && known;
-        if !none && !named {
-            return None;
-        }
-        let digests = b.take(32 * count)?.to_vec();
-        Some(Pointer {
+    pub fn read(s: Measures, bytes: &mut Bytes) -> Option<Self> {
+        let version = bytes.version()?;
+        let nodes = bytes.u16()?;
+        let digests = bytes.take(DIGEST * nodes.count_ones() as usize)?.to_vec();
+        let pointer = Pointer {
             version,
             nodes,
             digests,
-        })
+        };
+        (pointer == Pointer::none() || pointer.points(s)).then_some(pointer)
+    }
+
+    /// To t + k nodes that there are.
+    fn points(&self, s: Measures) -> bool {
+        let above = u32::from(self.nodes) >> s.n;
+        drawn(s, self.version) && above == 0 && self.nodes.count_ones() as usize == s.t + s.k
     }
 
     pub fn write(&self, out: &mut Vec<u8>) {
@@ -101,7 +147,7 @@ impl Pointer {
     }
 }
 
-/// The fields of a directory record that are there.
+/// A directory record: the fields that are there.
 #[derive(Clone, Default)]
 pub struct Record {
     pub written: Option<Pointer>,
@@ -111,36 +157,53 @@ pub struct Record {
 }
 
 impl Record {
-    pub fn read(s: Measures, b: &mut Bytes) -> Option<Self> {
-        let map = b.u8()?;
-        if map > 15 {
+    /// Of a row at first.
+    fn fresh(s: Measures) -> Self {
+        Record {
+            written: Some(Pointer::none()),
+            frozen: Some(vec![Pointer::none(); s.m]),
+            frozen_indices: Some(vec![0; s.m]),
+            reading: Some(0),
+        }
+    }
+
+    /// Leaves what stands behind the record.
+    pub fn read(s: Measures, bytes: &mut Bytes) -> Option<Self> {
+        let map = bytes.u8()?;
+        if map > 0x0F {
             return None;
         }
         let mut record = Record::default();
         if map & 1 != 0 {
-            record.written = Some(Pointer::read(s, b)?);
+            record.written = Some(Pointer::read(s, bytes)?);
         }
         if map & 2 != 0 {
             record.frozen = Some(
                 (0..s.m)
-                    .map(|_| Pointer::read(s, b))
+                    .map(|_| Pointer::read(s, bytes))
                     .collect::<Option<_>>()?,
             );
         }
         if map & 4 != 0 {
-            record.frozen_indices = Some((0..s.m).map(|_| b.u32()).collect::<Option<_>>()?);
+            record.frozen_indices = Some((0..s.m).map(|_| bytes.u32()).collect::<Option<_>>()?);
         }
         if map & 8 != 0 {
-            record.reading = Some(b.u32()?);
+            record.reading = Some(bytes.u32()?);
         }
         Some(record)
     }
 
     fn map(&self) -> u8 {
-        self.written.is_some() as u8
-            | (self.frozen.is_some() as u8) << 1
-            | (self.frozen_indices.is_some() as u8) << 2
-            | (self.reading.is_some() as u8) << 3
+        let fields = [
+            self.written.is_some(),
+            self.frozen.is_some(),
+            self.frozen_indices.is_some(),
+            self.reading.is_some(),
+        ];
+        fields
+            .iter()
+            .rev()
+            .fold(0, |map, &there| map << 1 | u8::from(there))
     }
 
     pub fn write(&self) -> Vec<u8> {
@@ -154,159 +217,148 @@ impl Record {
         out
     }
 
-    fn fresh(s: Measures) -> Self {
-        Record {
-            written: Some(Pointer::none()),
-            frozen: Some(vec![Pointer::none(); s.m]),
-            frozen_indices: Some(vec![0; s.m]),
-            reading: Some(0),
-        }
+    /// Takes over the fields that are there.
+    fn update(&mut self, fields: Record) {
+        self.written = fields.written.or(self.written.take());
+        self.frozen = fields.frozen.or(self.frozen.take());
+        self.frozen_indices = fields.frozen_indices.or(self.frozen_indices.take());
+        self.reading = fields.reading.or(self.reading);
     }
-
-    fn replace(&mut self, by: Record) {
-        self.written = by.written.or(self.written.take());
-        self.frozen = by.frozen.or(self.frozen.take());
-        self.frozen_indices = by.frozen_indices.or(self.frozen_indices.take());
-        self.reading = by.reading.or(self.reading.take());
-    }
-}
-
-fn read_row(s: Measures, area: &[u8]) -> Option<Record> {
-    let mut b = Bytes(area);
-    let row = Record::read(s, &mut b)?;
-    (row.map() == 15 && b.zeros()).then_some(row)
 }
 
 pub fn read_rows(s: Measures, table: &[u8]) -> Option<Vec<Record>> {
-    table[..s.directory()]
-        .chunks(s.row())
+    table
+        .get(..directory_bytes(s))?
+        .chunks(row_bytes(s))
         .map(|area| read_row(s, area))
         .collect()
 }
 
+fn read_row(s: Measures, area: &[u8]) -> Option<Record> {
+    let mut bytes = Bytes(area);
+    let row = Record::read(s, &mut bytes)?;
+    (row.map() == 0x0F && bytes.zeros()).then_some(row)
+}
+
 pub fn write_rows(s: Measures, rows: &[Record], table: &mut [u8]) {
-    for (row, area) in rows.iter().zip(table.chunks_mut(s.row())) {
-        let bytes = row.write();
-        area.fill(0);
-        area[..bytes.len()].copy_from_slice(&bytes);
+    let mut out = Vec::new();
+    for row in rows {
+        put_area(&mut out, &row.write(), row_bytes(s));
     }
+    put_front(table, &out);
 }
 
 pub fn directory_fresh(s: Measures, table: &mut [u8]) -> Answer {
-    if !pass(s) {
-        return Err(1);
-    }
-    if table.len() < s.directory() {
-        return Err(2);
-    }
+    ensure(pass(s), 1)?;
+    ensure(table.len() >= directory_bytes(s), 2)?;
     write_rows(s, &vec![Record::fresh(s); s.m], table);
     Ok(0)
 }
 
 pub fn directory_update(s: Measures, own: usize, table: &mut [u8], fields: &[u8]) -> Answer {
-    if !pass(s) {
-        return Err(1);
-    }
-    if table.len() < s.directory() {
-        return Err(2);
-    }
-    if own >= s.m {
-        return Err(3);
-    }
+    ensure(pass(s), 1)?;
+    ensure(table.len() >= directory_bytes(s), 2)?;
+    ensure(own < s.m, 3)?;
     let mut rows = read_rows(s, table).ok_or(4u32)?;
-    let mut b = Bytes(fields);
-    let record = Record::read(s, &mut b).ok_or(4u32)?;
-    if !b.0.is_empty() {
-        return Err(4);
-    }
-    rows[own].replace(record);
+    let fields = read_fields(s, fields).ok_or(4u32)?;
+    rows[own].update(fields);
     write_rows(s, &rows, table);
     Ok(0)
 }
 
-pub fn directory_scan(s: Measures, table: &[u8], room: &mut [u8]) -> Answer {
-    if !pass(s) {
-        return Err(1);
-    }
-    let size = s.directory();
-    if table.len() < size || room.len() < size {
-        return Err(2);
-    }
-    read_rows(s, table).ok_or(4u32)?;
-    room[..size].copy_from_slice(&table[..size]);
-    Ok(size)
+/// A record and nothing more.
+fn read_fields(s: Measures, fields: &[u8]) -> Option<Record> {
+    let mut bytes = Bytes(fields);
+    let record = Record::read(s, &mut bytes)?;
+    bytes.0.is_empty().then_some(record)
 }
 
+pub fn directory_scan(s: Measures, table: &[u8], room: &mut [u8]) -> Answer {
+    ensure(pass(s), 1)?;
+    ensure(
+        table.len() >= directory_bytes(s) && room.len() >= directory_bytes(s),
+        2,
+    )?;
+    let rows = read_rows(s, table).ok_or(4u32)?;
+    write_rows(s, &rows, room);
+    Ok(directory_bytes(s))
+}
+
+/// The pieces of a node.
 pub type Held = BTreeMap<Version, Vec<u8>>;
 
 pub fn read_table(s: Measures, table: &[u8]) -> Option<Held> {
-    let mut b = Bytes(&table[..s.table()]);
-    let count = b.u16()? as usize;
-    if count > s.places() {
-        return None;
-    }
+    let mut bytes = Bytes(table.get(..node_bytes(s))?);
     let mut held = Held::new();
-    for _ in 0..count {
-        let (v, len) = (b.version()?, b.u16()? as usize);
-        let area = b.take(s.f)?;
-        let ascends = held.last_key_value().is_none_or(|(last, _)| *last < v);
-        if !proper(s, v) || !ascends || !(1..=s.f).contains(&len) || !Bytes(&area[len..]).zeros() {
+    for _ in 0..bytes.u16()? {
+        let (version, piece) = read_place(s, bytes.take(7 + s.f)?)?;
+        if held
+            .last_key_value()
+            .is_some_and(|(last, _)| *last >= version)
+        {
             return None;
         }
-        held.insert(v, area[..len].to_vec());
+        held.insert(version, piece);
     }
-    b.zeros().then_some(held)
+    bytes.zeros().then_some(held)
+}
+
+fn read_place(s: Measures, place: &[u8]) -> Option<(Version, Vec<u8>)> {
+    let mut bytes = Bytes(place);
+    let version = bytes.version()?;
+    let length = bytes.u16()?;
+    let piece = bytes.take(length.into())?.to_vec();
+    (drawn(s, version) && !piece.is_empty() && bytes.zeros()).then_some((version, piece))
 }
 
 pub fn write_table(s: Measures, held: &Held, table: &mut [u8]) {
     let mut out = (held.len() as u16).to_be_bytes().to_vec();
-    for (v, piece) in held {
-        put_version(&mut out, *v);
+    for (&version, piece) in held {
+        put_version(&mut out, version);
         out.extend((piece.len() as u16).to_be_bytes());
-        out.extend(piece);
-        out.resize(out.len() + s.f - piece.len(), 0);
+        put_area(&mut out, piece, s.f);
     }
-    out.resize(s.table(), 0);
-    table[..s.table()].copy_from_slice(&out);
+    out.resize(node_bytes(s), 0);
+    put_front(table, &out);
 }
 
-enum Message {
-    Store(Version, Vec<u8>),
+/// A message to a node.
+enum Order<'a> {
+    Store(Version, &'a [u8]),
     Request(Version),
     Free(Vec<Version>),
 }
 
-fn read_message(s: Measures, message: &[u8]) -> Option<Message> {
-    let mut b = Bytes(message);
-    match b.u8()? {
+fn read_order(s: Measures, message: &[u8]) -> Option<Order<'_>> {
+    let mut bytes = Bytes(message);
+    match bytes.u8()? {
         1 => {
-            let v = b.version()?;
-            (proper(s, v) && (1..=s.f).contains(&b.0.len()))
-                .then(|| Message::Store(v, b.0.to_vec()))
+            let version = bytes.version()?;
+            let formed = drawn(s, version) && (1..=s.f).contains(&bytes.0.len());
+            formed.then_some(Order::Store(version, bytes.0))
         }
         2 => {
-            let v = b.version()?;
-            (proper(s, v) && b.0.is_empty()).then_some(Message::Request(v))
+            let version = bytes.version()?;
+            (drawn(s, version) && bytes.0.is_empty()).then_some(Order::Request(version))
         }
-        3 => {
-            let mut list = Vec::new();
-            while !b.0.is_empty() {
-                list.push(b.version()?);
-            }
-            let sound = list.iter().all(|v| proper(s, *v)) && list.windows(2).all(|w| w[0] < w[1]);
-            sound.then_some(Message::Free(list))
-        }
+        3 => read_list(s, bytes).map(Order::Free),
         _ => None,
     }
 }
 
+/// Versions, strictly ascending, to the end.
+fn read_list(s: Measures, mut bytes: Bytes) -> Option<Vec<Version>> {
+    let mut list = Vec::new();
+    while !bytes.0.is_empty() {
+        list.push(bytes.version()?);
+    }
+    (list.iter().all(|&version| drawn(s, version)) && list.is_sorted_by(|a, b| a < b))
+        .then_some(list)
+}
+
 pub fn node_fresh(s: Measures, table: &mut [u8]) -> Answer {
-    if !pass(s) {
-        return Err(1);
-    }
-    if table.len() < s.table() {
-        return Err(2);
-    }
+    ensure(pass(s), 1)?;
+    ensure(table.len() >= node_bytes(s), 2)?;
     write_table(s, &Held::new(), table);
     Ok(0)
 }
@@ -318,40 +370,43 @@ pub fn node_message(
     message: &[u8],
     room: &mut [u8],
 ) -> Answer {
-    if !pass(s) {
-        return Err(1);
-    }
-    if table.len() < s.table() || room.len() < s.answer() {
-        return Err(2);
-    }
-    if !(1..=s.n).contains(&i) {
-        return Err(3);
-    }
+    ensure(pass(s), 1)?;
+    ensure(table.len() >= node_bytes(s) && room.len() >= 7 + s.f, 2)?;
+    ensure((1..=s.n).contains(&i), 3)?;
     let mut held = read_table(s, table).ok_or(4u32)?;
-    let mut reply = Vec::new();
-    match read_message(s, message).ok_or(4u32)? {
-        Message::Store(v, piece) => {
-            if !held.contains_key(&v) && held.len() == s.places() {
-                return Err(8);
-            }
-            held.insert(v, piece);
-            reply.push(4);
-            put_version(&mut reply, v);
+    let order = read_order(s, message).ok_or(4u32)?;
+    let answer = carry_out(s, &mut held, order)?;
+    write_table(s, &held, table);
+    put_front(room, &answer);
+    Ok(answer.len())
+}
+
+/// What the node answers.
+fn carry_out(s: Measures, held: &mut Held, order: Order) -> Result<Vec<u8>, u32> {
+    match order {
+        Order::Store(version, piece) => {
+            ensure(held.contains_key(&version) || held.len() < places(s), 8)?;
+            held.insert(version, piece.to_vec());
+            Ok(stored(version))
         }
-        Message::Request(v) => {
-            reply.push(6);
-            put_version(&mut reply, v);
-            reply.push(held.contains_key(&v) as u8);
-            reply.extend(held.get(&v).into_iter().flatten());
-        }
-        Message::Free(list) => {
-            for v in list {
-                held.remove(&v);
-            }
-            reply.push(5);
+        Order::Request(version) => Ok(reply(version, held.get(&version))),
+        Order::Free(list) => {
+            held.retain(|version, _| !list.contains(version));
+            Ok(vec![5])
         }
     }
-    write_table(s, &held, table);
-    room[..reply.len()].copy_from_slice(&reply);
-    Ok(reply.len())
+}
+
+fn stored(version: Version) -> Vec<u8> {
+    let mut message = vec![4];
+    put_version(&mut message, version);
+    message
+}
+
+fn reply(version: Version, piece: Option<&Vec<u8>>) -> Vec<u8> {
+    let mut message = vec![6];
+    put_version(&mut message, version);
+    message.push(piece.is_some().into());
+    message.extend(piece.into_iter().flatten());
+    message
 }

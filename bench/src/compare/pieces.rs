@@ -1,8 +1,8 @@
 //! Split, join and digest on both sides, with the same bytes.
 
-use crate::plain;
+use crate::coding;
 use crate::random::Numbers;
-use jolbizna::{coding, Answer};
+use jolbizna::{coding as proved, Answer};
 use std::collections::BTreeSet;
 
 impl Numbers {
@@ -16,10 +16,10 @@ impl Numbers {
 /// Splits on both sides into rooms with the same bytes, and hands back the room and the answer.
 pub fn same_split(n: usize, k: usize, f: usize, page: &[u8], room: &[u8]) -> (Vec<u8>, Answer) {
     let (mut ours, mut theirs) = (room.to_vec(), room.to_vec());
-    let answer = coding::split(n, k, f, page, &mut ours);
+    let answer = proved::split(n, k, f, page, &mut ours);
     assert_eq!(
         answer,
-        plain::split(n, k, f, page, &mut theirs),
+        coding::split(n, k, f, page, &mut theirs),
         "split {n} {k} {f} {}",
         page.len()
     );
@@ -41,10 +41,10 @@ pub fn same_join(
     out: &[u8],
 ) -> (Vec<u8>, Answer) {
     let (mut ours, mut theirs) = (out.to_vec(), out.to_vec());
-    let answer = coding::join(n, k, f, present, room, lens, &mut ours);
+    let answer = proved::join(n, k, f, present, room, lens, &mut ours);
     assert_eq!(
         answer,
-        plain::join(n, k, f, present, room, lens, &mut theirs),
+        coding::join(n, k, f, present, room, lens, &mut theirs),
         "join {n} {k} {f} {present:b}"
     );
     assert!(
@@ -56,10 +56,10 @@ pub fn same_join(
 
 pub fn same_digest(s: &[u8], out: usize) -> (Vec<u8>, Answer) {
     let (mut ours, mut theirs) = (vec![7; out], vec![7; out]);
-    let answer = coding::digest(s, &mut ours);
+    let answer = proved::digest(s, &mut ours);
     assert_eq!(
         answer,
-        plain::digest(s, &mut theirs),
+        coding::digest(s, &mut theirs),
         "digest of {} bytes",
         s.len()
     );

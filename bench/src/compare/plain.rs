@@ -1,4 +1,4 @@
-//! The same work in plain Rust, from the definitions: one product by the two tables for each byte of the frame.
+//! The baseline of the timings: the same work in plain Rust, one product by the two tables for each byte of the frame.
 
 use jolbizna::Answer;
 

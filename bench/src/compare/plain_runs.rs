@@ -2,8 +2,8 @@
 
 mod client;
 mod client_calls;
+mod coding;
 mod parties;
-mod plain;
 mod random;
 mod runs;
 mod sides;

@@ -2,8 +2,8 @@
 //! calls that are refused. After every event the clauses of demand 3 are tested on what it touched, and at the end on everything.
 
 use crate::client::{nodes_of, read_message, Client, Nodes, Step};
+use crate::coding;
 use crate::parties::{put_version, read_rows, read_table, Bytes, Held, Pointer, Record, NONE};
-use crate::plain;
 use crate::random::{spoil, Numbers};
 use crate::sides::Parties;
 use crate::tally::Tally;
@@ -422,7 +422,7 @@ impl<'a> Run<'a> {
     fn cut(&self, page: &[u8]) -> Vec<Vec<u8>> {
         let s = self.s;
         let mut room = vec![0; s.n * s.f];
-        let len = plain::split(s.n, s.k, s.f, page, &mut room).expect("the page fits");
+        let len = coding::split(s.n, s.k, s.f, page, &mut room).expect("the page fits");
         room.chunks(s.f).map(|area| area[..len].to_vec()).collect()
     }
 
