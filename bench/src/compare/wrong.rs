@@ -610,8 +610,9 @@ pub fn wrong(numbers: &mut Numbers, most: usize) {
         "{:<34} {:>6} {:>7}   caught by",
         "wrong parties", "runs", "calls"
     );
-    for (name, mut side) in parties() {
-        let calls = match client_calls::compare(&mut Plain, side.as_mut(), numbers, 20_000) {
+    // What a party keeps from the calls would come into the runs, so that these get another one of its kind.
+    for ((name, mut called), (_, mut side)) in parties().into_iter().zip(parties()) {
+        let calls = match client_calls::compare(&mut Plain, called.as_mut(), numbers, 20_000) {
             Err((at, _)) => at.to_string(),
             Ok(_) => "-".to_string(),
         };
