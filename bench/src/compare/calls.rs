@@ -362,7 +362,7 @@ pub fn calls(
         }
     }
     println!("{done} calls to the directory and the node of {names}: the same answers and bytes, every refusal among them");
-    tally.print();
+    tally.print("");
     for (name, met) in [
         ("directory, fresh", vec![0, 1, 2]),
         ("directory, update", vec![0, 1, 2, 3, 4]),

@@ -509,7 +509,7 @@ pub fn calls(
     println!(
         "{total} calls to a client of {names}: the same answers and bytes, every refusal among them"
     );
-    tally.print();
+    tally.print("");
     for (name, met) in [
         ("client, fresh", vec![0, 1, 2]),
         ("client, deposit", vec![0, 1, 2, 3, 4, 5, 6]),

@@ -6,10 +6,12 @@ mod client_calls;
 mod clock;
 mod coding;
 mod coding_tasks;
+mod frames;
 mod isal;
 mod libraries;
 mod operations;
 mod parties;
+mod piece_calls;
 mod pieces;
 mod plain;
 mod proved;
@@ -80,7 +82,7 @@ fn times(numbers: &mut Numbers) {
 }
 
 fn comparisons(numbers: &mut Numbers) {
-    pieces::small(numbers);
+    piece_calls::calls(numbers, CALLS);
     calls("the archive", &mut Proved, numbers);
     calls("the title service", &mut Service::default(), numbers);
     runs(numbers);

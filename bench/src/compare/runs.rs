@@ -79,7 +79,7 @@ impl Counts {
     }
 
     pub fn print(&self) {
-        self.tally.print();
+        self.tally.print("");
         for (head, counts) in [("met", &self.met), ("tested", &self.tested)] {
             println!("{:<36} {head:>10}", "");
             for (name, count) in counts {

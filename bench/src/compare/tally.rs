@@ -20,8 +20,8 @@ impl Tally {
             .collect()
     }
 
-    pub fn print(&self) {
-        println!("{:<28} {:>10}   refused", "", "served");
+    pub fn print(&self, head: &str) {
+        println!("{head:<28} {:>10}   refused", "served");
         for (name, counts) in &self.0 {
             let served = counts.get(&0).copied().unwrap_or(0);
             let refused: Vec<String> = counts

@@ -65,7 +65,7 @@ pub fn titles(numbers: &mut Numbers, total: usize) {
         }
     }
     println!("{done} deposits and readings of titles: each reading gives the last page, every refusal among them");
-    tally.print();
+    tally.print("");
     for (name, met) in [
         ("title, fresh", vec![0, 1]),
         ("title, deposit", vec![0, 3, 6]),
