@@ -1,6 +1,6 @@
 //! Calls without order to a client's events, valid and damaged: two implementations must answer and leave the same.
 
-use crate::client::{digest, map_of, read_message, Client, Nodes, Step};
+use crate::client::{digest, map_of, nodes_of, read_message, Client, Message, Nodes, Step};
 use crate::coding;
 use crate::parties::{put_version, write_rows, Pointer, Record, NONE};
 use crate::random::{
@@ -10,7 +10,7 @@ use crate::random::{
 use crate::sides::Parties;
 use crate::tally::Tally;
 use jolbizna::{ClientAnswer, Measures, Version};
-use std::collections::BTreeSet;
+use std::collections::{BTreeMap, BTreeSet};
 
 /// So many nodes of 1 to n.
 fn some_nodes(numbers: &mut Numbers, s: Measures, count: usize) -> Nodes {
@@ -19,6 +19,12 @@ fn some_nodes(numbers: &mut Numbers, s: Measures, count: usize) -> Nodes {
         nodes.insert(1 + numbers.below(s.n));
     }
     nodes
+}
+
+fn all_but_one(numbers: &mut Numbers, nodes: &Nodes) -> Nodes {
+    let one = numbers.below(nodes.len());
+    let others = nodes.iter().enumerate().filter(|(at, _)| *at != one);
+    others.map(|(_, i)| *i).collect()
 }
 
 /// A pointer that is none or proper.
@@ -168,7 +174,7 @@ impl<'a> Session<'a> {
 
     fn make_step(&self, numbers: &mut Numbers) -> Step {
         let s = self.s;
-        match numbers.below(10) {
+        match numbers.below(12) {
             0 => Step::Idle,
             1 => {
                 let len = numbers.below(s.page() + 1);
@@ -191,26 +197,35 @@ impl<'a> Session<'a> {
         }
     }
 
-    /// Few more nodes have to reply, as often as not. Some that are not named may stand among the counted, and have pieces.
     fn make_fetching(&self, numbers: &mut Numbers) -> Step {
         let s = self.s;
         let named = some_nodes(numbers, s, s.t + s.k);
+        let digests = named.iter().flat_map(|i| digest(&self.pieces[i - 1]));
+        let pointer = Pointer {
+            version: self.version,
+            nodes: map_of(&named),
+            digests: digests.collect(),
+        };
         let matching = if numbers.below(2) == 0 {
             s.k - 1
         } else {
             numbers.below(s.k)
         };
+        if numbers.below(2) == 0 {
+            self.make_loose(numbers, pointer, matching)
+        } else {
+            self.make_counted(numbers, pointer, matching)
+        }
+    }
+
+    /// Few more nodes have to reply, as often as not. Some that are not named may stand among the counted, and have pieces.
+    fn make_counted(&self, numbers: &mut Numbers, pointer: Pointer, matching: usize) -> Step {
+        let s = self.s;
+        let named = pointer.named();
         let matching: Nodes = named.iter().copied().take(matching).collect();
         let mut counted = matching.clone();
         if numbers.below(2) == 0 {
-            let one = numbers.below(s.t + s.k);
-            counted.extend(
-                named
-                    .iter()
-                    .enumerate()
-                    .filter(|(at, _)| *at != one)
-                    .map(|(_, i)| i),
-            );
+            counted.extend(all_but_one(numbers, &named));
         }
         if rare(numbers) {
             counted.insert(1 + numbers.below(16));
@@ -219,19 +234,45 @@ impl<'a> Session<'a> {
         if rare(numbers) {
             kept.insert(1 + numbers.below(s.n));
         }
-        let digests = named.iter().flat_map(|i| digest(&self.pieces[i - 1]));
         Step::Fetching {
-            pointer: Pointer {
-                version: self.version,
-                nodes: map_of(&named),
-                digests: digests.collect(),
-            },
+            pointer,
             counted,
             matching,
             pieces: kept
                 .iter()
                 .map(|i| (*i, self.pieces[i - 1].clone()))
                 .collect(),
+        }
+    }
+
+    /// Maps, lengths and pieces without regard to each other, as far as the form allows: nodes that match and are not counted or not
+    /// named, or of which no piece is kept; pieces of nodes that do not match.
+    fn make_loose(&self, numbers: &mut Numbers, pointer: Pointer, matching: usize) -> Step {
+        let s = self.s;
+        let counted = match numbers.below(4) {
+            0 => Nodes::new(),
+            1 => nodes_of(numbers.next() as u16),
+            2 => nodes_of(pointer.nodes & numbers.next() as u16),
+            _ => all_but_one(numbers, &pointer.named()),
+        };
+        let mut pieces = BTreeMap::new();
+        for i in 1..=s.n {
+            match numbers.below(8) {
+                0 => {}
+                1 => {
+                    let len = 1 + numbers.below(s.f);
+                    pieces.insert(i, numbers.bytes(len));
+                }
+                _ => {
+                    pieces.insert(i, self.pieces[i - 1].clone());
+                }
+            }
+        }
+        Step::Fetching {
+            pointer,
+            counted,
+            matching: some_nodes(numbers, s, matching),
+            pieces,
         }
     }
 
@@ -385,10 +426,15 @@ impl<'a> Session<'a> {
         Ok(answer)
     }
 
-    /// An acknowledgement or a reply, most times of the version that is waited for.
-    fn message(&self, numbers: &mut Numbers, node: usize) -> Vec<u8> {
+    /// An acknowledgement or a reply, as often as not what the client awaits, and most times of the version that it waits for.
+    fn message(&self, numbers: &mut Numbers, client: Option<&Client>, node: usize) -> Vec<u8> {
         let s = self.s;
-        let tag = [4, 4, 4, 6, 6, 6, 6, 6, 6, 5][numbers.below(10)];
+        let step = client.map(|client| &client.step);
+        let tag = match (step, numbers.below(2)) {
+            (Some(Step::Storing { .. }), 0) => 4,
+            (Some(Step::Fetching { .. }), 0) => 6,
+            _ => [4, 4, 4, 6, 6, 6, 6, 6, 6, 5][numbers.below(10)],
+        };
         let mut out = vec![tag];
         if tag == 5 {
             return out;
@@ -429,12 +475,27 @@ impl<'a> Session<'a> {
         out
     }
 
+    /// The node that a message comes from: as often as not one whose reply would count, if there is any.
+    fn sender(&self, numbers: &mut Numbers, client: Option<&Client>) -> usize {
+        if let Some(Step::Fetching {
+            pointer, counted, ..
+        }) = client.map(|client| &client.step)
+        {
+            let open: Vec<usize> = pointer.named().difference(counted).copied().collect();
+            if !open.is_empty() && numbers.below(2) == 0 {
+                return open[numbers.below(open.len())];
+            }
+        }
+        who(numbers, 1, self.s.n)
+    }
+
     fn receive(&mut self, numbers: &mut Numbers) -> Outcome {
         let lent = self.lend(numbers);
         let own = self.who(numbers);
-        let node = who(numbers, 1, self.s.n);
-        let message = self.message(numbers, node);
-        let sound = lent.whole && read_message(self.s, &message).is_some();
+        let client = Client::read(self.s, &lent.record).filter(|_| lent.whole);
+        let node = self.sender(numbers, client.as_ref());
+        let message = self.message(numbers, client.as_ref(), node);
+        let sound = client.is_some() && read_message(self.s, &message).is_some();
         let name = match message.first() {
             Some(4) => "client, stored",
             Some(5) => "client, freed",
@@ -450,7 +511,48 @@ impl<'a> Session<'a> {
             ClientAnswer::Refused(4) if sound => self.tally.note("client, reply: no frame", 4),
             _ => {}
         }
+        // Refused for something else than the reply, it shows nothing of the record.
+        if let (Some(client), 0 | 4 | 9) = (client, answer.number()) {
+            self.note_loose(&client, node, &message, answer);
+        }
         Ok(answer)
+    }
+
+    /// Replies that count at a record whose maps, lengths and pieces do not agree.
+    fn note_loose(&mut self, client: &Client, node: usize, message: &[u8], answer: ClientAnswer) {
+        let (
+            Step::Fetching {
+                pointer,
+                counted,
+                matching,
+                pieces,
+            },
+            Some(Message::Reply(version, _)),
+        ) = (&client.step, read_message(self.s, message))
+        else {
+            return;
+        };
+        let named = pointer.named();
+        if version != pointer.version || !named.contains(&node) || counted.contains(&node) {
+            return;
+        }
+        if matching.contains(&node) {
+            self.tally
+                .note("client, reply: not counted", answer.number());
+        }
+        match answer {
+            ClientAnswer::Page(..) if !matching.is_subset(&named) => {
+                self.tally.note("client, reply: one unnamed", 0);
+            }
+            ClientAnswer::Waits if pieces.contains_key(&node) && !matching.contains(&node) => {
+                self.tally.note("client, reply: piece kept", 0);
+            }
+            ClientAnswer::Refused(_) if matching.iter().any(|i| !pieces.contains_key(i)) => {
+                self.tally
+                    .note("client, reply: no piece kept", answer.number());
+            }
+            _ => {}
+        }
     }
 
     fn who(&self, numbers: &mut Numbers) -> usize {
@@ -527,6 +629,10 @@ pub fn calls(
         ("client, reply", vec![0, 1, 2, 3, 4, 9]),
         ("client, reply: page", vec![0]),
         ("client, reply: no frame", vec![4]),
+        ("client, reply: not counted", vec![0, 9]),
+        ("client, reply: piece kept", vec![0]),
+        ("client, reply: no piece kept", vec![4]),
+        ("client, reply: one unnamed", vec![0]),
         ("client, no message", vec![1, 2, 3, 4]),
     ] {
         assert_eq!(tally.met(name), BTreeSet::from_iter(met), "{name}");
