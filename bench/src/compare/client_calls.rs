@@ -596,21 +596,8 @@ pub fn compare(
     Ok(tally)
 }
 
-/// So many calls; each refusal that there is must have been met, and each way to end.
-pub fn calls(
-    names: &str,
-    ours: &mut dyn Parties,
-    theirs: &mut dyn Parties,
-    numbers: &mut Numbers,
-    total: usize,
-) {
-    let tally = match compare(ours, theirs, numbers, total) {
-        Ok(tally) => tally,
-        Err((at, detail)) => panic!("{names}, call {at}: {detail}"),
-    };
-    println!(
-        "{total} calls to a client of {names}: the same answers and bytes, every refusal among them"
-    );
+/// Each refusal that there is must have been met, and each way to end.
+pub fn covered(tally: &Tally) {
     tally.print("");
     for (name, met) in [
         ("client, fresh", vec![0, 1, 2]),

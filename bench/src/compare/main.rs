@@ -43,7 +43,13 @@ fn calls(name: &str, side: &mut dyn Parties, numbers: &mut Numbers) {
     println!();
     calls::calls(&names, side, &mut Plain, numbers, CALLS);
     println!();
-    client_calls::calls(&names, side, &mut Plain, numbers, CALLS);
+    match client_calls::compare(side, &mut Plain, numbers, CALLS) {
+        Ok(tally) => {
+            println!("{CALLS} calls to a client of {names}: the same answers and bytes, every refusal among them");
+            client_calls::covered(&tally);
+        }
+        Err((at, detail)) => panic!("{names}, call {at}: {detail}"),
+    }
 }
 
 /// The same runs three times: the same answers and, by a sum, the same bytes after each event.
