@@ -1,7 +1,7 @@
 //! Whole random runs: a directory, nodes and clients from fresh tables, events in any order, up to t nodes that lie, clients that stop,
 //! calls that are refused. After every event the clauses of demand 3 are tested on what it touched, and at the end on everything.
 
-use crate::client::{nodes_of, read_message, Client, Nodes, Step};
+use crate::client::{nodes_of, read_message, Client, Message, Nodes, Step};
 use crate::coding;
 use crate::parties::{put_version, read_rows, read_table, Bytes, Held, Pointer, Record, NONE};
 use crate::random::{spoil, Numbers};
@@ -25,6 +25,59 @@ pub const SAME: &str = "refused: bytes as they came";
 pub const REST: &str = "the rest of the output stays";
 pub const PLACE: &str = "an answer in its place";
 pub const ENDS: &str = "all delivered: ended";
+
+const CLAUSES: [&str; 14] = [
+    EQUAL, ALIKE, ORDER, STRICT, BYTES, HELD, FEW, NEVER, FORM, NUMBER, SAME, REST, PLACE, ENDS,
+];
+
+/// Events, with the numbers that come.
+const EVENTS: [(&str, &[u32]); 11] = [
+    ("start of a deposit", &[0, 3, 5, 6]),
+    ("start of a reading", &[0, 2, 3, 5]),
+    ("update carried out", &[0, 3]),
+    ("scan carried out", &[0, 2]),
+    ("update's answer", &[0, 2, 3]),
+    ("scan's answer", &[0, 2, 3]),
+    ("message to a node", &[0, 2, 3]),
+    ("message to a liar", &[0]),
+    ("message to a client", &[0, 2, 3]),
+    ("lie", &[0, 2, 3, 4]),
+    ("client stops", &[0]),
+];
+
+/// What else happens.
+const MET: [&str; 27] = [
+    "deposits ended",
+    "deposits ended, a store under way",
+    "readings ended with a page",
+    "readings ended empty",
+    "readings kept an older page",
+    "deposits left by a stop",
+    "readings left by a stop",
+    "deposits left open",
+    "readings left open",
+    "runs without liars",
+    "runs with liars",
+    "runs brought to rest",
+    "runs broken off",
+    "runs that end with 2m pieces",
+    "refused before: call carried out",
+    "refused before: answer handed over",
+    "refused before: message to a node",
+    "refused before: message to a client",
+    "lie: acknowledgement",
+    "lie: acknowledgement again",
+    "lie: true piece",
+    "lie: another piece",
+    "lie: altered piece",
+    "lie: empty piece",
+    "lie: long piece",
+    "lie: not held",
+    "lie: passed over",
+];
+
+/// With fewer runs something may not be met by chance.
+const ENOUGH: usize = 500;
 
 /// A clause that does not hold.
 #[derive(Debug)]
@@ -70,12 +123,25 @@ impl Counts {
         self.tally.note(name, number);
     }
 
-    fn tested(&mut self, clause: &'static str, times: usize) {
-        *self.tested.entry(clause).or_default() += times;
+    fn tested(&mut self, clause: &'static str) {
+        *self.tested.entry(clause).or_default() += 1;
     }
 
     fn met(&mut self, what: &'static str) {
         *self.met.entry(what).or_default() += 1;
+    }
+
+    /// Stops unless every clause was tested, and everything that is counted was met.
+    fn covered(&self) {
+        for clause in CLAUSES {
+            assert!(self.tested.contains_key(clause), "not tested: {clause}");
+        }
+        let met: BTreeSet<&str> = self.met.keys().copied().collect();
+        assert_eq!(met, BTreeSet::from(MET), "what the runs met");
+        for (event, numbers) in EVENTS {
+            let numbers = BTreeSet::from_iter(numbers.iter().copied());
+            assert_eq!(self.tally.met(event), numbers, "{event}");
+        }
     }
 
     pub fn print(&self) {
@@ -140,6 +206,15 @@ enum Event {
     Deliver(usize, usize),
     Lie(usize, usize),
     Stop(usize),
+}
+
+/// Where something is under way.
+#[derive(Clone, Copy, PartialEq, Eq, PartialOrd, Ord)]
+enum Channel {
+    Call(usize),
+    Told(usize),
+    ToNode(usize, usize),
+    ToClient(usize, usize),
 }
 
 /// What a caller gets wrong; the lowest number is that of the short slice.
@@ -243,6 +318,8 @@ struct Run<'a> {
     told: Vec<Option<Told>>,
     to_node: BTreeMap<(usize, usize), VecDeque<Vec<u8>>>,
     to_client: BTreeMap<(usize, usize), VecDeque<Vec<u8>>>,
+    /// Where the next thing was refused before.
+    refused: BTreeSet<Channel>,
     stopped: BTreeSet<usize>,
     // The history.
     now: usize,
@@ -286,6 +363,11 @@ impl<'a> Run<'a> {
         for table in &mut tables {
             assert_eq!(side.node_fresh(s, table), Ok(0));
         }
+        counts.met(if liars.is_empty() {
+            "runs without liars"
+        } else {
+            "runs with liars"
+        });
         let mut records = vec![numbers.bytes(s.record() + spare); s.m];
         for record in &mut records {
             assert_eq!(side.fresh(s, record), ClientAnswer::Waits);
@@ -302,6 +384,7 @@ impl<'a> Run<'a> {
             told: vec![None; s.m],
             to_node: BTreeMap::new(),
             to_client: BTreeMap::new(),
+            refused: BTreeSet::new(),
             stopped: BTreeSet::new(),
             now: 0,
             operations: Vec::new(),
@@ -394,7 +477,11 @@ impl<'a> Run<'a> {
             Event::Deliver(c, i) => self.deliver(numbers, c, i, slip),
             Event::Lie(i, c) => {
                 let message = self.lie(numbers, i, c);
-                self.hand(numbers, "lie", c, i, &message, slip).map(|_| ())
+                let kind = self.kind_of_lie(i, c, &message);
+                if self.hand(numbers, "lie", c, i, &message, slip)? {
+                    self.counts.met(kind);
+                }
+                Ok(())
             }
             Event::Stop(c) => {
                 self.counts.event("client stops", 0);
@@ -492,8 +579,9 @@ impl<'a> Run<'a> {
         let same = before == self.directory;
         self.counts.left(&[&self.directory]);
         if !self.served("update carried out", answer, slip.number(0), same)? {
-            return Ok(());
+            return self.stays(Channel::Call(c));
         }
+        self.goes(Channel::Call(c));
         let written = Record::read(s, &mut Bytes(fields)).and_then(|record| record.written);
         if let (Some(pointer), Some(o)) = (written, self.last[c]) {
             self.puts.push((pointer, o));
@@ -513,8 +601,9 @@ impl<'a> Run<'a> {
         let answer = self.side.directory_scan(self.s, &self.directory, &mut room);
         self.counts.left(&[&room]);
         if !self.served("scan carried out", answer, slip.number(0), before == room)? {
-            return Ok(());
+            return self.stays(Channel::Call(c));
         }
+        self.goes(Channel::Call(c));
         room.truncate(answer.unwrap_or(0));
         self.calls[c] = None;
         self.told[c] = Some(Told::Rows(room));
@@ -540,8 +629,9 @@ impl<'a> Run<'a> {
             })?,
         };
         let Some(served) = served else {
-            return Ok(());
+            return self.stays(Channel::Told(c));
         };
+        self.goes(Channel::Told(c));
         if let (ClientAnswer::Requests(version, _), Told::Rows(rows)) = (served.answer, &told) {
             self.note_older(version, rows);
         }
@@ -577,8 +667,9 @@ impl<'a> Run<'a> {
         let same = before.0 == self.tables[i - 1] && before.1 == room;
         self.counts.left(&[&self.tables[i - 1], &room]);
         if !self.served("message to a node", answer, slip.number(0), same)? {
-            return Ok(());
+            return self.stays(Channel::ToNode(c, i));
         }
+        self.goes(Channel::ToNode(c, i));
         self.held[i - 1] = match read_table(s, &self.tables[i - 1]) {
             Some(held) => held,
             None => return fault(FORM, format!("the table of node {i} is out of form")),
@@ -594,10 +685,29 @@ impl<'a> Run<'a> {
         let Some(message) = message.cloned() else {
             return Ok(());
         };
-        if self.hand(numbers, "message to a client", c, i, &message, slip)? {
-            self.to_client.entry((c, i)).or_default().pop_front();
+        if !self.hand(numbers, "message to a client", c, i, &message, slip)? {
+            return self.stays(Channel::ToClient(c, i));
         }
+        self.goes(Channel::ToClient(c, i));
+        self.to_client.entry((c, i)).or_default().pop_front();
         Ok(())
+    }
+
+    /// What was refused stays under way.
+    fn stays(&mut self, channel: Channel) -> Verdict {
+        self.refused.insert(channel);
+        Ok(())
+    }
+
+    fn goes(&mut self, channel: Channel) {
+        if self.refused.remove(&channel) {
+            self.counts.met(match channel {
+                Channel::Call(_) => "refused before: call carried out",
+                Channel::Told(_) => "refused before: answer handed over",
+                Channel::ToNode(..) => "refused before: message to a node",
+                Channel::ToClient(..) => "refused before: message to a client",
+            });
+        }
     }
 
     /// A message is handed to a client. Says whether it was used up.
@@ -655,15 +765,15 @@ impl<'a> Run<'a> {
 
     fn judge(&mut self, name: &'static str, number: u32, wants: u32, same: bool) -> Verdict {
         self.counts.event(name, number);
-        self.counts.tested(NEVER, 1);
-        self.counts.tested(FORM, 1);
-        self.counts.tested(NUMBER, 1);
+        self.counts.tested(NEVER);
+        self.counts.tested(FORM);
+        self.counts.tested(NUMBER);
         let detail = || format!("{name}: {number} where {wants} is due");
         test(number < 7, NEVER, detail)?;
         test(number != 4 || wants == 4, FORM, detail)?;
         test(number == wants, NUMBER, detail)?;
         if number > 0 {
-            self.counts.tested(SAME, 1);
+            self.counts.tested(SAME);
             test(same, SAME, detail)?;
         }
         Ok(())
@@ -693,6 +803,7 @@ impl<'a> Run<'a> {
             ClientAnswer::Deposited(version, len) => {
                 let o = self.marked(c, true)?;
                 self.bears(o, version)?;
+                self.note_slow(c, version);
                 self.send_all(c, &room[..len]);
                 self.counts.met("deposits ended");
                 self.end(o)
@@ -727,9 +838,20 @@ impl<'a> Run<'a> {
         }
     }
 
+    /// A deposit may end while its piece for a slow node is still under way.
+    fn note_slow(&mut self, c: usize, version: Version) {
+        let mut store = vec![1];
+        put_version(&mut store, version);
+        let queues = self.to_node.iter().filter(|((of, _), _)| *of == c);
+        let mut messages = queues.flat_map(|(_, queue)| queue);
+        if messages.any(|message| message.starts_with(&store)) {
+            self.counts.met("deposits ended, a store under way");
+        }
+    }
+
     /// The client's open operation, which must be of the kind that its answer speaks of.
     fn marked(&mut self, c: usize, deposit: bool) -> Result<usize, Fault> {
-        self.counts.tested(PLACE, 1);
+        self.counts.tested(PLACE);
         let open = self.open(c);
         match open.filter(|o| self.operations[*o].is_deposit() == deposit) {
             Some(o) => {
@@ -741,7 +863,7 @@ impl<'a> Run<'a> {
     }
 
     fn bears(&mut self, o: usize, version: Version) -> Verdict {
-        self.counts.tested(PLACE, 1);
+        self.counts.tested(PLACE);
         let borne = self.operations[o].version;
         test(borne == Some(version), PLACE, || {
             format!("operation {o} bears {borne:?}, its answer has {version:?}")
@@ -757,7 +879,7 @@ impl<'a> Run<'a> {
     }
 
     fn ask(&mut self, c: usize, call: Call) -> Verdict {
-        self.counts.tested(PLACE, 1);
+        self.counts.tested(PLACE);
         let free = self.calls[c].is_none() && self.told[c].is_none() && self.open(c).is_some();
         self.calls[c] = Some(call);
         test(free, PLACE, || format!("client {c} calls out of turn"))
@@ -855,6 +977,56 @@ impl<'a> Run<'a> {
         out
     }
 
+    /// What a lie is to the client that it is handed to.
+    fn kind_of_lie(&self, i: usize, c: usize, message: &[u8]) -> &'static str {
+        let client = Client::read(self.s, &self.records[c]);
+        match (
+            read_message(self.s, message),
+            client.map(|client| client.step),
+        ) {
+            (
+                Some(Message::Stored(of)),
+                Some(Step::Storing {
+                    version, stored, ..
+                }),
+            ) if of == version => {
+                if stored.contains(&i) {
+                    "lie: acknowledgement again"
+                } else {
+                    "lie: acknowledgement"
+                }
+            }
+            (
+                Some(Message::Reply(of, piece)),
+                Some(Step::Fetching {
+                    pointer, counted, ..
+                }),
+            ) if of == pointer.version && pointer.named().contains(&i) && !counted.contains(&i) => {
+                piece.map_or("lie: not held", |piece| {
+                    self.kind_of_piece(i, &pointer, piece)
+                })
+            }
+            _ => "lie: passed over",
+        }
+    }
+
+    fn kind_of_piece(&self, i: usize, pointer: &Pointer, piece: &[u8]) -> &'static str {
+        let put = self.puts.iter().find(|(put, _)| put == pointer);
+        let due = put.and_then(|(_, deposit)| self.operations[*deposit].pieces.get(i - 1));
+        let mut pieces = self.operations.iter().flat_map(|o| &o.pieces);
+        if piece.is_empty() {
+            "lie: empty piece"
+        } else if piece.len() > self.s.f {
+            "lie: long piece"
+        } else if due.is_some_and(|due| due == piece) {
+            "lie: true piece"
+        } else if pieces.any(|other| other == piece) {
+            "lie: another piece"
+        } else {
+            "lie: altered piece"
+        }
+    }
+
     // ---- the clauses
 
     fn concern(&self, o: usize) -> Result<Concern, Fault> {
@@ -881,12 +1053,12 @@ impl<'a> Run<'a> {
         };
         let concern = self.concern(o)?;
         for (p, other) in self.operations.iter().enumerate() {
-            let Some(borne) = other.version else {
+            let Some(borne) = other.version.filter(|_| p != o) else {
                 continue;
             };
             let alike = self.concern(p)? == concern;
             let detail = || format!("operations {o} and {p}: {version:?} and {borne:?}");
-            self.counts.tested(if alike { ALIKE } else { EQUAL }, 1);
+            self.counts.tested(if alike { ALIKE } else { EQUAL });
             test(!alike || version == borne, ALIKE, detail)?;
             test(alike || version != borne, EQUAL, detail)?;
         }
@@ -906,10 +1078,10 @@ impl<'a> Run<'a> {
             };
             let detail = || format!("operation {p} with {borne:?}, later {o} with {version:?}");
             if later.is_deposit() {
-                self.counts.tested(STRICT, 1);
+                self.counts.tested(STRICT);
                 test(borne < version, STRICT, detail)?;
             } else {
-                self.counts.tested(ORDER, 1);
+                self.counts.tested(ORDER);
                 test(borne <= version, ORDER, detail)?;
             }
         }
@@ -924,7 +1096,7 @@ impl<'a> Run<'a> {
         let Concern::Deposit(d) = self.concern(o)? else {
             return fault(BYTES, format!("operation {o} gave a page of nothing"));
         };
-        self.counts.tested(BYTES, 1);
+        self.counts.tested(BYTES);
         test(
             self.operations[d].page.as_ref() == Some(given),
             BYTES,
@@ -946,7 +1118,7 @@ impl<'a> Run<'a> {
             };
             for i in pointer.named().difference(&self.liars) {
                 let piece = self.held[i - 1].get(&pointer.version);
-                self.counts.tested(HELD, 1);
+                self.counts.tested(HELD);
                 test(piece == self.operations[d].pieces.get(i - 1), HELD, || {
                     format!(
                         "node {i} lacks {:?}, which client {c} reads",
@@ -969,7 +1141,7 @@ impl<'a> Run<'a> {
                 count[*writer as usize] += 1;
             }
             for (w, count) in count.iter().enumerate().take(self.s.m) {
-                self.counts.tested(FEW, 1);
+                self.counts.tested(FEW);
                 test(*count <= 2 * self.s.m, FEW, || {
                     format!("node {i} holds {count} pieces of client {w}")
                 })?;
@@ -990,6 +1162,11 @@ impl<'a> Run<'a> {
 
     /// Everything once more, and that what could end has ended if nothing is under way any more.
     fn at_end(&mut self, rested: bool) -> Verdict {
+        self.counts.met(if rested {
+            "runs brought to rest"
+        } else {
+            "runs broken off"
+        });
         for o in 0..self.operations.len() {
             self.test_equal(o)?;
             self.test_order(o)?;
@@ -1000,14 +1177,15 @@ impl<'a> Run<'a> {
         for (o, operation) in self.operations.iter().enumerate() {
             let stopped = self.stopped.contains(&operation.client);
             if operation.ended.is_none() {
-                self.counts.met(if stopped {
-                    "operations left by a stop"
-                } else {
-                    "operations left open"
+                self.counts.met(match (stopped, operation.is_deposit()) {
+                    (true, true) => "deposits left by a stop",
+                    (true, false) => "readings left by a stop",
+                    (false, true) => "deposits left open",
+                    (false, false) => "readings left open",
                 });
             }
             if rested && !stopped {
-                self.counts.tested(ENDS, 1);
+                self.counts.tested(ENDS);
                 test(operation.ended.is_some(), ENDS, || {
                     format!("operation {o} has not ended")
                 })?;
@@ -1087,7 +1265,9 @@ impl<'r, 'a> Lent<'r, 'a> {
             ClientAnswer::Page(_, len) => len,
             _ => 0,
         };
-        run.counts.tested(REST, 1);
+        if front < out.len() {
+            run.counts.tested(REST);
+        }
         test(out[front..] == before.2[front..], REST, || {
             format!("{name}: {answer:?}")
         })?;
@@ -1114,5 +1294,10 @@ pub fn runs(name: &str, side: &mut dyn Parties, seed: u64, total: usize) -> Coun
         "{total} random runs of {name}, {} events: every clause holds after each",
         counts.events
     );
+    if total >= ENOUGH {
+        counts.covered();
+    } else {
+        println!("fewer than {ENOUGH} runs: it is not asserted what they meet");
+    }
     counts
 }
