@@ -26,7 +26,7 @@ mod titles;
 mod wrong;
 
 use proved::Proved;
-use random::Numbers;
+use random::{Numbers, FIRST};
 use service::Service;
 use sides::{Parties, Plain};
 use std::env;
@@ -98,10 +98,18 @@ fn comparisons(numbers: &mut Numbers) {
     wrong::wrong(numbers, 3000);
 }
 
-/// With the word `times` only what is timed is compared.
+/// Takes a number to start from, if another is wanted; with the word `times` only what is timed is compared.
 fn main() {
-    let mut numbers = Numbers(88172645463325252);
-    if env::args().nth(1).as_deref() != Some("times") {
+    let (mut first, mut all) = (FIRST, true);
+    for word in env::args().skip(1) {
+        match word.as_str() {
+            "times" => all = false,
+            _ => first = word.parse().expect("a number, or times"),
+        }
+    }
+    println!("numbers from {first}");
+    let mut numbers = Numbers(first.max(1));
+    if all {
         comparisons(&mut numbers);
     }
     times(&mut numbers);

@@ -10,7 +10,7 @@ mod sides;
 mod tally;
 mod wrong;
 
-use random::Numbers;
+use random::{Numbers, FIRST};
 use sides::Plain;
 use std::env;
 
@@ -30,7 +30,8 @@ fn calls(numbers: &mut Numbers, total: usize) {
 fn main() {
     let mut given = env::args().skip(1).map(|word| word.parse::<u64>());
     let mut next = |other| given.next().map_or(other, |word| word.expect("a number"));
-    let (runs, first) = (next(2000) as usize, next(88172645463325252));
+    let (runs, first) = (next(2000) as usize, next(FIRST));
+    println!("numbers from {first}");
     let mut numbers = Numbers(first.max(1));
     calls(&mut numbers, 100_000);
     println!();

@@ -2,8 +2,11 @@
 
 use jolbizna::{Measures, Version};
 
-/// Numbers without order, the same in each run.
+/// Numbers without order, the same in each run that starts from the same number; 0 would give nothing but 0.
 pub struct Numbers(pub u64);
+
+/// What is started from if nothing else is said.
+pub const FIRST: u64 = 88172645463325252;
 
 impl Numbers {
     pub fn next(&mut self) -> u64 {
