@@ -547,6 +547,29 @@ impl Parties for CountsNone {
     }
 }
 
+/// An idle client scans when a node has dropped its list.
+struct ScansIdle;
+
+impl Parties for ScansIdle {
+    fn receive(
+        &mut self,
+        s: Measures,
+        own: usize,
+        node: usize,
+        record: &mut [u8],
+        message: &[u8],
+        room: &mut [u8],
+        out: &mut [u8],
+    ) -> ClientAnswer {
+        let idle = shown(s, record).is_some_and(|client| client.step == Step::Idle);
+        let answer = Plain.receive(s, own, node, record, message, room, out);
+        match (answer, read_message(s, message)) {
+            (ClientAnswer::Waits, Some(Message::Freed)) if idle => ClientAnswer::Scan,
+            _ => answer,
+        }
+    }
+}
+
 /// A number out of bounds is said before a slice that is too short.
 struct NumberFirst;
 
@@ -597,6 +620,7 @@ fn parties() -> Vec<(&'static str, Box<dyn Parties>)> {
         ("alters a page", Box::new(AltersPage)),
         ("gives up at \"not held\"", Box::new(GivesUp)),
         ("counts no acknowledgement", Box::new(CountsNone)),
+        ("scans when idle", Box::new(ScansIdle)),
         ("begins a refused deposit", Box::new(BeginsRefused)),
         ("clears the output", Box::new(ClearsOutput)),
         ("says 3 before 2", Box::new(NumberFirst)),
