@@ -1,6 +1,7 @@
 //! Whole deposits and readings over the title service, beside the work that none can do without.
 
 use crate::clock::{Section, Task};
+use crate::pieces::{same_digest, same_join, same_split};
 use crate::plain;
 use crate::random::Numbers;
 use crate::report::{head, line, ratio, us};
@@ -42,6 +43,25 @@ fn restore(s: Measures, page: &[u8], join: Join, digest: Digest) -> impl FnMut()
     }
 }
 
+/// The coding in the operations does the same on both sides.
+fn same_coding(s: Measures, page: &[u8]) {
+    let (pieces, answer) = same_split(s.n, s.k, s.f, page, &vec![0; s.n * s.f]);
+    let mut room = vec![0; s.n * s.f];
+    let split = plain::split(s.n, s.k, s.f, page, &mut room);
+    assert!(split == answer && room == pieces, "the baseline differs");
+    for piece in pieces.chunks(s.f) {
+        let mut sum = [0; 32];
+        let same = plain::digest(piece, &mut sum) == Ok(0) && same_digest(piece, 32).0 == sum;
+        assert!(same, "the baseline differs");
+    }
+    let (lens, present) = (vec![s.f as u16; s.n], ((1u32 << s.k) - 1) as u16);
+    let mut out = vec![0; s.page()];
+    let (end, answer) = same_join(s.n, s.k, s.f, present, &pieces, &lens, &out);
+    let join = plain::join(s.n, s.k, s.f, present, &pieces, &lens, &mut out);
+    let same = join == answer && out == end && end == page;
+    assert!(same, "the page comes back");
+}
+
 /// A title with a page that client 0 deposited and client 1 can read.
 fn deposited(s: Measures, page: &[u8]) -> Title {
     let mut title = Title::fresh(s).expect("the measures pass");
@@ -78,6 +98,7 @@ pub fn whole(numbers: &mut Numbers) -> Section {
     for (k, n, m) in two.into_iter().chain([(8, 16, 4), (8, 16, 8)]) {
         let s = Measures::new(m, n, k, (n - k) / 2, F);
         let page = numbers.bytes(s.page());
+        same_coding(s, &page);
         tasks.push(deposit_task(s, &page));
         tasks.push(reading_task(s, &page));
     }
