@@ -166,6 +166,28 @@ impl Parties for RightOnce {
     }
 }
 
+/// The last version of a list to drop stands there twice.
+struct ListsTwice;
+
+impl Parties for ListsTwice {
+    fn scanned(
+        &mut self,
+        s: Measures,
+        own: usize,
+        record: &mut [u8],
+        rows: &[u8],
+        room: &mut [u8],
+    ) -> ClientAnswer {
+        match Plain.scanned(s, own, record, rows, room) {
+            ClientAnswer::Deposited(version, len @ 6..) => {
+                room.copy_within(len - 5..len, len);
+                ClientAnswer::Deposited(version, len + 5)
+            }
+            answer => answer,
+        }
+    }
+}
+
 /// A deposit freezes for the readings that its first scan shows, and its own update publishes that; later readings wait for the next deposit.
 #[derive(Default)]
 struct PublishesAtOnce {
@@ -611,6 +633,7 @@ fn parties() -> Vec<(&'static str, Box<dyn Parties>)> {
         ("counts a node twice", Box::new(CountsTwice)),
         ("never drops", Box::new(NeverDrops)),
         ("drops at its first deposit alone", Box::new(RightOnce)),
+        ("lists a version twice", Box::new(ListsTwice)),
         ("reserves nothing", Box::new(ReservesNothing)),
         ("draws above its own", Box::new(OwnSequence)),
         ("draws under one name", Box::new(OneName)),
