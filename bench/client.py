@@ -4,7 +4,7 @@
     client.py FOLDER    writes FOLDER/stdin (calls, in binary) and FOLDER/stdout (what each must print)
 
 Written from document 01 and the source's Algorithms 1 and 2, with the bytes of records, messages and rooms from docs/DECISIONS.md (21 to 33) and the
-record's layout from crates/protocol/specs/Client.antt. It shares no code with the definitions or the proved client, joins pieces by Lagrange's form
+record's layout from crates/parties/specs/protocol/Client.antt. It shares no code with the definitions or the proved client, joins pieces by Lagrange's form
 and takes SHA-256 from Python; directory and nodes are reference.py's.
 Eight records of 71,680 bytes, at first `poison`, are kept from call to call: step (1 byte), reading index (4), then the area. A call in stdin, high
 bytes first: kind (1 byte), whether the record after it is kept (1), the record's number (1), m n k t F, the client's and the node's number (2 each),

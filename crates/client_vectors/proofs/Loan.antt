@@ -20,15 +20,15 @@ use denote.Steps.{owned, peeks}
 use denote.Struct.Steps.{spelt}
 use denote.Struct.Laws as LL
 use denote.Enum.Laws as EL
-use Rattle.client.specs.declared.phase.Phase.{Phase}
-use Rattle.client.specs.declared.phase.Turned.{Turned}
-use Rattle.client.specs.declared.answer.ClientAnswer.{ClientAnswer}
-use Rattle.client.proofs.phase.Phase as S
-use Rattle.client.proofs.phase.Phase.Laws as S′
-use Rattle.client.proofs.answer.ClientAnswer as N
-use Rattle.client.proofs.answer.ClientAnswer.Laws as N′
-use Rattle.client.proofs.phase.Turned as T
-use Rattle.client.proofs.phase.Turned.Laws as T′
+use Rattle.parties.specs.declared.Phase.{Phase}
+use Rattle.parties.specs.declared.Turned.{Turned}
+use Rattle.parties.specs.declared.ClientAnswer.{ClientAnswer}
+use Rattle.parties.proofs.Phase as S
+use Rattle.parties.proofs.Phase.Laws as S′
+use Rattle.parties.proofs.ClientAnswer as N
+use Rattle.parties.proofs.ClientAnswer.Laws as N′
+use Rattle.parties.proofs.Turned as T
+use Rattle.parties.proofs.Turned.Laws as T′
 
 -- the machine value of the struct
 abbrev pub structVal : Phase → Val

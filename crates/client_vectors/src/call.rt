@@ -3,12 +3,12 @@ use crate::events;
 use crate::input;
 use crate::input::Call;
 use crate::space;
-use client::answer::ClientAnswer;
-use client::phase::Phase;
-use client::phase::Turned;
-use client::turn;
-use protocol::version::ReadingIndex;
-use protocol::version::Version;
+use parties::ClientAnswer;
+use parties::Phase;
+use parties::ReadingIndex;
+use parties::Turned;
+use parties::Version;
+use parties::client::turn;
 ghost use Prim.Native.Nat.{_≤_};
 
 fn print_version(v: Version) {

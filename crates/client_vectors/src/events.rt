@@ -1,8 +1,8 @@
-// Events at a client through `client_event::event`: a local phase is lent to it, and goes back with the answer as from `client::turn`.
-use client::phase::Phase;
-use client::phase::Turned;
-use client_event::event;
-use protocol::measures::Measures;
+// Events at a client through `parties::client::event`: a local phase is lent to it, and goes back with the answer as from `parties::client::turn`.
+use parties::Measures;
+use parties::Phase;
+use parties::Turned;
+use parties::client::event;
 
 pub fn fresh(mut p: Phase, s: Measures, area: &mut [u8]) -> Turned {
     let answer = event::fresh(&mut p, s, area);

@@ -1,6 +1,6 @@
 // The head of a call.
 use libc::STDIN_FILENO;
-use protocol::measures::Measures;
+use parties::Measures;
 ghost use Prim.Native.Nat.{_+_, _≤_, _<_};
 ghost use lib.ListN.{length};
 

@@ -6,7 +6,7 @@
 //     how many bytes follow (4), and they: a page, rows or a message
 // Kinds: 1 a fresh record, 2 a deposit starts with a page, 3 a reading starts, 4 an update's answer, 5 a scan's answer with rows,
 // 6 a message, 7 they become the record's front.
-// A call whose record is kept goes through `client_event::event`, any other through `client::turn`.
+// A call whose record is kept goes through `parties::client::event`, any other through `parties::client::turn`.
 mod call;
 mod events;
 mod input;

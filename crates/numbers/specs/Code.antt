@@ -1,9 +1,9 @@
 -- Measures from numbers, and answers as numbers.
 use mathlib.Core.List.{List, [], _∷_}
 use Prim.Native.Nat.{ℕ, _+_, _^_}
-use Rattle.protocol.specs.declared.measures.Measures.{Measures}
-use Rattle.protocol.specs.declared.version.Version.{Version}
-use Rattle.protocol.specs.Answer.{ClientAnswer, refused, waits, scan, update, stores, requests, deposited, empty, page, spent, failed, Served, refuses, serves}
+use Rattle.parties.specs.declared.Measures.{Measures}
+use Rattle.parties.specs.declared.Version.{Version}
+use Rattle.parties.specs.protocol.Answer.{ClientAnswer, refused, waits, scan, update, stores, requests, deposited, empty, page, spent, failed, Served, refuses, serves}
 
 abbrev pub measured : ℕ → ℕ → ℕ → ℕ → ℕ → Measures
 measured m n k t f = record { m = m; n = n; k = k; t = t; f = f }

@@ -1,13 +1,13 @@
 // Answers as numbers, for C and Rust.
-use client::answer::ClientAnswer;
-use parties::answer::Service;
-use protocol::version::Version;
-use records::answer::Refusal;
+use parties::ClientAnswer;
+use parties::Refusal;
+use parties::Service;
+use parties::Version;
 ghost use mathlib.Core.Path.{_≡_};
-ghost use Rattle.protocol.specs.Answer.{refuses};
-ghost use Rattle.records.specs.Answer.{number};
+ghost use Rattle.parties.specs.protocol.Answer.{refuses};
+ghost use Rattle.parties.specs.records.Answer.{number};
 ghost use Rattle.parties.specs.Answer.{served};
-ghost use Rattle.client.specs.Answer.{answered};
+ghost use Rattle.parties.specs.client.Answer.{answered};
 ghost use Rattle.numbers.specs.Code.{code, ofVersion, told};
 
 fn refused(r: Refusal) -> u64

@@ -1,16 +1,1 @@
-pub mod DirectoryEndLaws
-pub mod FreshLaws
-pub mod RebuildLaws
-pub mod RoomLaws
-pub mod UpdateEndLaws
-pub mod UpdateLaws
-pub mod TableLaws
-pub mod SeekLaws
-pub mod ToNodeLaws
-pub mod ShownLaws
-pub mod KeepLaws
-pub mod NodeFreshLaws
-pub mod NodeSizeLaws
-pub mod NodeEndLaws
-pub mod DropLaws
-pub mod FreeingLaws
+pub mod SizesLaws

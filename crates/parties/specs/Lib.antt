@@ -1,4 +1,7 @@
+pub mod protocol
+pub mod records
 pub mod Answer
-pub mod Room
-pub mod ToNode
-pub mod NodeCode
+pub mod Sizes
+pub mod directory
+pub mod node
+pub mod client

@@ -1,14 +1,14 @@
 // The directory: a table of rows, one for each client, that is updated field by field and scanned whole.
-use crate::answer::Service;
-use protocol::measures::Measures;
-use records::answer::Refusal;
-use records::bytes::copy;
-use records::form::Ends;
-use records::form::Parts;
-use records::form::directory;
-use records::form::field_ends;
-use records::form::row_size;
-use records::form::whole_record;
+use crate::Measures;
+use crate::Refusal;
+use crate::Service;
+use crate::records::bytes::copy;
+use crate::records::form::Ends;
+use crate::records::form::Parts;
+use crate::records::form::directory;
+use crate::records::form::field_ends;
+use crate::records::form::row_size;
+use crate::records::form::whole_record;
 ghost use mathlib.Core.Path.{_≡_};
 ghost use mathlib.Core.Bool.{true};
 ghost use mathlib.Core.List.{_++_};
@@ -16,13 +16,13 @@ ghost use mathlib.Core.Option.{some};
 ghost use Prim.Native.Nat.{_+_, _*_, _≤_, _<_};
 ghost use lib.ListN.{length, take, drop, getD, replicate};
 ghost use lib.Seq.{paste};
-ghost use Rattle.protocol.specs.Format.{writeMany};
-ghost use Rattle.protocol.specs.Measures.{passes, rowSize};
-ghost use Rattle.protocol.specs.Directory.{freshRow, writeRow, readRow};
-ghost use Rattle.protocol.specs.DirectoryEvents.{directoryFresh, directoryUpdate, directoryScan};
+ghost use Rattle.parties.specs.protocol.Format.{writeMany};
+ghost use Rattle.parties.specs.protocol.Measures.{passes, rowSize};
+ghost use Rattle.parties.specs.protocol.Directory.{freshRow, writeRow, readRow};
+ghost use Rattle.parties.specs.protocol.DirectoryEvents.{directoryFresh, directoryUpdate, directoryScan};
 ghost use Rattle.parties.specs.Answer.{served};
-ghost use Rattle.records.specs.Form.{rest, Recorded};
-ghost use Rattle.parties.specs.Room.{Built, Ordered, Renewed, part, renewed};
+ghost use Rattle.parties.specs.records.Form.{rest, Recorded};
+ghost use Rattle.parties.specs.directory.Room.{Built, Ordered, Renewed, part, renewed};
 
 // A fresh row: the map of all fields, and pointers that are none; the rest is zero. The longest row, of 8 clients and 16 digests a
 // pointer, has 4708 bytes.

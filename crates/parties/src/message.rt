@@ -1,14 +1,14 @@
 // Messages to a node: their forms.
-use protocol::measures::Measures;
-use protocol::version::Sequence;
-use protocol::version::Version;
-use records::version::proper_at;
-use records::version::version_at;
+use crate::Measures;
+use crate::Sequence;
+use crate::Version;
+use crate::records::version::proper_at;
+use crate::records::version::version_at;
 ghost use mathlib.Core.Path.{_≡_};
 ghost use Prim.Native.Nat.{_+_, _*_, _≤_};
 ghost use lib.ListN.{length};
-ghost use Rattle.protocol.specs.Version.{none};
-ghost use Rattle.parties.specs.ToNode.{listedFrom, storeSound, freeSound};
+ghost use Rattle.parties.specs.protocol.Version.{none};
+ghost use Rattle.parties.specs.node.ToNode.{listedFrom, storeSound, freeSound};
 
 // A version, then a piece of 1 to F bytes.
 pub fn store_sound(s: Measures, b: &[u8]) -> bool

@@ -1,32 +1,32 @@
 // A data node's events on its lent table.
-use crate::answer::Service;
+use crate::Measures;
+use crate::Refusal;
+use crate::Sequence;
+use crate::Service;
+use crate::Version;
 use crate::message::free_sound;
 use crate::message::store_sound;
-use protocol::measures::Measures;
-use protocol::version::Sequence;
-use protocol::version::Version;
-use records::answer::Refusal;
-use records::bytes::clear;
-use records::bytes::copy;
-use records::bytes::move_down;
-use records::bytes::move_up;
-use records::bytes::put_u16;
-use records::bytes::u16_at;
-use records::bytes::zero_run;
-use records::version::version_alone;
-use records::version::version_at;
+use crate::records::bytes::clear;
+use crate::records::bytes::copy;
+use crate::records::bytes::move_down;
+use crate::records::bytes::move_up;
+use crate::records::bytes::put_u16;
+use crate::records::bytes::u16_at;
+use crate::records::bytes::zero_run;
+use crate::records::version::version_alone;
+use crate::records::version::version_at;
 ghost use mathlib.Core.Path.{_≡_};
 ghost use mathlib.Core.Bool.{true};
 ghost use mathlib.Core.List.{_∷_};
 ghost use Prim.Native.Nat.{_+_, _-_, _*_, _/_, _<_, _≤_};
 ghost use lib.ListN.{length, getD, take, drop};
-ghost use Rattle.protocol.specs.Measures.{passes, places, placeSize};
-ghost use Rattle.protocol.specs.Version.{none};
-ghost use Rattle.protocol.specs.NodeEvents.{nodeFresh, nodeMessage};
+ghost use Rattle.parties.specs.protocol.Measures.{passes, places, placeSize};
+ghost use Rattle.parties.specs.protocol.Version.{none};
+ghost use Rattle.parties.specs.protocol.NodeEvents.{nodeFresh, nodeMessage, tableSize};
 ghost use Rattle.parties.specs.Answer.{served};
-ghost use Rattle.records.specs.Places.{numberAt, soundAt, soundFrom, soundTable, rank, standsAt, splice, placeOf, versionAlone};
-ghost use Rattle.parties.specs.ToNode.{storeSound};
-ghost use Rattle.parties.specs.NodeCode.{Ready, Ends, event, broughtBy, inserted, listBehind, listNames, Listed, Released};
+ghost use Rattle.parties.specs.records.Places.{numberAt, soundAt, soundFrom, soundTable, rank, standsAt, splice, placeOf, versionAlone};
+ghost use Rattle.parties.specs.node.ToNode.{storeSound};
+ghost use Rattle.parties.specs.node.NodeCode.{Ready, Ends, event, broughtBy, inserted, listBehind, listNames, Listed, Released};
 
 // The length in the two bytes at a place.
 fn length_at(t: &[u8], at: usize) -> usize
@@ -311,6 +311,14 @@ fn free(s: Measures, t: &mut [u8], b: &[u8], room: &mut [u8]) -> Service
     Service::Served(1)
 }
 
+// A count and the places, each of a version, a length and a piece.
+pub(crate) fn table_size(s: Measures) -> usize
+    requires { ⌜ passes s ≡ true ⌝ }
+    ensures { λ r. ⌜ r ≡ tableSize s ⌝ }
+{
+    2 + 2 * (s.m * s.m) * (7 + s.f)
+}
+
 // A message, once measures, slices and node number are sound.
 fn receive(s: Measures, t: &mut [u8], b: &[u8], room: &mut [u8]) -> Service
     requires { ⌜ (passes s ≡ true) × (2 + places s * placeSize s ≤ length (now t)) × (7 + s .f ≤ length (now room)) ⌝ }
@@ -344,7 +352,8 @@ pub fn message(s: Measures, i: usize, table: &mut [u8], message: &[u8], room: &m
     if !s.pass() {
         return Service::Refused(Refusal::Measures);
     }
-    if table.len() < 2 + 2 * (s.m * s.m) * (7 + s.f) {
+    let size = table_size(s);
+    if table.len() < size {
         return Service::Refused(Refusal::Short);
     }
     if room.len() < 7 + s.f {
@@ -366,7 +375,7 @@ pub fn fresh_table(s: Measures, table: &mut [u8]) -> Service
     if !s.pass() {
         return Service::Refused(Refusal::Measures);
     }
-    let size = 2 + 2 * (s.m * s.m) * (7 + s.f);
+    let size = table_size(s);
     if table.len() < size {
         return Service::Refused(Refusal::Short);
     }

@@ -1,11 +1,11 @@
 // Directory, data node and client for C and Rust: each function takes numbers and slices, and requires nothing.
 use numbers::numbers_of;
 use numbers::service_code;
-use protocol::measures::Measures;
+use parties::Measures;
 ghost use mathlib.Core.Path.{_≡_};
-ghost use Rattle.protocol.specs.DirectoryEvents.{directoryFresh, directoryUpdate, directoryScan};
-ghost use Rattle.protocol.specs.NodeEvents.{nodeFresh, nodeMessage};
-ghost use Rattle.protocol.specs.ClientEvents.{clientFresh, startDeposit, startReading, updateAnswer, scanAnswer, clientMessage};
+ghost use Rattle.parties.specs.protocol.DirectoryEvents.{directoryFresh, directoryUpdate, directoryScan};
+ghost use Rattle.parties.specs.protocol.NodeEvents.{nodeFresh, nodeMessage};
+ghost use Rattle.parties.specs.protocol.ClientEvents.{clientFresh, startDeposit, startReading, updateAnswer, scanAnswer, clientMessage};
 ghost use Rattle.numbers.specs.Code.{measured, code, told};
 
 #[no_mangle]
@@ -104,7 +104,7 @@ pub extern "C" fn client_fresh(
     ensures { λ _. ⌜ (now (answer .exit) ≡ told (clientFresh (measured m n k t f) (now (client .entry)) .answer))
         × (now (client .exit) ≡ clientFresh (measured m n k t f) (now (client .entry)) .client) ⌝ }
 {
-    *answer = numbers_of(client_record::event::fresh(Measures { m, n, k, t, f }, client));
+    *answer = numbers_of(parties::client::record::fresh(Measures { m, n, k, t, f }, client));
 }
 
 #[no_mangle]
@@ -122,7 +122,7 @@ pub extern "C" fn client_deposit(
     ensures { λ _. ⌜ (now (answer .exit) ≡ told (startDeposit (measured m n k t f) own (now (client .entry)) (now (page .entry)) .answer))
         × (now (client .exit) ≡ startDeposit (measured m n k t f) own (now (client .entry)) (now (page .entry)) .client) ⌝ }
 {
-    *answer = numbers_of(client_record::event::deposit(
+    *answer = numbers_of(parties::client::record::deposit(
         Measures { m, n, k, t, f },
         own,
         client,
@@ -146,7 +146,12 @@ pub extern "C" fn client_read(
         × (now (client .exit) ≡ startReading (measured m n k t f) own (now (client .entry)) (now (room .entry)) .client)
         × (now (room .exit) ≡ startReading (measured m n k t f) own (now (client .entry)) (now (room .entry)) .room) ⌝ }
 {
-    *answer = numbers_of(client_record::event::read(Measures { m, n, k, t, f }, own, client, room));
+    *answer = numbers_of(parties::client::record::read(
+        Measures { m, n, k, t, f },
+        own,
+        client,
+        room,
+    ));
 }
 
 #[no_mangle]
@@ -165,7 +170,7 @@ pub extern "C" fn client_updated(
         × (now (client .exit) ≡ updateAnswer (measured m n k t f) own (now (client .entry)) (now (room .entry)) .client)
         × (now (room .exit) ≡ updateAnswer (measured m n k t f) own (now (client .entry)) (now (room .entry)) .room) ⌝ }
 {
-    *answer = numbers_of(client_record::event::updated(
+    *answer = numbers_of(parties::client::record::updated(
         Measures { m, n, k, t, f },
         own,
         client,
@@ -190,7 +195,7 @@ pub extern "C" fn client_scanned(
         × (now (client .exit) ≡ scanAnswer (measured m n k t f) own (now (client .entry)) (now (rows .entry)) (now (room .entry)) .client)
         × (now (room .exit) ≡ scanAnswer (measured m n k t f) own (now (client .entry)) (now (rows .entry)) (now (room .entry)) .room) ⌝ }
 {
-    *answer = numbers_of(client_record::event::scanned(
+    *answer = numbers_of(parties::client::record::scanned(
         Measures { m, n, k, t, f },
         own,
         client,
@@ -219,7 +224,7 @@ pub extern "C" fn client_receive(
         × (now (room .exit) ≡ clientMessage (measured m n k t f) own i (now (client .entry)) (now (message .entry)) (now (room .entry)) (now (out .entry)) .room)
         × (now (out .exit) ≡ clientMessage (measured m n k t f) own i (now (client .entry)) (now (message .entry)) (now (room .entry)) (now (out .entry)) .out) ⌝ }
 {
-    *answer = numbers_of(client_record::event::receive(
+    *answer = numbers_of(parties::client::record::receive(
         Measures { m, n, k, t, f },
         own,
         i,

@@ -1,14 +1,11 @@
 // What a line of a script asks for.
+use lines::command::Command as StandCommand;
+use lines::command::asked as asked_of_stand;
 use lines::read::Line;
 use lines::read::Page;
+use parties::Measures;
 
-pub enum Command {
-    // An empty line, or one whose first word is `#`.
-    Nothing,
-    // m, n, k, t and F.
-    Config(usize, usize, usize, usize, usize),
-    // A node.
-    Liar(usize),
+pub enum Event {
     // A client, and a page of so many bytes.
     Deposit(usize, usize),
     // A client.
@@ -21,8 +18,16 @@ pub enum Command {
     Deliver(usize, usize),
     // A node, a client, and so many bytes.
     Lie(usize, usize, usize),
+}
+
+pub enum Command {
+    // An empty line, or one whose first word is `#`.
+    Nothing,
+    Config(Measures),
     // A node.
+    Liar(usize),
     Show(usize),
+    Event(Event),
     // A line of another form.
     Other,
 }
@@ -32,129 +37,84 @@ fn number(x: u64) -> bool {
     x < 4294967296
 }
 
-fn config(l: Line) -> Command {
-    let v = l.numbers;
-    if l.words != 6 {
+// One number. The names are packed words: `carry`, `hand`, `liar`, `show`.
+fn one(name: u64, x: u64) -> Command {
+    if !number(x) {
         return Command::Other;
     }
-    if !number(v[0]) {
-        return Command::Other;
+    let a = x as usize;
+    match name {
+        1526348280441 => Command::Event(Event::Carry(a)),
+        6046183012 => Command::Event(Event::Hand(a)),
+        6113812850 => Command::Liar(a),
+        6231191415 => Command::Show(a),
+        _ => Command::Other,
     }
-    if !number(v[1]) {
-        return Command::Other;
-    }
-    if !number(v[2]) {
-        return Command::Other;
-    }
-    if !number(v[3]) {
-        return Command::Other;
-    }
-    if !number(v[4]) {
-        return Command::Other;
-    }
-    Command::Config(
-        v[0] as usize,
-        v[1] as usize,
-        v[2] as usize,
-        v[3] as usize,
-        v[4] as usize,
-    )
 }
 
-// One number. The names are packed words: `read`, `carry`, `hand`, `liar`, `show`.
-fn one(l: Line) -> Command {
-    let v = l.numbers;
-    if !number(v[0]) {
+// Two numbers: `bring`, `deliver`.
+fn two(name: u64, x: u64, y: u64) -> Command {
+    if !number(x) {
         return Command::Other;
     }
-    let a = v[0] as usize;
-    if l.name == 6214213988 {
-        return Command::Read(a);
-    }
-    if l.name == 1526348280441 {
-        return Command::Carry(a);
-    }
-    if l.name == 6046183012 {
-        return Command::Hand(a);
-    }
-    if l.name == 6113812850 {
-        return Command::Liar(a);
-    }
-    if l.name == 6231191415 {
-        return Command::Show(a);
-    }
-    Command::Other
-}
-
-// Two numbers (`bring`, `deliver`), or a number and a page (`deposit`).
-fn two(l: Line) -> Command {
-    let v = l.numbers;
-    if !number(v[0]) {
+    if !number(y) {
         return Command::Other;
     }
-    let a = v[0] as usize;
-    if l.name == 100316625289570676 {
-        let p = l.page;
-        match p {
-            Page::Bytes(n) => {
-                return Command::Deposit(a, n);
-            }
-            Page::Nothing => {
-                return Command::Other;
-            }
-        }
+    let a = x as usize;
+    let b = y as usize;
+    match name {
+        1522337934951 => Command::Event(Event::Bring(a, b)),
+        100316608009233778 => Command::Event(Event::Deliver(a, b)),
+        _ => Command::Other,
     }
-    if !number(v[1]) {
-        return Command::Other;
-    }
-    let b = v[1] as usize;
-    if l.name == 1522337934951 {
-        return Command::Bring(a, b);
-    }
-    if l.name == 100316608009233778 {
-        return Command::Deliver(a, b);
-    }
-    Command::Other
 }
 
 // Two numbers and bytes: `lie`.
-fn three(l: Line) -> Command {
-    let v = l.numbers;
-    if l.name != 23882085 {
+fn three(name: u64, x: u64, y: u64, p: Page) -> Command {
+    if name != 23882085 {
         return Command::Other;
     }
-    if !number(v[0]) {
+    if !number(x) {
         return Command::Other;
     }
-    if !number(v[1]) {
+    if !number(y) {
         return Command::Other;
     }
-    let p = l.page;
     match p {
-        Page::Bytes(n) => Command::Lie(v[0] as usize, v[1] as usize, n),
+        Page::Bytes(n) => Command::Event(Event::Lie(x as usize, y as usize, n)),
         Page::Nothing => Command::Other,
     }
 }
 
-pub fn asked(l: Line) -> Command {
-    // `#`, or an only word of no bytes
+// What `stand` does not know.
+fn other(l: Line) -> Command {
+    let v = l.numbers;
+    let p = l.page;
+    let words = l.words;
+    match words {
+        2 => one(l.name, v[0]),
+        3 => two(l.name, v[0], v[1]),
+        4 => three(l.name, v[0], v[1], p),
+        _ => Command::Other,
+    }
+}
+
+// `#`, or an only word of no bytes.
+fn nothing(l: Line) -> bool {
     if l.name == 291 {
+        return true;
+    }
+    l.words == 1 && l.name == 1
+}
+
+pub fn asked(l: Line) -> Command {
+    if nothing(l) {
         return Command::Nothing;
     }
-    if l.words == 1 && l.name == 1 {
-        return Command::Nothing;
+    match asked_of_stand(l) {
+        StandCommand::Config(m, n, k, t, f) => Command::Config(Measures { m, n, k, t, f }),
+        StandCommand::Read(c) => Command::Event(Event::Read(c)),
+        StandCommand::Deposit(c, n) => Command::Event(Event::Deposit(c, n)),
+        StandCommand::Other => other(l),
     }
-    if l.name == 390805221435751 {
-        return config(l);
-    }
-    if l.words == 2 {
-        return one(l);
-    }
-    if l.words == 3 {
-        return two(l);
-    }
-    if l.words == 4 {
-        return three(l);
-    }
-    Command::Other
 }

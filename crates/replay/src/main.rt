@@ -1,59 +1,64 @@
 // `replay`: a script of single events from standard input, one a line, and after each what happened.
-use crate::run::Answer;
 use crate::run::Run;
-use crate::run::close;
-use crate::run::feed;
+use crate::run::line;
 use crate::run::start;
+use crate::space::Memory;
+use crate::space::Page;
+use crate::space::Post;
 use libc::STDIN_FILENO;
-use libc::STDOUT_FILENO;
-use session::space;
+use lines::read::Reading;
+use lines::read::begin;
+use lines::read::ended;
+use lines::read::next;
 ghost use Prim.Native.Nat.{_<_, _≤_};
 ghost use lib.ListN.{length};
 
 mod command;
 mod report;
 mod run;
+mod space;
 
-// The answer's line is written.
-fn put(a: Answer, text: &[u8]) -> Run {
-    let n = a.len;
-    if n <= text.len() {
-        io::write_all(STDOUT_FILENO, &text[0..n]);
-    }
-    a.run
+// A run, and what was read of the next line.
+struct Script {
+    run: Run,
+    // The line has a byte.
+    open: bool,
+    reading: Reading,
 }
 
-// A byte of the script, and what it answers.
-fn step(
-    x: Run,
-    b: u8,
-    memory: &mut [u8],
-    room: &mut [u8],
-    out: &mut [u8],
-    post: &mut [u8],
-    page: &mut [u8],
-    text: &mut [u8],
-) -> Run {
-    let a = feed(x, b, memory, room, out, post, page, text);
-    put(a, text)
+// A byte of the script.
+fn feed(x: Script, b: u8, memory: &mut Memory, post: &mut Post, page: &mut Page) -> Script {
+    let r = x.reading;
+    let y = x.run;
+    if b == 10 {
+        let run = line(y, ended(r), memory, post, page);
+        return Script {
+            run,
+            open: false,
+            reading: begin(),
+        };
+    }
+    let reading = next(r, b, page);
+    Script {
+        run: y,
+        open: true,
+        reading,
+    }
 }
 
 fn feed_all(
-    x: Run,
+    x: Script,
     input: &[u8],
-    memory: &mut [u8],
-    room: &mut [u8],
-    out: &mut [u8],
-    post: &mut [u8],
-    page: &mut [u8],
-    text: &mut [u8],
-) -> Run {
+    memory: &mut Memory,
+    post: &mut Post,
+    page: &mut Page,
+) -> Script {
     let mut y = x;
     let mut i = 0;
     while i < input.len() {
         let b = input[i];
         i += 1;
-        y = step(y, b, memory, room, out, post, page, text);
+        y = feed(y, b, memory, post, page);
     }
     y
 }
@@ -77,70 +82,42 @@ fn fewer(turns: u64, n: usize) -> u64
     turns - 1
 }
 
-// A run, and how many turns it has left.
-struct Turns {
-    run: Run,
-    left: u64,
-}
-
-// The next bytes of the script are fed.
-fn feed_more(
-    x: Turns,
-    input: &mut [u8],
-    memory: &mut [u8],
-    room: &mut [u8],
-    out: &mut [u8],
-    post: &mut [u8],
-    page: &mut [u8],
-    text: &mut [u8],
-) -> Turns
-    requires { ⌜ 0 < x .left ⌝ }
-    ensures { λ r. ⌜ r .left < x .left ⌝ }
-{
-    let n = more(input);
-    let left = fewer(x.left, n);
-    let y = x.run;
-    let run = feed_all(y, &input[0..n], memory, room, out, post, page, text);
-    Turns { run, left }
-}
-
 // All of the script; the turns are more than any input has.
 fn feed_input(
-    x: Run,
+    x: Script,
     input: &mut [u8],
-    memory: &mut [u8],
-    room: &mut [u8],
-    out: &mut [u8],
-    post: &mut [u8],
-    page: &mut [u8],
-    text: &mut [u8],
-) -> Run {
-    let mut y = Turns {
-        run: x,
-        left: u64::MAX,
-    };
-    while 0 < y.left {
-        y = feed_more(y, input, memory, room, out, post, page, text);
+    memory: &mut Memory,
+    post: &mut Post,
+    page: &mut Page,
+) -> Script {
+    let mut y = x;
+    let mut left = u64::MAX;
+    while 0 < left {
+        let n = more(input);
+        left = fewer(left, n);
+        y = feed_all(y, &input[0..n], memory, post, page);
     }
-    y.run
+    y
+}
+
+// The end of the script: a last line may lack its line feed.
+fn close(x: Script, memory: &mut Memory, post: &mut Post, page: &mut Page) {
+    if x.open {
+        feed(x, 10, memory, post, page);
+    }
 }
 
 fn main() {
-    let mut memory_space = space::memory();
-    let memory: &mut [u8] = &mut memory_space;
-    let mut room_space = space::room();
-    let room: &mut [u8] = &mut room_space;
-    let mut out_space = space::page();
-    let out: &mut [u8] = &mut out_space;
-    let mut post_space = space::post();
-    let post: &mut [u8] = &mut post_space;
-    let mut page_space = space::page();
-    let page: &mut [u8] = &mut page_space;
-    let mut text_space = space::text();
-    let text: &mut [u8] = &mut text_space;
-    let mut input_space = io::buffer();
-    let input: &mut [u8] = &mut input_space;
-    let x = feed_input(start(), input, memory, room, out, post, page, text);
-    let a = close(x, memory, room, out, post, page, text);
-    put(a, text);
+    let mut memory = [0u8; 40960];
+    let mut post = [0u8; 262144];
+    let mut page = [0u8; 1100];
+    let mut space = io::buffer();
+    let input: &mut [u8] = &mut space;
+    let x = Script {
+        run: start(),
+        open: false,
+        reading: begin(),
+    };
+    let y = feed_input(x, input, &mut memory, &mut post, &mut page);
+    close(y, &mut memory, &mut post, &mut page);
 }

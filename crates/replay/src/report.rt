@@ -1,27 +1,83 @@
-// What happened, in words, at a place of the text; each function gives the place after them.
-use client::answer::ClientAnswer;
+// What happened, in words on standard output.
+use crate::command::Event;
+use crate::space::Page;
+use crate::space::Room;
+use libc::STDOUT_FILENO;
 use lines::text::byte;
-use lines::text::bytes;
 use lines::text::decimal;
 use lines::text::hex;
-use parties::answer::Service;
-use protocol::measures::Measures;
-use protocol::version::Version;
-use records::nodes::stands;
+use parties::ClientAnswer;
+use parties::Measures;
+use parties::Service;
+use parties::Version;
+use parties::records::nodes::has_node;
 use runs::answer::Happened;
 use runs::least::least;
 ghost use Prim.Native.Nat.{_<_, _≤_};
 
-pub fn number(text: &mut [u8], at: usize, x: usize) -> usize {
-    decimal(text, at, x as u64)
+pub fn say(words: &[u8]) {
+    io::write_all(STDOUT_FILENO, words);
+}
+
+// So many of the bytes, if there are.
+fn say_first(b: &[u8], n: usize) {
+    if n <= b.len() {
+        say(&b[0..n]);
+    }
+}
+
+// A byte of words: the number in place of a `%`.
+fn put(text: &mut [u8], at: usize, b: u8, x: usize) -> usize {
+    if b == b'%' {
+        return decimal(text, at, x as u64);
+    }
+    byte(text, at, b)
+}
+
+// The number in place of the next `%`.
+fn after(b: u8, next: usize) -> usize
+    requires { ⌜ next < 5 ⌝ }
+    ensures { λ r. ⌜ r < 5 ⌝ }
+{
+    if b != b'%' {
+        return next;
+    }
+    if next < 4 {
+        return next + 1;
+    }
+    4
+}
+
+fn put_all(text: &mut [u8], words: &[u8], numbers: [usize; 5]) -> usize {
+    let mut to = 0;
+    let mut next = 0;
+    for i in 0..words.len() {
+        let b = words[i];
+        to = put(text, to, b, numbers[next]);
+        next = after(b, next);
+    }
+    to
+}
+
+// Words with a number in place of each `%`, in one write.
+fn say_all(words: &[u8], numbers: [usize; 5]) {
+    let mut text = [0u8; 256];
+    let n = put_all(&mut text, words, numbers);
+    say_first(&text, n);
+}
+
+pub fn say_one(words: &[u8], x: usize) {
+    say_all(words, [x, 0, 0, 0, 0])
+}
+
+fn say_two(words: &[u8], x: usize, y: usize) {
+    say_all(words, [x, y, 0, 0, 0])
 }
 
 // A version: sequence, a point, client.
-fn version(text: &mut [u8], at: usize, v: Version) -> usize {
+fn say_version(words: &[u8], v: Version) {
     let q = v.sequence;
-    let a = decimal(text, at, q.0 as u64);
-    let b = byte(text, a, b'.');
-    decimal(text, b, v.client as u64)
+    say_two(words, q.0 as usize, v.client as usize)
 }
 
 fn wide(b: u8) -> usize
@@ -44,225 +100,214 @@ fn two_at(b: &[u8], at: usize) -> usize
 }
 
 // The version in five bytes.
-fn version_at(text: &mut [u8], at: usize, b: &[u8], from: usize) -> usize
+fn say_version_at(words: &[u8], b: &[u8], from: usize)
     requires { ⌜ from ≤ 1000000 ⌝ }
 {
-    let q = two_at(b, from) * 65536 + two_at(b, from + 2);
-    let a = number(text, at, q);
-    let p = byte(text, a, b'.');
-    number(text, p, byte_at(b, from + 4))
+    let sequence = two_at(b, from) * 65536 + two_at(b, from + 2);
+    say_two(words, sequence, byte_at(b, from + 4))
+}
+
+fn say_hex(b: &[u8]) {
+    let mut digits = io::buffer();
+    let n = hex(&mut digits, 0, b);
+    say_first(&digits, n);
 }
 
 // Bytes from a place on, so many at most, or `empty`.
-fn shown(text: &mut [u8], at: usize, b: &[u8], from: usize, n: usize) -> usize {
+fn shown(b: &[u8], from: usize, n: usize) {
     if b.len() < from {
-        return at;
+        return;
     }
     let to = from + least(n, b.len() - from);
     if to <= from {
-        return bytes(text, at, b"empty");
+        return say(b"empty");
     }
-    hex(text, at, &b[from..to])
+    say_hex(&b[from..to])
 }
 
-// A node after a space, where it stands in the bit map.
-fn node(text: &mut [u8], at: usize, map: u16, i: usize) -> usize
+// A node, where it stands in the bit map.
+fn node(map: u16, i: usize)
     requires { ⌜ (1 ≤ i) × (i ≤ 16) ⌝ }
 {
-    if !stands(map, i) {
-        return at;
+    if has_node(map, i) {
+        say_one(b" %", i);
     }
-    let a = byte(text, at, b' ');
-    number(text, a, i)
 }
 
 // The nodes of a bit map.
-fn nodes(text: &mut [u8], at: usize, map: u16) -> usize {
-    let mut to = at;
+fn nodes(map: u16) {
     for i in 1..17 {
-        to = node(text, to, map, i);
+        node(map, i);
     }
-    to
 }
 
-// So many versions of a free list's message, each after a space.
-fn versions(text: &mut [u8], at: usize, room: &[u8], count: usize) -> usize
+// So many versions of a free list's message.
+fn versions(room: &[u8], count: usize)
     requires { ⌜ count ≤ 200000 ⌝ }
 {
-    let mut to = at;
     for j in 0..count {
-        let a = byte(text, to, b' ');
-        to = version_at(text, a, room, 1 + 5 * j);
+        say_version_at(b" %.%", room, 1 + 5 * j);
     }
-    to
 }
 
 // The versions of a free list's message of so many bytes.
-fn freed(text: &mut [u8], at: usize, room: &[u8], len: usize) -> usize {
+fn freed(room: &[u8], len: usize) {
     let count = least(len, 1000000) / 5;
     if count == 0 {
-        return bytes(text, at, b" none");
+        return say(b" none");
     }
-    versions(text, at, room, count)
+    versions(room, count)
 }
 
-pub fn refused(text: &mut [u8], at: usize, x: usize) -> usize {
-    let a = bytes(text, at, b"refused ");
-    number(text, a, x)
+fn refused(x: usize) {
+    say_one(b"refused %", x)
 }
 
-fn drawn(text: &mut [u8], at: usize, s: Measures, v: Version, len: usize) -> usize {
-    let a = bytes(text, at, b"draws ");
-    let b = version(text, a, v);
-    let c = bytes(text, b, b", sends ");
-    let d = number(text, c, s.n);
-    let e = bytes(text, d, b" pieces of ");
-    let f = number(text, e, len);
-    bytes(text, f, b" bytes")
+fn drawn(s: Measures, v: Version, len: usize) {
+    let q = v.sequence;
+    say_all(
+        b"draws %.%, sends % pieces of % bytes",
+        [q.0 as usize, v.client as usize, s.n, len, 0],
+    )
 }
 
-fn picked(text: &mut [u8], at: usize, v: Version, map: u16) -> usize {
-    let a = bytes(text, at, b"picks ");
-    let b = version(text, a, v);
-    let c = bytes(text, b, b", asks");
-    nodes(text, c, map)
+fn picked(v: Version, map: u16) {
+    say_version(b"picks %.%, asks", v);
+    nodes(map)
 }
 
-fn deposited(text: &mut [u8], at: usize, v: Version, room: &[u8], len: usize) -> usize {
-    let a = bytes(text, at, b"ends with ");
-    let b = version(text, a, v);
-    let c = bytes(text, b, b", frees");
-    freed(text, c, room, len)
+fn deposited(v: Version, room: &[u8], len: usize) {
+    say_version(b"ends with %.%, frees", v);
+    freed(room, len)
 }
 
-fn page(text: &mut [u8], at: usize, v: Version, out: &[u8], len: usize) -> usize {
-    let a = bytes(text, at, b"ends with ");
-    let b = version(text, a, v);
-    let c = bytes(text, b, b", page ");
-    shown(text, c, out, 0, len)
+fn page(v: Version, out: &[u8], len: usize) {
+    say_version(b"ends with %.%, page ", v);
+    shown(out, 0, len)
 }
 
-fn by_client(
-    text: &mut [u8],
-    at: usize,
-    s: Measures,
-    a: ClientAnswer,
-    room: &[u8],
-    out: &[u8],
-) -> usize {
+fn updates(len: usize) {
+    say_one(b"calls update of % bytes", len)
+}
+
+fn ends(x: usize) {
+    say_one(b"ends, refused %", x)
+}
+
+fn by_client(s: Measures, a: ClientAnswer, room: &Room, out: &Page) {
     match a {
-        ClientAnswer::Refused(r) => refused(text, at, r.number()),
-        ClientAnswer::Waits => bytes(text, at, b"waits"),
-        ClientAnswer::Scan => bytes(text, at, b"calls scan"),
-        ClientAnswer::Update(n) => {
-            let b = bytes(text, at, b"calls update of ");
-            let c = number(text, b, n);
-            bytes(text, c, b" bytes")
-        }
-        ClientAnswer::Stores(v, n) => drawn(text, at, s, v, n),
-        ClientAnswer::Requests(v, map) => picked(text, at, v, map),
-        ClientAnswer::Deposited(v, n) => deposited(text, at, v, room, n),
-        ClientAnswer::Empty => bytes(text, at, b"picks none, ends empty"),
-        ClientAnswer::Page(v, n) => page(text, at, v, out, n),
-        ClientAnswer::Spent => bytes(text, at, b"ends, refused 7"),
-        ClientAnswer::Failed => bytes(text, at, b"ends, refused 9"),
+        ClientAnswer::Refused(r) => refused(r.number()),
+        ClientAnswer::Waits => say(b"waits"),
+        ClientAnswer::Scan => say(b"calls scan"),
+        ClientAnswer::Update(n) => updates(n),
+        ClientAnswer::Stores(v, n) => drawn(s, v, n),
+        ClientAnswer::Requests(v, map) => picked(v, map),
+        ClientAnswer::Deposited(v, n) => deposited(v, room, n),
+        ClientAnswer::Empty => say(b"picks none, ends empty"),
+        ClientAnswer::Page(v, n) => page(v, out, n),
+        ClientAnswer::Spent => ends(7),
+        ClientAnswer::Failed => ends(9),
     }
 }
 
 // A node's message of so many bytes: tag, version, and for a piece a 1 in front of it.
-fn message(text: &mut [u8], at: usize, room: &[u8], len: usize) -> usize {
-    let a = bytes(text, at, b"answers ");
+fn message(room: &[u8], len: usize) {
     let tag = byte_at(room, 0);
     if tag == 5 {
-        return bytes(text, a, b"freed");
+        return say(b"answers freed");
     }
     if tag == 4 {
-        let b = bytes(text, a, b"stored ");
-        return version_at(text, b, room, 1);
+        return say_version_at(b"answers stored %.%", room, 1);
     }
-    let b = version_at(text, a, room, 1);
     if byte_at(room, 6) == 0 {
-        return bytes(text, b, b" not held");
+        return say_version_at(b"answers %.% not held", room, 1);
     }
-    let c = byte(text, b, b' ');
-    if len < 7 {
-        return c;
+    say_version_at(b"answers %.% ", room, 1);
+    if 7 <= len {
+        shown(room, 7, len - 7);
     }
-    shown(text, c, room, 7, len - 7)
 }
 
 // Of a directory's call: no bytes answer an update.
-fn rows(text: &mut [u8], at: usize, len: usize) -> usize {
+fn rows(len: usize) {
     if len == 0 {
-        return bytes(text, at, b"updated");
+        return say(b"updated");
     }
-    let a = bytes(text, at, b"rows of ");
-    let b = number(text, a, len);
-    bytes(text, b, b" bytes")
+    say_one(b"rows of % bytes", len)
 }
 
-fn by_server(text: &mut [u8], at: usize, node: bool, a: Service, room: &[u8]) -> usize {
+fn by_server(e: Event, a: Service, room: &Room) {
     match a {
-        Service::Refused(r) => refused(text, at, r.number()),
-        Service::Served(n) => {
-            if node {
-                message(text, at, room, n)
-            } else {
-                rows(text, at, n)
-            }
-        }
+        Service::Refused(r) => refused(r.number()),
+        Service::Served(n) => match e {
+            Event::Bring(_, _) => message(room, n),
+            _ => rows(n),
+        },
     }
 }
 
-pub fn happened(
-    text: &mut [u8],
-    at: usize,
-    s: Measures,
-    node: bool,
-    what: Happened,
-    room: &[u8],
-    out: &[u8],
-) -> usize {
+// What an event answered.
+pub fn happened(s: Measures, e: Event, what: Happened, room: &Room, out: &Page) {
     match what {
-        Happened::Refused(r) => refused(text, at, r.number()),
-        Happened::Nothing => bytes(text, at, b"nothing under way"),
-        Happened::Taken => bytes(text, at, b"taken by a liar"),
-        Happened::ByClient(a) => by_client(text, at, s, a, room, out),
-        Happened::ByServer(a) => by_server(text, at, node, a, room),
+        Happened::Refused(r) => refused(r.number()),
+        Happened::Nothing => say(b"nothing under way"),
+        Happened::Taken => say(b"taken by a liar"),
+        Happened::ByClient(a) => by_client(s, a, room, out),
+        Happened::ByServer(a) => by_server(e, a, room),
     }
 }
 
-// A place of a node's table: version, length, piece.
-fn held(text: &mut [u8], at: usize, table: &[u8], from: usize) -> usize
+// The front of its line.
+pub fn event(e: Event) {
+    match e {
+        Event::Deposit(c, _) => say_one(b"deposit %: ", c),
+        Event::Read(c) => say_one(b"read %: ", c),
+        Event::Carry(c) => say_one(b"carry %: ", c),
+        Event::Hand(c) => say_one(b"hand %: ", c),
+        Event::Bring(c, i) => say_two(b"bring % %: ", c, i),
+        Event::Deliver(i, c) => say_two(b"deliver % %: ", i, c),
+        Event::Lie(i, c, _) => say_two(b"lie % %: ", i, c),
+    }
+}
+
+// The measures, in front of a run's other lines.
+pub fn header(s: Measures) {
+    say_all(b"AWE % % % % %\n", [s.m, s.n, s.k, s.t, s.f])
+}
+
+// The length and the piece at a place of a node's table, after the version.
+fn held(table: &[u8], from: usize)
     requires { ⌜ from ≤ 900000 ⌝ }
 {
-    let a = version_at(text, at, table, from);
-    let b = byte(text, a, b' ');
-    shown(text, b, table, from + 7, two_at(table, from + 5))
+    shown(table, from + 7, two_at(table, from + 5))
 }
 
 // The places after the first, of so many bytes each.
-fn others(text: &mut [u8], at: usize, table: &[u8], size: usize, count: usize) -> usize
+fn others(table: &[u8], size: usize, count: usize)
     requires { ⌜ (size ≤ 71) × (count ≤ 18) ⌝ }
 {
-    let mut to = at;
     let mut from = 2;
     for j in 1..count {
         from += size;
-        let a = bytes(text, to, b", ");
-        to = held(text, a, table, from);
+        say_version_at(b", %.% ", table, from);
+        held(table, from);
     }
-    to
 }
 
 // The filled places; a table has at most 18.
-pub fn holdings(text: &mut [u8], at: usize, table: &[u8], f: usize) -> usize {
+fn places(table: &[u8], f: usize) {
     let count = least(two_at(table, 0), 18);
     if count == 0 {
-        return bytes(text, at, b" nothing");
+        return say(b" nothing");
     }
-    let size = 7 + least(f, 64);
-    let a = byte(text, at, b' ');
-    let b = held(text, a, table, 2);
-    others(text, b, table, size, count)
+    say_version_at(b" %.% ", table, 2);
+    held(table, 2);
+    others(table, 7 + least(f, 64), count)
+}
+
+// What a node holds.
+pub fn holds(i: usize, table: &[u8], f: usize) {
+    say_one(b"node % holds", i);
+    places(table, f);
+    say(b"\n")
 }

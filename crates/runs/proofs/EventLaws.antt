@@ -12,16 +12,15 @@ use lib.ListN.{length, take, drop, getD}
 use lib.Seq.{drop-cons, take-all, take-length}
 use types.Run.{OneOf, miss}
 use denote.Enum.Declared.{tagOf}
-use Rattle.protocol.specs.declared.measures.Measures.{Measures}
-use Rattle.protocol.specs.Measures.{passes}
-use Rattle.protocol.specs.Nodes.{stands}
-use Rattle.protocol.proofs.MeasureLaws.{passed}
-use Rattle.protocol.specs.Run.{Event, isRefused}
-use Rattle.client.specs.declared.answer.ClientAnswer.{ClientAnswer}
-use Rattle.client.specs.Answer.{answered}
-use Rattle.client.proofs.answer.ClientAnswer.{the-type}
-use Rattle.records.specs.declared.answer.Refusal.{Refusal}
-use Rattle.parties.specs.declared.answer.Service.{Service}
+use Rattle.parties.specs.declared.Measures.{Measures}
+use Rattle.parties.specs.protocol.Measures.{passes}
+use Rattle.parties.proofs.protocol.formats.MeasureLaws.{passed}
+use Rattle.parties.specs.protocol.Run.{Event, isRefused}
+use Rattle.parties.specs.declared.ClientAnswer.{ClientAnswer}
+use Rattle.parties.specs.client.Answer.{answered}
+use Rattle.parties.proofs.ClientAnswer.{the-type}
+use Rattle.parties.specs.declared.Refusal.{Refusal}
+use Rattle.parties.specs.declared.Service.{Service}
 use Rattle.runs.specs.declared.answer.Happened.{Happened}
 use Rattle.runs.specs.declared.event.Readiness.{Readiness}
 use Rattle.runs.specs.declared.parcels.Found.{Found}
@@ -29,17 +28,6 @@ use Rattle.runs.specs.Parcels.{Parcel, bodies, FindsAt, Finds, Within, A
 use Rattle.runs.specs.Acts.{Lent, body, tagged, Serves}
 use Rattle.runs.specs.Event.{Readies}
 use Rattle.runs.specs.Happens.{Capable, needed, liesIn, honestIn, Happens}
-
--- ---- dishonest nodes
-
-pub lies-low : (liars i : ℕ) → i < 1 → false ≡ liesIn liars i
-lies-low liars i h = rw (lt-leb 1 i h)
-
-pub lies-high : (liars i : ℕ) → 1 ≤ i → 16 < i → false ≡ liesIn liars i
-lies-high liars i l h = rw (le-leb 1 i l, lt-leb i 16 h)
-
-pub lies-within : (liars i : ℕ) → 1 ≤ i → i ≤ 16 → (r : Bool) → r ≡ stands liars i → r ≡ liesIn liars i
-lies-within liars i l h r e = rw (le-leb 1 i l, le-leb i 16 h) e
 
 -- ---- a client's answer
 

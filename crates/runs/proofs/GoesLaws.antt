@@ -9,23 +9,23 @@ use native.Mathlib.Numerals.{add-one}
 use native.Mathlib.Omega.{arith}
 use lib.ListN.{length, take, drop, length-append, length-take}
 use lib.Seq.{drop-drop, take-nil}
-use Rattle.protocol.specs.declared.measures.Measures.{Measures}
-use Rattle.protocol.specs.Measures.{passes}
-use Rattle.protocol.specs.Answer.{Served}
-use Rattle.protocol.specs.ClientEvents.{ClientEnd, startDeposit, startReading, updateAnswer, scanAnswer, clientMessage, after}
-use Rattle.protocol.specs.DirectoryEvents.{DirectoryEnd, directoryUpdate, directoryScan}
-use Rattle.protocol.specs.NodeEvents.{NodeEnd, nodeMessage}
-use Rattle.protocol.specs.Run.{State, History, Call, scanCall, updateCall, Return, updated, rows, Event, deposit, reading, carry, hand, bring, deliver, lie}
-use Rattle.protocol.specs.Run.{Answered, nothing, byClient, Result, upd, upd₂, tick, isRefused, called, lengthOf, carryOut, fresh, run}
-use Rattle.protocol.specs.Run.{stays, goes, starts, returned, told, carried, scanBy, updateBy, keeps, lost, brought}
-use Rattle.protocol.proofs.MeasureLaws.{passed}
-use Rattle.protocol.proofs.DepositStartLaws.{deposit-room}
-use Rattle.protocol.proofs.Cells.{by-eq}
-use Rattle.protocol.proofs.RunLaws.{run-last, head-scan, head-update, head-updated, head-rows, head-to-node, head-to-client, none-to-node, none-to-client, none-called, none-returned}
+use Rattle.parties.specs.declared.Measures.{Measures}
+use Rattle.parties.specs.protocol.Measures.{passes}
+use Rattle.parties.specs.protocol.Answer.{Served}
+use Rattle.parties.specs.protocol.ClientEvents.{ClientEnd, startDeposit, startReading, updateAnswer, scanAnswer, clientMessage, after}
+use Rattle.parties.specs.protocol.DirectoryEvents.{DirectoryEnd, directoryUpdate, directoryScan}
+use Rattle.parties.specs.protocol.NodeEvents.{NodeEnd, nodeMessage}
+use Rattle.parties.specs.protocol.Run.{State, History, Call, scanCall, updateCall, Return, updated, rows, Event, deposit, reading, carry, hand, bring, deliver, lie}
+use Rattle.parties.specs.protocol.Run.{Answered, nothing, byClient, Result, upd, upd₂, tick, isRefused, called, lengthOf, carryOut, fresh, run}
+use Rattle.parties.specs.protocol.Run.{stays, goes, starts, returned, told, carried, scanBy, updateBy, keeps, lost, brought}
+use Rattle.parties.proofs.protocol.formats.MeasureLaws.{passed}
+use Rattle.parties.proofs.protocol.events.DepositStartLaws.{deposit-room}
+use Rattle.parties.proofs.protocol.model.Cells.{by-eq}
+use Rattle.parties.proofs.protocol.events.RunLaws.{run-last, head-scan, head-update, head-updated, head-rows, head-to-node, head-to-client, none-to-node, none-to-client, none-called, none-returned}
 use Rattle.parties.specs.Answer.{served}
-use Rattle.parties.specs.declared.answer.Service.{Service}
-use Rattle.client.specs.Answer.{answered}
-use Rattle.client.specs.declared.answer.ClientAnswer.{ClientAnswer}
+use Rattle.parties.specs.declared.Service.{Service}
+use Rattle.parties.specs.client.Answer.{answered}
+use Rattle.parties.specs.declared.ClientAnswer.{ClientAnswer}
 use Rattle.title.specs.Memory.{directoryIn, tableAt, tableIn, recordAt, recordIn, Put}
 use Rattle.title.specs.Service.{Shows, Called, Returned, Brought, Delivered, Lied, Handed, Serves as MemoryServes}
 use Rattle.title.proofs.Service.{serves-shows}

@@ -9,10 +9,10 @@ use lib.Dec.{eqb}
 use lib.ListN.{length, take, drop, length-append, take-append-drop}
 use lib.Seq.{take-at, drop-at, drop-drop, take-take, length-take-le}
 use Rattle.title.proofs.PartLaws.{both-true}
-use Rattle.protocol.specs.Format.{writeNumber, writeMany}
-use Rattle.protocol.proofs.Cells.{by-eq}
-use Rattle.protocol.proofs.PointerLaws.{length-number}
-use Rattle.records.proofs.SpliceLaws.{many-append}
+use Rattle.parties.specs.protocol.Format.{writeNumber, writeMany}
+use Rattle.parties.proofs.protocol.model.Cells.{by-eq}
+use Rattle.parties.proofs.protocol.formats.PointerLaws.{length-number}
+use Rattle.parties.proofs.records.SpliceLaws.{many-append}
 use Rattle.runs.specs.Parcels.{Parcel, writeParcel, writeParcels, proper, properAll, Listed, keyed, bodies, FindsAt, Appended, Removed}
 use Rattle.runs.specs.Acts.{body}
 use Rattle.runs.proofs.PostLaws.{bodies-append, length-parcel}

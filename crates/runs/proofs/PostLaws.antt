@@ -9,10 +9,10 @@ use borrow.Author.Tests.{ltb-true, eq-eqb, ne-eqb}
 use lib.Dec.{eqb, ltb}
 use lib.ListN.{length, getD, take, drop, set, length-append, length-take, length-drop, length-set}
 use lib.Seq.{take-suc-set, take-add, take-length, drop-drop, drop-at, getD-take, getD-drop, length-take-le, paste, length-paste, take-paste}
-use Rattle.protocol.specs.Format.{readNumber, writeNumber, writeMany}
-use Rattle.protocol.proofs.PointerLaws.{length-number}
-use Rattle.records.proofs.BytesLaws.{four-read}
-use Rattle.records.proofs.SpliceLaws.{many-append}
+use Rattle.parties.specs.protocol.Format.{readNumber, writeNumber, writeMany}
+use Rattle.parties.proofs.protocol.formats.PointerLaws.{length-number}
+use Rattle.parties.proofs.records.BytesLaws.{four-read}
+use Rattle.parties.proofs.records.SpliceLaws.{many-append}
 use Rattle.title.proofs.PartLaws.{both-true}
 use Rattle.runs.specs.Parcels.{Parcel, writeParcel, writeParcels, proper, properAll, Listed, keyed, bodies, FindsAt, Appended, Removed}
 

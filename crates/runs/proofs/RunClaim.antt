@@ -5,13 +5,13 @@ use mathlib.Core.List.{List, []}
 use Prim.Native.Nat.{ℕ, zero, suc, _+_, _≤_}
 use native.Mathlib.Omega.{arith}
 use lib.Dec.{leb}
-use Rattle.protocol.specs.declared.measures.Measures.{Measures}
-use Rattle.protocol.specs.Measures.{passes}
-use Rattle.protocol.specs.Format.{writeMany}
-use Rattle.protocol.specs.Nodes.{stands}
-use Rattle.protocol.specs.Run.{Event, run, fresh}
-use Rattle.protocol.specs.Claim.{AllLent, Differ, RunPiece, dishonest}
-use Rattle.protocol.proofs.NodeMapLaws.{stands-none}
+use Rattle.parties.specs.declared.Measures.{Measures}
+use Rattle.parties.specs.protocol.Measures.{passes}
+use Rattle.parties.specs.protocol.Format.{writeMany}
+use Rattle.parties.specs.protocol.Nodes.{stands}
+use Rattle.parties.specs.protocol.Run.{Event, run, fresh}
+use Rattle.parties.specs.protocol.Claim.{AllLent, Differ, RunPiece, dishonest}
+use Rattle.parties.proofs.protocol.formats.NodeMapLaws.{stands-none}
 use Rattle.title.specs.Service.{Serves}
 use Rattle.title.specs.ServiceClaim.{ServiceClaim}
 use Rattle.title.proofs.Service.{service-demand-3}

@@ -12,18 +12,18 @@ use denote.Enum.Declared.{tagOf}
 use types.Run.{OneOf, miss}
 use lib.ListN.{length, take, drop, length-append, length-take, length-drop}
 use lib.Seq.{take-all}
-use Rattle.protocol.specs.declared.measures.Measures.{Measures}
-use Rattle.protocol.specs.declared.version.Version.{Version}
-use Rattle.protocol.specs.Measures.{passes}
-use Rattle.protocol.specs.Nodes.{stands}
-use Rattle.protocol.specs.Format.{writeMany}
-use Rattle.protocol.specs.Answer.{ClientAnswer as Answer, refused, waits, scan, update, stores, requests, deposited, empty, page, spent, failed}
-use Rattle.protocol.specs.ClientEvents.{messageTo}
-use Rattle.protocol.proofs.MeasureLaws.{passed}
-use Rattle.client.specs.declared.answer.ClientAnswer.{ClientAnswer}
-use Rattle.client.specs.Answer.{answered}
-use Rattle.client.proofs.answer.ClientAnswer.{the-type}
-use Rattle.records.proofs.SpliceLaws.{many-append}
+use Rattle.parties.specs.declared.Measures.{Measures}
+use Rattle.parties.specs.declared.Version.{Version}
+use Rattle.parties.specs.protocol.Measures.{passes}
+use Rattle.parties.specs.protocol.Nodes.{stands}
+use Rattle.parties.specs.protocol.Format.{writeMany}
+use Rattle.parties.specs.protocol.Answer.{ClientAnswer as Answer, refused, waits, scan, update, stores, requests, deposited, empty, page, spent, failed}
+use Rattle.parties.specs.protocol.ClientEvents.{messageTo}
+use Rattle.parties.proofs.protocol.formats.MeasureLaws.{passed}
+use Rattle.parties.specs.declared.ClientAnswer.{ClientAnswer}
+use Rattle.parties.specs.client.Answer.{answered}
+use Rattle.parties.proofs.ClientAnswer.{the-type}
+use Rattle.parties.proofs.records.SpliceLaws.{many-append}
 use Rattle.runs.specs.Parcels.{Parcel, writeParcel, writeParcels, Appended}
 use Rattle.runs.specs.Sent.{call, toNode, callBy, messageIn, messagesBy}
 use Rattle.runs.proofs.PostLaws.{taken-short, length-one, appended-none, appended-more}

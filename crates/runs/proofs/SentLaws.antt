@@ -9,13 +9,13 @@ use native.Mathlib.Decide.{ℕ-discrete}
 use borrow.Author.Tests.{leb-true, le-leb}
 use lib.Dec.{leb}
 use lib.ListN.{length, take, drop, length-append, length-take, length-drop}
-use Rattle.protocol.specs.declared.measures.Measures.{Measures}
-use Rattle.protocol.specs.Measures.{passes}
-use Rattle.protocol.specs.Nodes.{stands}
-use Rattle.protocol.specs.Answer.{ClientAnswer, refused, waits, scan, update, stores, requests, deposited, empty, page, spent, failed}
-use Rattle.protocol.specs.ClientEvents.{ClientEnd, messageTo}
-use Rattle.protocol.specs.Run.{Call, called, sentTo, sends}
-use Rattle.protocol.proofs.MeasureLaws.{passed}
+use Rattle.parties.specs.declared.Measures.{Measures}
+use Rattle.parties.specs.protocol.Measures.{passes}
+use Rattle.parties.specs.protocol.Nodes.{stands}
+use Rattle.parties.specs.protocol.Answer.{ClientAnswer, refused, waits, scan, update, stores, requests, deposited, empty, page, spent, failed}
+use Rattle.parties.specs.protocol.ClientEvents.{ClientEnd, messageTo}
+use Rattle.parties.specs.protocol.Run.{Call, called, sentTo, sends}
+use Rattle.parties.proofs.protocol.formats.MeasureLaws.{passed}
 use Rattle.title.proofs.PartLaws.{both-true}
 use Rattle.runs.specs.Parcels.{Parcel, properAll, keyed, bodies}
 use Rattle.runs.specs.Sent.{call, toNode, callBy, messageIn, messagesBy, sent}

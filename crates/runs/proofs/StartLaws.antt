@@ -4,10 +4,10 @@ use mathlib.Core.Bool.{Bool}
 use mathlib.Core.List.{List}
 use Prim.Native.Nat.{ℕ, _-_, _*_, _<_}
 use lib.ListN.{length}
-use Rattle.protocol.specs.declared.measures.Measures.{Measures}
-use Rattle.protocol.specs.ClientEvents.{ClientEnd}
-use Rattle.protocol.specs.Run.{deposit}
-use Rattle.protocol.proofs.DepositStartLaws.{too-long}
+use Rattle.parties.specs.declared.Measures.{Measures}
+use Rattle.parties.specs.protocol.ClientEvents.{ClientEnd}
+use Rattle.parties.specs.protocol.Run.{deposit}
+use Rattle.parties.proofs.protocol.events.DepositStartLaws.{too-long}
 use Rattle.title.specs.Memory.{recordIn}
 use Rattle.runs.specs.declared.answer.Turn.{Turn}
 use Rattle.runs.specs.Acts.{Lent, AtClient, Acts}

@@ -4,15 +4,15 @@ use mathlib.Core.Bool.{Bool, true, false}
 use mathlib.Core.List.{List, [], _∷_, _++_}
 use Prim.Native.Nat.{ℕ, zero, suc, _+_, _-_, _≤_}
 use lib.ListN.{take, drop}
-use Rattle.protocol.specs.declared.measures.Measures.{Measures}
-use Rattle.protocol.specs.ClientEvents.{ClientEnd, startDeposit, startReading, updateAnswer, scanAnswer, clientMessage}
-use Rattle.protocol.specs.DirectoryEvents.{directoryUpdate, directoryScan}
-use Rattle.protocol.specs.NodeEvents.{nodeMessage}
-use Rattle.protocol.specs.Run.{Event, deposit, reading, carry, hand, bring, deliver, lie, isRefused}
-use Rattle.parties.specs.declared.answer.Service.{Service}
+use Rattle.parties.specs.declared.Measures.{Measures}
+use Rattle.parties.specs.protocol.ClientEvents.{ClientEnd, startDeposit, startReading, updateAnswer, scanAnswer, clientMessage}
+use Rattle.parties.specs.protocol.DirectoryEvents.{directoryUpdate, directoryScan}
+use Rattle.parties.specs.protocol.NodeEvents.{nodeMessage}
+use Rattle.parties.specs.protocol.Run.{Event, deposit, reading, carry, hand, bring, deliver, lie, isRefused}
+use Rattle.parties.specs.declared.Service.{Service}
 use Rattle.parties.specs.Answer.{served}
-use Rattle.client.specs.declared.answer.ClientAnswer.{ClientAnswer}
-use Rattle.client.specs.Answer.{answered}
+use Rattle.parties.specs.declared.ClientAnswer.{ClientAnswer}
+use Rattle.parties.specs.client.Answer.{answered}
 use Rattle.title.specs.Memory.{directoryIn, tableAt, tableIn, recordAt, recordIn, Put}
 use Rattle.runs.specs.declared.answer.Happened.{Happened}
 use Rattle.runs.specs.declared.answer.Turn.{Turn}

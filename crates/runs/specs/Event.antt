@@ -2,9 +2,9 @@
 use mathlib.Core.Bool.{Bool}
 use mathlib.Core.List.{List}
 use Prim.Native.Nat.{ℕ}
-use Rattle.protocol.specs.declared.measures.Measures.{Measures}
-use Rattle.protocol.specs.Run.{Event}
-use Rattle.records.specs.Answer.{number}
+use Rattle.parties.specs.declared.Measures.{Measures}
+use Rattle.parties.specs.protocol.Run.{Event}
+use Rattle.parties.specs.records.Answer.{number}
 use Rattle.runs.specs.declared.answer.Turn.{Turn}
 use Rattle.runs.specs.declared.event.Readiness.{Readiness}
 use Rattle.runs.specs.UnderWay.{After}

@@ -6,17 +6,17 @@ use mathlib.Core.Option.{Option, some, none}
 use Prim.Native.Nat.{ℕ, _+_, _*_, _≤_, _<_}
 use lib.Dec.{leb, ltb}
 use lib.ListN.{length}
-use Rattle.protocol.specs.declared.measures.Measures.{Measures}
-use Rattle.protocol.specs.Measures.{passes}
-use Rattle.protocol.specs.Nodes.{stands}
-use Rattle.protocol.specs.ClientEvents.{startReading, updateAnswer, scanAnswer, clientMessage}
-use Rattle.protocol.specs.DirectoryEvents.{directoryScan}
-use Rattle.protocol.specs.NodeEvents.{nodeMessage}
-use Rattle.protocol.specs.Run.{State, Call, scanCall, updateCall, Return, updated, rows, Event, deposit, reading, carry, hand, bring, deliver, lie}
-use Rattle.protocol.specs.Run.{Answered, nothing, byClient, byServer, carryOut, fresh, run}
-use Rattle.records.specs.Answer.{number as numberOf}
+use Rattle.parties.specs.declared.Measures.{Measures}
+use Rattle.parties.specs.protocol.Measures.{passes}
+use Rattle.parties.specs.protocol.Nodes.{stands}
+use Rattle.parties.specs.protocol.ClientEvents.{startReading, updateAnswer, scanAnswer, clientMessage}
+use Rattle.parties.specs.protocol.DirectoryEvents.{directoryScan}
+use Rattle.parties.specs.protocol.NodeEvents.{nodeMessage}
+use Rattle.parties.specs.protocol.Run.{State, Call, scanCall, updateCall, Return, updated, rows, Event, deposit, reading, carry, hand, bring, deliver, lie}
+use Rattle.parties.specs.protocol.Run.{Answered, nothing, byClient, byServer, carryOut, fresh, run}
+use Rattle.parties.specs.records.Answer.{number as numberOf}
 use Rattle.parties.specs.Answer.{served}
-use Rattle.client.specs.Answer.{answered}
+use Rattle.parties.specs.client.Answer.{answered}
 use Rattle.runs.specs.declared.answer.Happened.{Happened}
 use Rattle.runs.specs.declared.answer.Turn.{Turn}
 use Rattle.runs.specs.UnderWay.{After}

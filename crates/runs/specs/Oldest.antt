@@ -4,10 +4,10 @@ use mathlib.Core.Bool.{Bool, true, false}
 use mathlib.Core.List.{[]}
 use Prim.Native.Nat.{ℕ, _≤_, _<_}
 use lib.ListN.{length, getD}
-use Rattle.protocol.specs.declared.measures.Measures.{Measures}
-use Rattle.protocol.specs.Measures.{passes}
-use Rattle.protocol.specs.Run.{carry, hand, bring, deliver}
-use Rattle.records.specs.declared.answer.Refusal.{Refusal}
+use Rattle.parties.specs.declared.Measures.{Measures}
+use Rattle.parties.specs.protocol.Measures.{passes}
+use Rattle.parties.specs.protocol.Run.{carry, hand, bring, deliver}
+use Rattle.parties.specs.declared.Refusal.{Refusal}
 use Rattle.runs.specs.declared.answer.Happened.{Happened}
 use Rattle.runs.specs.declared.answer.Turn.{Turn}
 use Rattle.runs.specs.Acts.{Lent}

@@ -5,7 +5,7 @@ use mathlib.Core.List.{List, [], _∷_, _++_}
 use Prim.Native.Nat.{ℕ, _+_, _-_, _≤_}
 use lib.Dec.{eqb, ltb}
 use lib.ListN.{length, take, drop}
-use Rattle.protocol.specs.Format.{writeNumber, writeMany}
+use Rattle.parties.specs.protocol.Format.{writeNumber, writeMany}
 use Rattle.runs.specs.declared.parcels.Found.{Found}
 
 -- kinds: 0 a directory call, 1 its answer, 2 a message to a node, 3 a message to a client; calls and answers have node 0

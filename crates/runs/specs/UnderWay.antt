@@ -3,8 +3,8 @@ use mathlib.Core.Path.{_≡_}
 use mathlib.Core.Bool.{Bool}
 use mathlib.Core.List.{List, [], _∷_, map}
 use Prim.Native.Nat.{ℕ, zero, suc}
-use Rattle.protocol.specs.declared.measures.Measures.{Measures}
-use Rattle.protocol.specs.Run.{Call, scanCall, updateCall, Return, updated, rows, State, Event, fresh, run}
+use Rattle.parties.specs.declared.Measures.{Measures}
+use Rattle.parties.specs.protocol.Run.{Call, scanCall, updateCall, Return, updated, rows, State, Event, fresh, run}
 use Rattle.title.specs.Service.{Serves}
 use Rattle.runs.specs.Parcels.{Parcel, Listed, bodies}
 

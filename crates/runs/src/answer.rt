@@ -1,7 +1,7 @@
 // What an event of a run answers.
-use client::answer::ClientAnswer;
-use parties::answer::Service;
-use records::answer::Refusal;
+use parties::ClientAnswer;
+use parties::Refusal;
+use parties::Service;
 
 pub enum Happened {
     // The event is not carried out.

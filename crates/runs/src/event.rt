@@ -7,11 +7,11 @@ use crate::parcels::append;
 use crate::parcels::find;
 use crate::parcels::remove;
 use crate::send::send;
-use client::answer::ClientAnswer;
-use parties::answer::Service;
-use protocol::measures::Measures;
-use records::answer::Refusal;
-use records::nodes::stands;
+use parties::ClientAnswer;
+use parties::Measures;
+use parties::Refusal;
+use parties::Service;
+use parties::records::nodes::has_node;
 use title::title::deposit as start_deposit;
 use title::title::read as start_reading;
 use title::title::scan;
@@ -24,14 +24,13 @@ ghost use mathlib.Core.Path.{_≡_};
 ghost use mathlib.Core.Bool.{Bool, true, false};
 ghost use mathlib.Core.List.{[]};
 ghost use Prim.Native.Nat.{ℕ, _+_, _≤_};
-ghost use lib.ListN.{length, take, drop};
-ghost use Rattle.protocol.specs.Measures.{passes};
-ghost use Rattle.protocol.specs.Run.{isRefused};
-ghost use Rattle.protocol.specs.Run.{deposit as depositEvent, reading as readingEvent, carry as carryEvent, hand as handEvent, bring as bringEvent, deliver as deliverEvent, lie as lieEvent};
-ghost use Rattle.client.specs.Answer.{answered};
+ghost use lib.ListN.{length, take};
+ghost use Rattle.parties.specs.protocol.Run.{isRefused};
+ghost use Rattle.parties.specs.protocol.Run.{deposit as depositEvent, reading as readingEvent, carry as carryEvent, hand as handEvent, bring as bringEvent, deliver as deliverEvent, lie as lieEvent};
+ghost use Rattle.parties.specs.client.Answer.{answered};
 ghost use Rattle.runs.specs.Acts.{body, tagged as taggedWith, Stands, Sends, Takes, Serves};
 ghost use Rattle.runs.specs.Event.{Readies, Carried};
-ghost use Rattle.runs.specs.Happens.{Capable, Happens, liesIn, honestIn};
+ghost use Rattle.runs.specs.Happens.{Capable, Happens, honestIn};
 
 pub enum Readiness {
     Yes,
@@ -66,18 +65,6 @@ fn ready(s: Measures, c: usize, i: usize, post: usize, used: usize, room: usize)
         return Readiness::No(Refusal::Number);
     }
     Readiness::Yes
-}
-
-fn lies(liars: u16, i: usize) -> bool
-    ensures { λ r. ⌜ r ≡ liesIn liars i ⌝ }
-{
-    if i < 1 {
-        return false;
-    }
-    if 16 < i {
-        return false;
-    }
-    stands(liars, i)
 }
 
 fn refused(a: ClientAnswer) -> bool
@@ -473,7 +460,7 @@ pub fn bring(
                     what: Happened::Nothing,
                 },
                 Found::At(at, end) => {
-                    if lies(liars, i) {
+                    if has_node(liars, i) {
                         bring_dishonest(s, c, i, memory, room, post, used, at, end)
                     } else {
                         bring_honest(s, c, i, memory, room, post, used, at, end)
@@ -541,7 +528,7 @@ pub fn lie(
             what: Happened::Refused(x),
         },
         Readiness::Yes => {
-            if lies(liars, i) {
+            if has_node(liars, i) {
                 let a = to_client(s, c, i, memory, bytes, room, out);
                 starts(s, c, a, room, post, used)
             } else {

@@ -1,4 +1,5 @@
 pub mod answer;
+mod bytes;
 pub mod event;
 pub mod least;
 pub mod oldest;

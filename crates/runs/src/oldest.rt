@@ -5,8 +5,8 @@ use crate::event::bring;
 use crate::event::carry;
 use crate::event::deliver;
 use crate::event::hand;
-use protocol::measures::Measures;
-use records::answer::Refusal;
+use parties::Measures;
+use parties::Refusal;
 ghost use Rattle.runs.specs.Oldest.{Oldest};
 
 // The oldest parcel of all is carried to where it goes.

@@ -1,15 +1,15 @@
 // Parcels under way, one after the other at the front of a lent slice: calls, their answers, and messages.
-use records::bytes::copy;
-use records::bytes::move_down;
-use records::bytes::put_u32;
-use records::bytes::u32_at;
+use crate::bytes::copy;
+use crate::bytes::move_down;
+use crate::bytes::put_u32;
+use crate::bytes::u32_at;
 ghost use mathlib.Core.Path.{_≡_};
 ghost use mathlib.Core.List.{List, [], _∷_, _++_};
 ghost use Prim.Native.Nat.{_+_, _-_, _≤_};
 ghost use lib.Dec.{eqb};
 ghost use mathlib.Core.Bool.{_&&_};
-ghost use lib.ListN.{length, take, drop, getD};
-ghost use Rattle.protocol.specs.Format.{writeNumber};
+ghost use lib.ListN.{length, take, getD};
+ghost use Rattle.parties.specs.protocol.Format.{writeNumber};
 ghost use Rattle.runs.specs.Parcels.{Parcel, Listed, Finds, Within, Appended, Removed};
 
 pub enum Found {

@@ -1,16 +1,16 @@
 // What a client's answer sends is put under way.
 use crate::least::least;
 use crate::parcels::append;
-use client::answer::ClientAnswer;
-use protocol::measures::Measures;
-use records::nodes::stands;
+use parties::ClientAnswer;
+use parties::Measures;
+use parties::records::nodes::has_node;
 ghost use mathlib.Core.Path.{_≡_};
 ghost use mathlib.Core.Bool.{true};
 ghost use Prim.Native.Nat.{_+_, _*_, _≤_};
 ghost use lib.ListN.{length};
-ghost use Rattle.protocol.specs.Measures.{passes};
-ghost use Rattle.protocol.specs.ClientEvents.{messageTo};
-ghost use Rattle.client.specs.Answer.{answered};
+ghost use Rattle.parties.specs.protocol.Measures.{passes};
+ghost use Rattle.parties.specs.protocol.ClientEvents.{messageTo};
+ghost use Rattle.parties.specs.client.Answer.{answered};
 ghost use Rattle.runs.specs.Parcels.{Appended};
 ghost use Rattle.runs.specs.Sent.{callBy, messageIn, messagesBy, sent};
 
@@ -50,7 +50,7 @@ fn send_message(
             append(post, used, 2, c, i, &room[..front], &room[from..to])
         }
         ClientAnswer::Requests(_, nodes) => {
-            if stands(nodes, i) {
+            if has_node(nodes, i) {
                 append(post, used, 2, c, i, &room[..front], &room[..0])
             } else {
                 used

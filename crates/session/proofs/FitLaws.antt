@@ -9,16 +9,16 @@ use native.Mathlib.Omega.{arith}
 use borrow.Author.Tests.{leb-true}
 use lib.Dec.{leb, ltb}
 use lib.ListN.{length, take, drop, length-append, length-take, length-drop, take-append-drop}
-use Rattle.protocol.specs.declared.measures.Measures.{Measures}
-use Rattle.protocol.specs.declared.version.Version.{Version}
-use Rattle.protocol.specs.Measures.{passes}
-use Rattle.protocol.specs.ClientEvents.{roomSize}
-use Rattle.protocol.specs.DirectoryEvents.{directorySize}
-use Rattle.protocol.proofs.MeasureLaws.{passed}
-use Rattle.records.specs.declared.answer.Refusal.{Refusal}
-use Rattle.records.specs.Answer.{number}
+use Rattle.parties.specs.declared.Measures.{Measures}
+use Rattle.parties.specs.declared.Version.{Version}
+use Rattle.parties.specs.protocol.Measures.{passes}
+use Rattle.parties.specs.protocol.ClientEvents.{roomSize}
+use Rattle.parties.specs.protocol.DirectoryEvents.{directorySize}
+use Rattle.parties.proofs.protocol.formats.MeasureLaws.{passed}
+use Rattle.parties.specs.declared.Refusal.{Refusal}
+use Rattle.parties.specs.records.Answer.{number}
 use Rattle.title.specs.Memory.{memorySize}
-use Rattle.client.specs.declared.answer.ClientAnswer.{ClientAnswer}
+use Rattle.parties.specs.declared.ClientAnswer.{ClientAnswer}
 use Rattle.runs.specs.declared.answer.Happened.{Happened}
 use Rattle.lines.specs.Sentences.{headerLine, refusedLine, Line}
 use Rattle.lines.proofs.WordsLaws.{and-left, and-right}

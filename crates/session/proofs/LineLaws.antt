@@ -12,16 +12,16 @@ use types.Run.{OneOf, miss}
 use lib.Dec.{leb, ltb}
 use lib.ListN.{length, take}
 use lib.Seq.{take-all, length-take-le}
-use Rattle.protocol.specs.declared.measures.Measures.{Measures}
-use Rattle.protocol.specs.Measures.{passes}
-use Rattle.protocol.specs.Answer.{refuses as refusal, serves}
-use Rattle.protocol.specs.ClientEvents.{roomSize}
-use Rattle.protocol.specs.DirectoryEvents.{directorySize}
-use Rattle.protocol.specs.Run.{deposit, reading}
-use Rattle.protocol.proofs.MeasureLaws.{passed}
-use Rattle.records.specs.declared.answer.Refusal.{Refusal}
-use Rattle.records.specs.Answer.{number}
-use Rattle.parties.specs.declared.answer.Service.{Service}
+use Rattle.parties.specs.declared.Measures.{Measures}
+use Rattle.parties.specs.protocol.Measures.{passes}
+use Rattle.parties.specs.protocol.Answer.{refuses as refusal, serves}
+use Rattle.parties.specs.protocol.ClientEvents.{roomSize}
+use Rattle.parties.specs.protocol.DirectoryEvents.{directorySize}
+use Rattle.parties.specs.protocol.Run.{deposit, reading}
+use Rattle.parties.proofs.protocol.formats.MeasureLaws.{passed}
+use Rattle.parties.specs.declared.Refusal.{Refusal}
+use Rattle.parties.specs.records.Answer.{number}
+use Rattle.parties.specs.declared.Service.{Service}
 use Rattle.parties.specs.Answer.{served}
 use Rattle.title.specs.Memory.{memorySize, MemoryEnd, memoryFresh}
 use Rattle.title.specs.Part.{short}

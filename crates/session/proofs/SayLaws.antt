@@ -7,11 +7,11 @@ use denote.Enum.Declared.{tagOf}
 use types.Run.{OneOf, miss}
 use lib.ListN.{length, take}
 use Rattle.lines.specs.Sentences.{refusedLine, depositedLine, nothingLine, pageLine, Line}
-use Rattle.protocol.specs.declared.version.Version.{Version}
-use Rattle.records.specs.Answer.{number}
-use Rattle.records.specs.declared.answer.Refusal.{Refusal}
-use Rattle.client.specs.declared.answer.ClientAnswer.{ClientAnswer}
-use Rattle.client.proofs.answer.ClientAnswer.{the-type as the-client-type}
+use Rattle.parties.specs.declared.Version.{Version}
+use Rattle.parties.specs.records.Answer.{number}
+use Rattle.parties.specs.declared.Refusal.{Refusal}
+use Rattle.parties.specs.declared.ClientAnswer.{ClientAnswer}
+use Rattle.parties.proofs.ClientAnswer.{the-type as the-client-type}
 use Rattle.runs.specs.declared.answer.Happened.{Happened}
 use Rattle.runs.proofs.answer.Happened.{the-type}
 use Rattle.runs.proofs.SendLaws.{least-taken}

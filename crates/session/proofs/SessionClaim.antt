@@ -3,8 +3,8 @@ use mathlib.Core.Path.{_≡_}
 use mathlib.Core.List.{List}
 use Prim.Native.Nat.{ℕ, _≤_}
 use native.Mathlib.Omega.{arith}
-use Rattle.protocol.specs.Run.{run, fresh}
-use Rattle.protocol.specs.Claim.{Differ, RunPiece, dishonest}
+use Rattle.parties.specs.protocol.Run.{run, fresh}
+use Rattle.parties.specs.protocol.Claim.{Differ, RunPiece, dishonest}
 use Rattle.title.specs.ServiceClaim.{ServiceClaim}
 use Rattle.runs.specs.Oldest.{honestAll}
 use Rattle.runs.proofs.RunClaim.{after-demand-3, all-honest}

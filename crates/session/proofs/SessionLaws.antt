@@ -8,12 +8,12 @@ use native.Mathlib.Numerals.{add-one}
 use native.Mathlib.Omega.{arith}
 use lib.ListN.{length, take, getD, length-append}
 use lib.Seq.{take-suc, take-all}
-use Rattle.protocol.specs.declared.measures.Measures.{Measures}
-use Rattle.protocol.specs.Measures.{passes}
-use Rattle.protocol.specs.Answer.{Served, refuses, serves}
-use Rattle.protocol.specs.Run.{Event}
-use Rattle.protocol.specs.Claim.{Lent as Given}
-use Rattle.parties.specs.declared.answer.Service.{Service}
+use Rattle.parties.specs.declared.Measures.{Measures}
+use Rattle.parties.specs.protocol.Measures.{passes}
+use Rattle.parties.specs.protocol.Answer.{Served, refuses, serves}
+use Rattle.parties.specs.protocol.Run.{Event}
+use Rattle.parties.specs.protocol.Claim.{Lent as Given}
+use Rattle.parties.specs.declared.Service.{Service}
 use Rattle.parties.specs.Answer.{served}
 use Rattle.title.specs.Memory.{memorySize, memoryFresh}
 use Rattle.title.specs.Part.{short}

@@ -5,8 +5,8 @@ use mathlib.Core.Option.{Option, some, none}
 use Prim.Native.Nat.{ℕ}
 use lib.ListN.{take}
 use Rattle.lines.specs.Sentences.{refusedLine, depositedLine, nothingLine, pageLine, Line}
-use Rattle.records.specs.Answer.{number}
-use Rattle.client.specs.declared.answer.ClientAnswer.{ClientAnswer}
+use Rattle.parties.specs.records.Answer.{number}
+use Rattle.parties.specs.declared.ClientAnswer.{ClientAnswer}
 use Rattle.runs.specs.declared.answer.Happened.{Happened}
 
 -- of client c, with what stands in the output

@@ -5,12 +5,12 @@ use mathlib.Core.List.{List, [], _∷_, _++_}
 use Prim.Native.Nat.{ℕ, _+_, _-_, _*_, _<_}
 use lib.Dec.{leb, ltb}
 use lib.ListN.{length, take}
-use Rattle.protocol.specs.declared.measures.Measures.{Measures}
-use Rattle.protocol.specs.Measures.{passes}
-use Rattle.protocol.specs.ClientEvents.{roomSize}
-use Rattle.protocol.specs.DirectoryEvents.{directorySize}
-use Rattle.protocol.specs.Run.{Event, deposit, reading}
-use Rattle.protocol.specs.Claim.{AllLent}
+use Rattle.parties.specs.declared.Measures.{Measures}
+use Rattle.parties.specs.protocol.Measures.{passes}
+use Rattle.parties.specs.protocol.ClientEvents.{roomSize}
+use Rattle.parties.specs.protocol.DirectoryEvents.{directorySize}
+use Rattle.parties.specs.protocol.Run.{Event, deposit, reading}
+use Rattle.parties.specs.protocol.Claim.{AllLent}
 use Rattle.title.specs.Memory.{memorySize, memoryFresh}
 use Rattle.runs.specs.declared.answer.Turn.{Turn}
 use Rattle.runs.specs.UnderWay.{After}

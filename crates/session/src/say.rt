@@ -1,9 +1,9 @@
 // The line that tells how an operation ended.
-use client::answer::ClientAnswer;
 use lines::text::deposited;
 use lines::text::read_nothing;
 use lines::text::read_page;
 use lines::text::refused;
+use parties::ClientAnswer;
 use runs::answer::Happened;
 use runs::least::least;
 ghost use Rattle.session.specs.Say.{clientLine, happenedLine, Says};

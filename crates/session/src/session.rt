@@ -8,9 +8,9 @@ use lines::read::ended;
 use lines::read::next;
 use lines::text::header;
 use lines::text::refused;
-use parties::answer::Service;
-use protocol::measures::Measures;
-use records::form::row_size;
+use parties::Measures;
+use parties::Service;
+use parties::sizes;
 use runs::event::deposit;
 use runs::event::reading;
 use runs::least::least;
@@ -19,7 +19,7 @@ ghost use mathlib.Core.Path.{_≡_};
 ghost use mathlib.Core.Bool.{true, false};
 ghost use mathlib.Core.List.{List};
 ghost use Prim.Native.Nat.{ℕ};
-ghost use Rattle.protocol.specs.Measures.{passes};
+ghost use Rattle.parties.specs.protocol.Measures.{passes};
 ghost use Rattle.lines.specs.Line.{Kept};
 ghost use Rattle.lines.specs.Read.{Read};
 ghost use Rattle.lines.specs.Command.{standLine};
@@ -102,12 +102,13 @@ fn ample(s: Measures, l: Lengths) -> bool
     requires { ⌜ passes s ≡ true ⌝ }
     ensures { λ r. ⌜ r ≡ suffice s l ⌝ }
 {
-    let row = row_size(s);
+    let room = sizes::room(s);
+    let rows = sizes::directory(s);
     let frame = s.k * s.f;
-    if l.room < row + (6 + s.n * s.f) {
+    if l.room < room {
         return false;
     }
-    if l.room < s.m * row {
+    if l.room < rows {
         return false;
     }
     if l.out < frame - 4 {

@@ -1,6 +1,6 @@
 // An operation from its start to its end, with each message delivered at once: one queue, oldest first.
 use crate::say::say;
-use protocol::measures::Measures;
+use parties::Measures;
 use runs::answer::Turn;
 use runs::oldest::oldest;
 ghost use mathlib.Core.Path.{_≡_};

@@ -7,16 +7,16 @@ use native.Mathlib.Nat.{suc-mul}
 use native.Mathlib.Omega.{arith}
 use lib.ListN.{length, take, drop, length-append, length-drop}
 use lib.Seq.{take-at, drop-append-add}
-use Rattle.protocol.specs.declared.measures.Measures.{Measures}
-use Rattle.protocol.specs.Measures.{passes}
-use Rattle.protocol.specs.Directory.{writeDirectory, freshDirectory}
-use Rattle.protocol.specs.NodeTable.{writeTable}
-use Rattle.protocol.specs.Client.{clientSize, writeClient, freshClient}
-use Rattle.protocol.specs.DirectoryEvents.{directorySize}
-use Rattle.protocol.specs.NodeEvents.{tableSize}
-use Rattle.protocol.specs.Run.{fresh}
-use Rattle.protocol.proofs.FreshTableLaws.{directory-long, table-long, client-long}
-use Rattle.parties.proofs.RoomLaws.{many-first}
+use Rattle.parties.specs.declared.Measures.{Measures}
+use Rattle.parties.specs.protocol.Measures.{passes}
+use Rattle.parties.specs.protocol.Directory.{writeDirectory, freshDirectory}
+use Rattle.parties.specs.protocol.NodeTable.{writeTable}
+use Rattle.parties.specs.protocol.Client.{clientSize, writeClient, freshClient}
+use Rattle.parties.specs.protocol.DirectoryEvents.{directorySize}
+use Rattle.parties.specs.protocol.NodeEvents.{tableSize}
+use Rattle.parties.specs.protocol.Run.{fresh}
+use Rattle.parties.proofs.protocol.events.FreshTableLaws.{directory-long, table-long, client-long}
+use Rattle.parties.proofs.directory.RoomLaws.{many-first}
 use Rattle.title.specs.Memory.{memorySize, tableAt, recordAt, freshMemory, memoryFresh}
 use Rattle.title.specs.Service.{Shows}
 use Rattle.title.proofs.MemoryLaws.{table-own, record-own, part-is}

@@ -8,21 +8,21 @@ use native.Mathlib.Numerals.{add-one}
 use native.Mathlib.Omega.{arith}
 use borrow.Author.Tests.{le-leb, lt-leb}
 use lib.ListN.{length, take, drop, replicate, length-append}
-use Rattle.protocol.specs.declared.measures.Measures.{Measures}
-use Rattle.protocol.specs.Format.{writeMany}
-use Rattle.protocol.specs.Measures.{passes}
-use Rattle.protocol.specs.Answer.{refuses, serves}
-use Rattle.protocol.specs.Directory.{writeDirectory, freshDirectory}
-use Rattle.protocol.specs.NodeTable.{writeTable}
-use Rattle.protocol.specs.Client.{clientSize, writeClient, freshClient}
-use Rattle.protocol.specs.DirectoryEvents.{directorySize, directoryFresh}
-use Rattle.protocol.specs.NodeEvents.{tableSize, nodeFresh}
-use Rattle.protocol.specs.ClientEvents.{clientFresh}
-use Rattle.protocol.proofs.FreshTableLaws.{directory-long, table-long, client-long, directory-fresh, table-fresh, client-fresh}
-use Rattle.records.specs.Places.{splice}
-use Rattle.records.proofs.SpliceLaws.{splice-next, splice-front, splice-self, splice-back, length-splice}
-use Rattle.records.proofs.SizeLaws.{below-rows}
-use Rattle.parties.proofs.RoomLaws.{many-none, many-replicated, many-last}
+use Rattle.parties.specs.declared.Measures.{Measures}
+use Rattle.parties.specs.protocol.Format.{writeMany}
+use Rattle.parties.specs.protocol.Measures.{passes}
+use Rattle.parties.specs.protocol.Answer.{refuses, serves}
+use Rattle.parties.specs.protocol.Directory.{writeDirectory, freshDirectory}
+use Rattle.parties.specs.protocol.NodeTable.{writeTable}
+use Rattle.parties.specs.protocol.Client.{clientSize, writeClient, freshClient}
+use Rattle.parties.specs.protocol.DirectoryEvents.{directorySize, directoryFresh}
+use Rattle.parties.specs.protocol.NodeEvents.{tableSize, nodeFresh}
+use Rattle.parties.specs.protocol.ClientEvents.{clientFresh}
+use Rattle.parties.proofs.protocol.events.FreshTableLaws.{directory-long, table-long, client-long, directory-fresh, table-fresh, client-fresh}
+use Rattle.parties.specs.records.Places.{splice}
+use Rattle.parties.proofs.records.SpliceLaws.{splice-next, splice-front, splice-self, splice-back, length-splice}
+use Rattle.parties.proofs.records.SizeLaws.{below-rows}
+use Rattle.parties.proofs.directory.RoomLaws.{many-none, many-replicated, many-last}
 use Rattle.title.specs.Memory.{memorySize, freshMemory, memoryFresh}
 use Rattle.title.specs.Part.{Refuses, measures, short, Stands}
 use Rattle.title.proofs.MemoryLaws.{length-lent}

@@ -9,21 +9,21 @@ use native.Mathlib.Omega.{arith}
 use borrow.Author.Tests.{le-leb, lt-leb, lt-ltb, le-ltb}
 use lib.ListN.{length, take, drop, length-drop}
 use lib.Seq.{length-take-le}
-use Rattle.protocol.specs.declared.measures.Measures.{Measures}
-use Rattle.protocol.specs.Measures.{passes}
-use Rattle.protocol.specs.Client.{clientSize}
-use Rattle.protocol.specs.DirectoryEvents.{directorySize}
-use Rattle.protocol.specs.NodeEvents.{tableSize}
-use Rattle.protocol.proofs.MeasureLaws.{passed}
-use Rattle.protocol.proofs.LacksLaws as lacks
-use Rattle.protocol.proofs.LacksLaws.{Lacks}
-use Rattle.records.specs.declared.answer.Refusal.{Refusal}
-use Rattle.records.specs.Answer.{number}
-use Rattle.records.specs.Places.{splice}
-use Rattle.records.proofs.SizeLaws.{table-bound, below-rows}
-use Rattle.records.proofs.SpliceLaws.{splice-self, splice-back}
-use Rattle.client.proofs.ClientFormLaws.{sizes as clientSizes}
-use Rattle.parties.proofs.NodeSizeLaws.{sizes as tableSizes}
+use Rattle.parties.specs.declared.Measures.{Measures}
+use Rattle.parties.specs.protocol.Measures.{passes}
+use Rattle.parties.specs.protocol.Client.{clientSize}
+use Rattle.parties.specs.protocol.DirectoryEvents.{directorySize}
+use Rattle.parties.specs.protocol.NodeEvents.{tableSize}
+use Rattle.parties.proofs.protocol.formats.MeasureLaws.{passed}
+use Rattle.parties.proofs.protocol.events.LacksLaws as lacks
+use Rattle.parties.proofs.protocol.events.LacksLaws.{Lacks}
+use Rattle.parties.specs.declared.Refusal.{Refusal}
+use Rattle.parties.specs.records.Answer.{number}
+use Rattle.parties.specs.records.Places.{splice}
+use Rattle.parties.proofs.records.SizeLaws.{table-bound, below-rows}
+use Rattle.parties.proofs.records.SpliceLaws.{splice-self, splice-back}
+use Rattle.parties.proofs.client.FormLaws.{sizes as clientSizes}
+use Rattle.parties.proofs.node.SizeLaws.{sizes as tableSizes}
 use Rattle.title.specs.declared.memory.Part.{Part}
 use Rattle.title.specs.Memory.{memorySize, tableAt, recordAt, partOf, Put}
 use Rattle.title.specs.Part.{Refuses, measures, short, Stands, Placed}

@@ -7,14 +7,14 @@ use native.Mathlib.Omega.{arith}
 use lib.Dec.{leb, ltb}
 use lib.ListN.{length, take, drop, length-drop}
 use lib.Seq.{length-take-le}
-use Rattle.protocol.specs.declared.measures.Measures.{Measures}
-use Rattle.protocol.specs.Measures.{passes}
-use Rattle.protocol.specs.Client.{clientSize}
-use Rattle.protocol.specs.DirectoryEvents.{directorySize}
-use Rattle.protocol.specs.NodeEvents.{tableSize}
-use Rattle.records.specs.Places.{splice}
-use Rattle.records.proofs.SizeLaws.{below-rows}
-use Rattle.records.proofs.SpliceLaws.{length-splice, splice-self, spliced-own, spliced-before, spliced-after}
+use Rattle.parties.specs.declared.Measures.{Measures}
+use Rattle.parties.specs.protocol.Measures.{passes}
+use Rattle.parties.specs.protocol.Client.{clientSize}
+use Rattle.parties.specs.protocol.DirectoryEvents.{directorySize}
+use Rattle.parties.specs.protocol.NodeEvents.{tableSize}
+use Rattle.parties.specs.records.Places.{splice}
+use Rattle.parties.proofs.records.SizeLaws.{below-rows}
+use Rattle.parties.proofs.records.SpliceLaws.{length-splice, splice-self, spliced-own, spliced-before, spliced-after}
 use Rattle.title.specs.Memory.{memorySize, tableAt, recordAt, partOf, Put}
 use Rattle.title.proofs.MemoryLaws.{table-own, record-own, table-ends, part-is}
 

@@ -4,11 +4,11 @@ use mathlib.Core.List.{List, _++_}
 use Prim.Native.Nat.{ℕ, _-_}
 use native.Mathlib.Omega.{arith}
 use lib.ListN.{length, take, drop}
-use Rattle.protocol.specs.declared.measures.Measures.{Measures}
-use Rattle.protocol.specs.Client.{clientSize}
-use Rattle.protocol.specs.Answer.{ClientAnswer, refused}
-use Rattle.protocol.specs.ClientEvents.{ClientEnd, unchanged}
-use Rattle.protocol.proofs.LacksLaws.{Lacks}
+use Rattle.parties.specs.declared.Measures.{Measures}
+use Rattle.parties.specs.protocol.Client.{clientSize}
+use Rattle.parties.specs.protocol.Answer.{ClientAnswer, refused}
+use Rattle.parties.specs.protocol.ClientEvents.{ClientEnd, unchanged}
+use Rattle.parties.proofs.protocol.events.LacksLaws.{Lacks}
 use Rattle.title.specs.Memory.{recordAt, recordIn, Put}
 use Rattle.title.specs.Part.{Refuses, Stands}
 use Rattle.title.proofs.MemoryLaws.{part-lacks, put-kept, part-lent, put-back}

@@ -4,12 +4,12 @@ use mathlib.Core.Bool.{Bool, true}
 use mathlib.Core.List.{List, []}
 use Prim.Native.Nat.{ℕ, _≤_}
 use lib.ListN.{length}
-use Rattle.protocol.specs.declared.measures.Measures.{Measures}
-use Rattle.protocol.specs.Measures.{passes}
-use Rattle.protocol.specs.Run.{State, Event, run, fresh}
-use Rattle.protocol.specs.Claim.{Claim, AllLent, Differ, RunPiece, dishonest}
-use Rattle.protocol.proofs.RunLaws.{run-last}
-use Rattle.protocol.proofs.Demand.{demand-3}
+use Rattle.parties.specs.declared.Measures.{Measures}
+use Rattle.parties.specs.protocol.Measures.{passes}
+use Rattle.parties.specs.protocol.Run.{State, Event, run, fresh}
+use Rattle.parties.specs.protocol.Claim.{Claim, AllLent, Differ, RunPiece, dishonest}
+use Rattle.parties.proofs.protocol.events.RunLaws.{run-last}
+use Rattle.parties.proofs.protocol.claim.Demand.{demand-3}
 use Rattle.title.specs.Memory.{memorySize, memoryFresh}
 use Rattle.title.specs.Service.{Shows, Serves}
 use Rattle.title.specs.ServiceClaim.{inMemory, ServiceClaim}

@@ -7,20 +7,20 @@ use native.Mathlib.Omega.{arith}
 use native.Mathlib.Decide.{decLt}
 use borrow.Author.Tests.{leb-true}
 use lib.Dec.{leb}
-use Rattle.protocol.specs.declared.measures.Measures.{Measures}
-use Rattle.protocol.specs.Measures.{passes}
-use Rattle.protocol.specs.Client.{clientSize}
-use Rattle.protocol.specs.Answer.{Served, refuses, serves}
-use Rattle.protocol.specs.ClientEvents.{ClientEnd, startDeposit, startReading, updateAnswer, scanAnswer, clientMessage}
-use Rattle.protocol.specs.DirectoryEvents.{DirectoryEnd, directorySize, directoryUpdate, directoryScan}
-use Rattle.protocol.specs.NodeEvents.{NodeEnd, tableSize, nodeMessage}
-use Rattle.protocol.specs.Run.{History, State, Answered, Call, scanCall, updateCall, Return, updated, rows, upd, nothing}
-use Rattle.protocol.specs.Run.{stays, goes, told, carried, keeps, isRefused}
-use Rattle.protocol.specs.Run.{Event, deposit, reading, carry, hand, bring, deliver, lie, carryOut, tick}
-use Rattle.protocol.proofs.Cells.{by-eq}
-use Rattle.protocol.proofs.RunLaws.{head-scan, head-update, head-updated, head-rows, head-to-node, head-lost, head-to-client, none-called, none-returned, none-to-node, none-to-client}
-use Rattle.protocol.proofs.RefusalLaws.{Guarded, deposit-guarded, reading-guarded, updated-guarded, scanned-guarded, message-guarded}
-use Rattle.protocol.proofs.TableRefusalLaws.{Keeps, Refuses, refused-keeps, update-keeps, scan-keeps, node-keeps, node-refuses}
+use Rattle.parties.specs.declared.Measures.{Measures}
+use Rattle.parties.specs.protocol.Measures.{passes}
+use Rattle.parties.specs.protocol.Client.{clientSize}
+use Rattle.parties.specs.protocol.Answer.{Served, refuses, serves}
+use Rattle.parties.specs.protocol.ClientEvents.{ClientEnd, startDeposit, startReading, updateAnswer, scanAnswer, clientMessage}
+use Rattle.parties.specs.protocol.DirectoryEvents.{DirectoryEnd, directorySize, directoryUpdate, directoryScan}
+use Rattle.parties.specs.protocol.NodeEvents.{NodeEnd, tableSize, nodeMessage}
+use Rattle.parties.specs.protocol.Run.{History, State, Answered, Call, scanCall, updateCall, Return, updated, rows, upd, nothing}
+use Rattle.parties.specs.protocol.Run.{stays, goes, told, carried, keeps, isRefused}
+use Rattle.parties.specs.protocol.Run.{Event, deposit, reading, carry, hand, bring, deliver, lie, carryOut, tick}
+use Rattle.parties.proofs.protocol.model.Cells.{by-eq}
+use Rattle.parties.proofs.protocol.events.RunLaws.{head-scan, head-update, head-updated, head-rows, head-to-node, head-lost, head-to-client, none-called, none-returned, none-to-node, none-to-client}
+use Rattle.parties.proofs.protocol.events.RefusalLaws.{Guarded, deposit-guarded, reading-guarded, updated-guarded, scanned-guarded, message-guarded}
+use Rattle.parties.proofs.protocol.events.TableRefusalLaws.{Keeps, Refuses, refused-keeps, update-keeps, scan-keeps, node-keeps, node-refuses}
 use Rattle.title.specs.Memory.{partOf, directoryIn, tableAt, tableIn, recordAt, recordIn, Put}
 use Rattle.title.specs.Service.{Shows, Deposits, Reads, Updated, Scanned, ToClient, Updates, ToNode, Called, Returned, Brought, Delivered, Lied, Handed}
 use Rattle.title.proofs.MemoryLaws.{table-within, record-within}

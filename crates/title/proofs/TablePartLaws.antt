@@ -5,13 +5,13 @@ use Prim.Native.Nat.{ℕ, _-_, _≤_}
 use native.Mathlib.Nat.{mul-le-mul}
 use native.Mathlib.Omega.{arith}
 use lib.ListN.{length, take, drop}
-use Rattle.protocol.specs.declared.measures.Measures.{Measures}
-use Rattle.protocol.specs.Measures.{rowSize}
-use Rattle.protocol.specs.Answer.{Served, refuses}
-use Rattle.protocol.specs.DirectoryEvents.{DirectoryEnd, directorySize, directoryUpdate, directoryScan}
-use Rattle.protocol.specs.NodeEvents.{NodeEnd, tableSize, nodeMessage}
-use Rattle.protocol.proofs.MeasureLaws.{passed}
-use Rattle.protocol.proofs.LacksLaws.{Lacks, update-lacks, scan-lacks, node-lacks}
+use Rattle.parties.specs.declared.Measures.{Measures}
+use Rattle.parties.specs.protocol.Measures.{rowSize}
+use Rattle.parties.specs.protocol.Answer.{Served, refuses}
+use Rattle.parties.specs.protocol.DirectoryEvents.{DirectoryEnd, directorySize, directoryUpdate, directoryScan}
+use Rattle.parties.specs.protocol.NodeEvents.{NodeEnd, tableSize, nodeMessage}
+use Rattle.parties.proofs.protocol.formats.MeasureLaws.{passed}
+use Rattle.parties.proofs.protocol.events.LacksLaws.{Lacks, update-lacks, scan-lacks, node-lacks}
 use Rattle.title.specs.Memory.{directoryIn, tableAt, tableIn, Put}
 use Rattle.title.specs.Part.{Refuses, Stands}
 use Rattle.title.proofs.MemoryLaws.{part-lacks, put-kept, part-lent, put-back}

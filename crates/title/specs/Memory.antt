@@ -5,16 +5,16 @@ use mathlib.Core.List.{List, [], _++_}
 use Prim.Native.Nat.{ℕ, _+_, _-_, _*_}
 use lib.Dec.{leb, ltb}
 use lib.ListN.{length, take, drop, replicate}
-use Rattle.protocol.specs.declared.measures.Measures.{Measures}
-use Rattle.protocol.specs.Measures.{passes}
-use Rattle.protocol.specs.Format.{writeMany}
-use Rattle.protocol.specs.Directory.{writeDirectory, freshDirectory}
-use Rattle.protocol.specs.NodeTable.{writeTable}
-use Rattle.protocol.specs.Client.{clientSize, writeClient, freshClient}
-use Rattle.protocol.specs.Answer.{Served, refuses, serves}
-use Rattle.protocol.specs.DirectoryEvents.{directorySize}
-use Rattle.protocol.specs.NodeEvents.{tableSize}
-use Rattle.records.specs.Places.{splice}
+use Rattle.parties.specs.declared.Measures.{Measures}
+use Rattle.parties.specs.protocol.Measures.{passes}
+use Rattle.parties.specs.protocol.Format.{writeMany}
+use Rattle.parties.specs.protocol.Directory.{writeDirectory, freshDirectory}
+use Rattle.parties.specs.protocol.NodeTable.{writeTable}
+use Rattle.parties.specs.protocol.Client.{clientSize, writeClient, freshClient}
+use Rattle.parties.specs.protocol.Answer.{Served, refuses, serves}
+use Rattle.parties.specs.protocol.DirectoryEvents.{directorySize}
+use Rattle.parties.specs.protocol.NodeEvents.{tableSize}
+use Rattle.parties.specs.records.Places.{splice}
 
 abbrev pub memorySize : Measures → ℕ
 memorySize s = directorySize s + s .n * tableSize s + s .m * clientSize s

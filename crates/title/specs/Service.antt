@@ -4,11 +4,11 @@ use mathlib.Core.Bool.{Bool, true, false}
 use mathlib.Core.List.{List, [], _∷_, _++_}
 use Prim.Native.Nat.{ℕ, _≤_, _<_}
 use lib.ListN.{length}
-use Rattle.protocol.specs.declared.measures.Measures.{Measures}
-use Rattle.protocol.specs.ClientEvents.{startDeposit, startReading, updateAnswer, scanAnswer, clientMessage}
-use Rattle.protocol.specs.DirectoryEvents.{directoryUpdate}
-use Rattle.protocol.specs.NodeEvents.{nodeMessage}
-use Rattle.protocol.specs.Run.{Call, scanCall, updateCall, Return, updated, rows, State, Event, deposit, reading, carry, hand, bring, deliver, lie, fresh, run}
+use Rattle.parties.specs.declared.Measures.{Measures}
+use Rattle.parties.specs.protocol.ClientEvents.{startDeposit, startReading, updateAnswer, scanAnswer, clientMessage}
+use Rattle.parties.specs.protocol.DirectoryEvents.{directoryUpdate}
+use Rattle.parties.specs.protocol.NodeEvents.{nodeMessage}
+use Rattle.parties.specs.protocol.Run.{Call, scanCall, updateCall, Return, updated, rows, State, Event, deposit, reading, carry, hand, bring, deliver, lie, fresh, run}
 use Rattle.title.specs.Memory.{memorySize, directoryIn, tableAt, tableIn, recordAt, recordIn, Put}
 
 -- the memory has the tables and records of a state

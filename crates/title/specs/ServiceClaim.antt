@@ -2,9 +2,9 @@
 use mathlib.Core.Bool.{Bool}
 use mathlib.Core.List.{List}
 use Prim.Native.Nat.{ℕ}
-use Rattle.protocol.specs.declared.measures.Measures.{Measures}
-use Rattle.protocol.specs.Run.{State}
-use Rattle.protocol.specs.Claim.{Claim}
+use Rattle.parties.specs.declared.Measures.{Measures}
+use Rattle.parties.specs.protocol.Run.{State}
+use Rattle.parties.specs.protocol.Claim.{Claim}
 use Rattle.title.specs.Memory.{directoryIn, tableIn, recordIn}
 use Rattle.title.specs.Service.{Shows}
 

@@ -1,14 +1,14 @@
 // One page's tables and records in lent memory.
-use protocol::measures::Measures;
-use records::answer::Refusal;
-use records::form::row_size;
+use parties::Measures;
+use parties::Refusal;
+use parties::sizes;
 ghost use mathlib.Core.Path.{_≡_};
 ghost use mathlib.Core.Bool.{true};
 ghost use Prim.Native.Nat.{_+_, _*_};
-ghost use Rattle.protocol.specs.Measures.{passes};
-ghost use Rattle.protocol.specs.DirectoryEvents.{directorySize};
-ghost use Rattle.protocol.specs.NodeEvents.{tableSize};
-ghost use Rattle.protocol.specs.Client.{clientSize};
+ghost use Rattle.parties.specs.protocol.Measures.{passes};
+ghost use Rattle.parties.specs.protocol.DirectoryEvents.{directorySize};
+ghost use Rattle.parties.specs.protocol.NodeEvents.{tableSize};
+ghost use Rattle.parties.specs.protocol.Client.{clientSize};
 ghost use Rattle.title.specs.Memory.{memorySize, tableAt, recordAt};
 ghost use Rattle.title.specs.Part.{Placed};
 
@@ -19,28 +19,26 @@ pub enum Part {
     Refused(Refusal),
 }
 
+// The sizes of measures that pass.
 fn directory_size(s: Measures) -> usize
     requires { ⌜ passes s ≡ true ⌝ }
     ensures { λ r. ⌜ r ≡ directorySize s ⌝ }
 {
-    let size = row_size(s);
-    s.m * size
+    sizes::directory(s)
 }
 
 pub fn table_size(s: Measures) -> usize
     requires { ⌜ passes s ≡ true ⌝ }
     ensures { λ r. ⌜ r ≡ tableSize s ⌝ }
 {
-    2 + 2 * (s.m * s.m) * (7 + s.f)
+    sizes::table(s)
 }
 
 pub fn record_size(s: Measures) -> usize
     requires { ⌜ passes s ≡ true ⌝ }
     ensures { λ r. ⌜ r ≡ clientSize s ⌝ }
 {
-    let pointer = 7 + 32 * (s.t + s.k);
-    let work = pointer + 4 + s.n * (34 + s.f);
-    5 + ((s.m + 1) * pointer + 9 * s.m + work)
+    sizes::record(s)
 }
 
 // Where the records begin.

@@ -1,11 +1,11 @@
 // The title service for C and Rust: each function takes numbers and slices, and requires nothing.
 use numbers::numbers_of;
 use numbers::service_code;
-use protocol::measures::Measures;
+use parties::Measures;
 ghost use mathlib.Core.Path.{_≡_};
-ghost use Rattle.protocol.specs.ClientEvents.{startDeposit, startReading, updateAnswer, scanAnswer, clientMessage};
-ghost use Rattle.protocol.specs.DirectoryEvents.{directoryUpdate, directoryScan};
-ghost use Rattle.protocol.specs.NodeEvents.{nodeMessage};
+ghost use Rattle.parties.specs.protocol.ClientEvents.{startDeposit, startReading, updateAnswer, scanAnswer, clientMessage};
+ghost use Rattle.parties.specs.protocol.DirectoryEvents.{directoryUpdate, directoryScan};
+ghost use Rattle.parties.specs.protocol.NodeEvents.{nodeMessage};
 ghost use Rattle.title.specs.Memory.{memoryFresh, directoryIn, tableIn, recordIn};
 ghost use Rattle.title.specs.Service.{Deposits, Reads, Updated, Scanned, ToClient, Updates, ToNode};
 ghost use Rattle.numbers.specs.Code.{measured, code, told};

@@ -2,8 +2,8 @@ use borrow.Author.Needs.{needs}
 use mathlib.Core.Path.{sym, ap, _∙_}
 use mathlib.Core.List.{List}
 use Prim.Native.Nat.{ℕ}
-use Rattle.client.specs.declared.answer.ClientAnswer.{ClientAnswer}
-use Rattle.client.specs.Answer.{answered}
+use Rattle.parties.specs.declared.ClientAnswer.{ClientAnswer}
+use Rattle.parties.specs.client.Answer.{answered}
 use Rattle.numbers.specs.Code.{four, told}
 use Rattle.numbers.proofs.numbers_of.Statement.{statement}
 use Rattle.numbers.proofs.numbers_of.Tie as tie

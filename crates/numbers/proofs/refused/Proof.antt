@@ -1,9 +1,9 @@
 use borrow.Author.Needs.{needs}
 use mathlib.Core.Path.{sym, ap}
 use Prim.Native.Nat.{ℕ}
-use Rattle.protocol.specs.Answer.{refuses}
-use Rattle.records.specs.declared.answer.Refusal.{Refusal}
-use Rattle.records.specs.Answer.{number}
+use Rattle.parties.specs.protocol.Answer.{refuses}
+use Rattle.parties.specs.declared.Refusal.{Refusal}
+use Rattle.parties.specs.records.Answer.{number}
 use Rattle.numbers.specs.Code.{code}
 use Rattle.numbers.proofs.refused.Statement.{statement}
 use Rattle.numbers.proofs.refused.Tie as tie

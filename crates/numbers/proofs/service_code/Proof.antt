@@ -1,7 +1,7 @@
 use borrow.Author.Needs.{needs}
 use mathlib.Core.Path.{sym, ap, _∙_}
 use Prim.Native.Nat.{ℕ}
-use Rattle.parties.specs.declared.answer.Service.{Service}
+use Rattle.parties.specs.declared.Service.{Service}
 use Rattle.parties.specs.Answer.{served}
 use Rattle.numbers.specs.Code.{code}
 use Rattle.numbers.proofs.service_code.Statement.{statement}

@@ -1,4 +1,4 @@
--- No turn changes a length, and each leaves fewer.
+-- No turn changes the input's length, and each leaves fewer.
 use mathlib.Core.Path.{_≡_}
 use borrow.Author.Needs.{needs}
 use lib.ListN.{length}
@@ -6,49 +6,40 @@ use Rattle.replay.proofs.feed_input.Statement.{statement}
 use Rattle.replay.proofs.feed_input.Tie as tie
 
 abbrev Inv-loop : tie.InvT-loop
-Inv-loop input₀ memory₀ room₀ out₀ post₀ page₀ text₀ y₀ input memory room out post page text y = (length input ≡ length input₀)
-    × (length memory ≡ length memory₀)
-    × (length room ≡ length room₀)
-    × (length out ≡ length out₀)
-    × (length post ≡ length post₀)
-    × (length page ≡ length page₀)
-    × (length text ≡ length text₀)
+Inv-loop input₀ memory₀ post₀ page₀ y₀ left₀ input memory post page y left = length input ≡ length input₀
 
 abbrev μ-loop : tie.MeasureT-loop
-μ-loop input₀ memory₀ room₀ out₀ post₀ page₀ text₀ y₀ input memory room out post page text y = y .left
+μ-loop input₀ memory₀ post₀ page₀ y₀ left₀ input memory post page y left = left
 
 loop-holds : tie.Need-loop-holds Inv-loop μ-loop
 loop-holds c = search needs
 
-feed-more-requires : tie.Need-feed-more-requires Inv-loop μ-loop
-feed-more-requires c κs = search needs
+more-requires : tie.Need-more-requires Inv-loop μ-loop
+more-requires c κs = search needs
+
+fewer-requires : tie.Need-fewer-requires Inv-loop μ-loop
+fewer-requires c κs = search needs
+
+sub-feed-all : tie.Need-sub-feed-all Inv-loop μ-loop
+sub-feed-all c = search needs
+
+part-feed-all-start : tie.Need-part-feed-all-start Inv-loop μ-loop
+part-feed-all-start c = search needs
+
+part-feed-all-end : tie.Need-part-feed-all-end Inv-loop μ-loop
+part-feed-all-end c = search needs
+
+feed-all-requires : tie.Need-feed-all-requires Inv-loop μ-loop
+feed-all-requires c κs = search needs
 
 loop-less : tie.Need-loop-less Inv-loop μ-loop
 loop-less c = search needs
 
 loop-again : tie.Need-loop-again Inv-loop μ-loop
-loop-again c = (search needs, search needs, search needs, search needs, search needs, search needs, search needs)
+loop-again c = search needs
 
 same-length : tie.Need-same-length Inv-loop μ-loop
 same-length c = search needs
-
-same-length-2 : tie.Need-same-length-2 Inv-loop μ-loop
-same-length-2 c = search needs
-
-same-length-3 : tie.Need-same-length-3 Inv-loop μ-loop
-same-length-3 c = search needs
-
-same-length-4 : tie.Need-same-length-4 Inv-loop μ-loop
-same-length-4 c = search needs
-
-same-length-5 : tie.Need-same-length-5 Inv-loop μ-loop
-same-length-5 c = search needs
-
-same-length-6 : tie.Need-same-length-6 Inv-loop μ-loop
-same-length-6 c = search needs
-
-same-length-7 : tie.Need-same-length-7 Inv-loop μ-loop
-same-length-7 c = search needs
 
 returns : tie.Need-returns Inv-loop μ-loop
 returns c = search needs
@@ -60,14 +51,13 @@ feed-input-spec =
     Inv-loop
     μ-loop
     loop-holds
-    feed-more-requires
+    more-requires
+    fewer-requires
+    sub-feed-all
+    part-feed-all-start
+    part-feed-all-end
+    feed-all-requires
     loop-less
     loop-again
     same-length
-    same-length-2
-    same-length-3
-    same-length-4
-    same-length-5
-    same-length-6
-    same-length-7
     returns)

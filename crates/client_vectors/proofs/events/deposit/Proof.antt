@@ -42,21 +42,21 @@ use denote.Triple.Table.{entered, cited}
 use denote.Triple.Walked.{Stays, stay-none, stay-none-slice, gave-slice, walkOf, AllGo, goes-none, goes-none-slice, goes-gave-slice, onExit, Walks, ends-at, walked, walk-meets}
 use denote.Exit.{yes}
 use denote.Triple.Clauses.{ensured, atExit, lasts}
-use Rattle.client.specs.declared.phase.Phase.{Phase}
-use Rattle.client.specs.declared.answer.ClientAnswer.{ClientAnswer}
-use Rattle.protocol.specs.declared.measures.Measures.{Measures}
-use Rattle.protocol.proofs.measures.Measures as X0
-use Rattle.protocol.proofs.measures.Measures.Laws as X0′
-use Rattle.client.proofs.phase.Phase as S
-use Rattle.client.proofs.phase.Phase.Laws as S′
-use Rattle.client.proofs.answer.ClientAnswer as N
-use Rattle.client.proofs.answer.ClientAnswer.Laws as N′
-use Rattle.client.proofs.phase.Turned as T
-use Rattle.client.proofs.phase.Turned.Laws as T′
-use Rattle.client_event.proofs.event.deposit as callee
-use Rattle.client_event.proofs.event.deposit.Symbol as callee-def
-use Rattle.client_event.proofs.event.deposit.Symbol.{name as #event}
-use Rattle.client_event.proofs.event.deposit.Met as callee-thm
+use Rattle.parties.specs.declared.Phase.{Phase}
+use Rattle.parties.specs.declared.ClientAnswer.{ClientAnswer}
+use Rattle.parties.specs.declared.Measures.{Measures}
+use Rattle.parties.proofs.Measures as X0
+use Rattle.parties.proofs.Measures.Laws as X0′
+use Rattle.parties.proofs.Phase as S
+use Rattle.parties.proofs.Phase.Laws as S′
+use Rattle.parties.proofs.ClientAnswer as N
+use Rattle.parties.proofs.ClientAnswer.Laws as N′
+use Rattle.parties.proofs.Turned as T
+use Rattle.parties.proofs.Turned.Laws as T′
+use Rattle.parties.proofs.client.event.deposit as callee
+use Rattle.parties.proofs.client.event.deposit.Symbol as callee-def
+use Rattle.parties.proofs.client.event.deposit.Symbol.{name as #event}
+use Rattle.parties.proofs.client.event.deposit.Met as callee-thm
 use Rattle.client_vectors.proofs.Loan.{structVal, StructIs, AnswerIs, both, both-is, answer-at, cell, Lies, cell-in, cell-out}
 use Rattle.client_vectors.proofs.events.deposit.Key.{name as #lent}
 use Rattle.client_vectors.proofs.events.deposit as lent
@@ -172,4 +172,4 @@ deposit-spec 𝓤 H 𝓜 𝓖 𝓡 =
     entered 𝓤 H (tripleOf 𝓤 H (𝓖 .A) lent.signature (lent.spec 𝓤 H (𝓖 .A) (𝓜 .mem) (𝓡 .run)))
     (tables 𝓤 H 𝓜 𝓡 code.env .C) (tables 𝓤 H 𝓜 𝓡 code.env .Λ) #lent code.function (code.unfolded 𝓤 H 𝓜 𝓡)
     (lent-meets 𝓤 H (𝓖 .A) (givenOf 𝓤 H 𝓜 𝓖) (𝓜 .mem) (𝓡 .run) (tablesOf 𝓤 H 𝓜 (tables 𝓤 H 𝓜 𝓡 code.env))
-    (cited 𝓤 H (Callee 𝓤 H (𝓖 .A) (𝓜 .mem) (𝓡 .run)) 𝓜 𝓡 code.env #event callee-def.routine code.calls-client-event·event·deposit (callee-thm.met 𝓤 H 𝓜 𝓖 𝓡)))
+    (cited 𝓤 H (Callee 𝓤 H (𝓖 .A) (𝓜 .mem) (𝓡 .run)) 𝓜 𝓡 code.env #event callee-def.routine code.calls-parties·client·event·deposit (callee-thm.met 𝓤 H 𝓜 𝓖 𝓡)))

@@ -6,13 +6,13 @@ use Prim.Native.Nat.{ℕ, _*_}
 use native.Mathlib.Omega.{arith}
 use borrow.Author.Tests.{not-true, not-false}
 use lib.ListN.{drop}
-use Rattle.protocol.specs.Measures.{passes}
-use Rattle.protocol.specs.Directory.{writeRow, freshRow}
-use Rattle.protocol.specs.DirectoryEvents.{directorySize}
-use Rattle.records.proofs.SizeLaws.{row-bound, table-bound}
-use Rattle.parties.proofs.RoomLaws.{built-length}
-use Rattle.parties.proofs.FreshLaws.{fresh-rows, fresh-measures, fresh-short, fresh-written}
-use Rattle.parties.proofs.DirectoryEndLaws.{ends-table}
+use Rattle.parties.specs.protocol.Measures.{passes}
+use Rattle.parties.specs.protocol.Directory.{writeRow, freshRow}
+use Rattle.parties.specs.protocol.DirectoryEvents.{directorySize}
+use Rattle.parties.proofs.records.SizeLaws.{row-bound, table-bound}
+use Rattle.parties.proofs.directory.RoomLaws.{built-length}
+use Rattle.parties.proofs.directory.FreshLaws.{fresh-rows, fresh-measures, fresh-short, fresh-written}
+use Rattle.parties.proofs.directory.EndLaws.{ends-table}
 use Rattle.parties.proofs.directory.fresh_directory.Statement.{statement}
 use Rattle.parties.proofs.directory.fresh_directory.Tie as tie
 

@@ -2,10 +2,10 @@ use mathlib.Core.Path.{_≡_, sym, ap, _∙_}
 use Prim.Native.Nat.{ℕ, _+_, _-_, _≤_, _<_}
 use native.Mathlib.Omega.{arith}
 use lib.ListN.{length, length-replicate}
-use Rattle.protocol.proofs.MeasureLaws.{passed}
-use Rattle.parties.specs.Room.{Built}
-use Rattle.parties.proofs.RoomLaws.{built-length}
-use Rattle.parties.proofs.FreshLaws.{started, fresh-start, fresh-turn, fresh-end}
+use Rattle.parties.proofs.protocol.formats.MeasureLaws.{passed}
+use Rattle.parties.specs.directory.Room.{Built}
+use Rattle.parties.proofs.directory.RoomLaws.{built-length}
+use Rattle.parties.proofs.directory.FreshLaws.{started, fresh-start, fresh-turn, fresh-end}
 use Rattle.parties.proofs.directory.fresh_row.Statement.{statement}
 use Rattle.parties.proofs.directory.fresh_row.Tie as tie
 

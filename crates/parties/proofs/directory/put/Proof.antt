@@ -1,7 +1,7 @@
 use borrow.Author.Needs.{needs}
 use mathlib.Core.Path.{_∙_}
 use native.Mathlib.Omega.{arith}
-use Rattle.parties.proofs.RebuildLaws.{put-record, put-row}
+use Rattle.parties.proofs.directory.RebuildLaws.{put-record, put-row}
 use Rattle.parties.proofs.directory.put.Statement.{statement}
 use Rattle.parties.proofs.directory.put.Tie as tie
 

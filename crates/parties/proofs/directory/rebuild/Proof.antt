@@ -4,9 +4,9 @@ use mathlib.Core.List.{List, [], _∷_, _++_}
 use Prim.Native.Nat.{ℕ, _+_, _≤_}
 use native.Mathlib.Omega.{arith}
 use lib.ListN.{length, getD, length-append, length-replicate}
-use Rattle.parties.specs.Room.{Built}
-use Rattle.parties.proofs.RoomLaws.{built-length, built-map}
-use Rattle.parties.proofs.RebuildLaws.{writtenPart, frozenPart, indicesPart, indexPart, renewed-length, renewed-parts, rebuild-more}
+use Rattle.parties.specs.directory.Room.{Built}
+use Rattle.parties.proofs.directory.RoomLaws.{built-length, built-map}
+use Rattle.parties.proofs.directory.RebuildLaws.{writtenPart, frozenPart, indicesPart, indexPart, renewed-length, renewed-parts, rebuild-more}
 use Rattle.parties.proofs.directory.rebuild.Statement.{statement}
 use Rattle.parties.proofs.directory.rebuild.Tie as tie
 

@@ -3,13 +3,13 @@ use mathlib.Core.Path.{refl, sym, subst}
 use Prim.Native.Nat.{_+_}
 use native.Mathlib.Omega.{arith}
 use lib.ListN.{drop}
-use Rattle.protocol.specs.Measures.{rowSize}
-use Rattle.records.specs.Form.{Ended}
-use Rattle.parties.specs.Room.{Renewed}
-use Rattle.records.proofs.SizeLaws.{row-bound}
-use Rattle.records.proofs.RecordLaws.{parted-sound, parted-broken}
-use Rattle.parties.proofs.RoomLaws.{built-length}
-use Rattle.parties.proofs.UpdateEndLaws.{row-fields-sound, renewed-fits, renewed-end}
+use Rattle.parties.specs.protocol.Measures.{rowSize}
+use Rattle.parties.specs.records.Form.{Ended}
+use Rattle.parties.specs.directory.Room.{Renewed}
+use Rattle.parties.proofs.records.SizeLaws.{row-bound}
+use Rattle.parties.proofs.records.RecordLaws.{parted-sound, parted-broken}
+use Rattle.parties.proofs.directory.RoomLaws.{built-length}
+use Rattle.parties.proofs.directory.UpdateEndLaws.{row-fields-sound, renewed-fits, renewed-end}
 use Rattle.parties.proofs.directory.renew.Statement.{statement}
 use Rattle.parties.proofs.directory.renew.Tie as tie
 

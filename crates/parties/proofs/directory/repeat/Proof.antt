@@ -5,9 +5,9 @@ use native.Mathlib.Omega.{arith}
 use lib.ListN.{length, take, drop, replicate}
 use lib.Seq.{length-take-le, paste}
 use Rattle.coding.proofs.BytesLaws.{stride}
-use Rattle.protocol.specs.Format.{writeMany}
-use Rattle.records.proofs.SizeLaws.{below-rows}
-use Rattle.parties.proofs.RoomLaws.{many-pasted}
+use Rattle.parties.specs.protocol.Format.{writeMany}
+use Rattle.parties.proofs.records.SizeLaws.{below-rows}
+use Rattle.parties.proofs.directory.RoomLaws.{many-pasted}
 use Rattle.parties.proofs.directory.repeat.Statement.{statement}
 use Rattle.parties.proofs.directory.repeat.Tie as tie
 

@@ -7,11 +7,11 @@ use Prim.Native.Nat.{ℕ, _+_, _*_}
 use native.Mathlib.Omega.{arith}
 use borrow.Author.Tests.{not-true, not-false}
 use lib.ListN.{take, drop}
-use Rattle.protocol.specs.Measures.{passes, rowSize}
-use Rattle.protocol.specs.Answer.{serves}
-use Rattle.protocol.specs.DirectoryEvents.{directorySize}
-use Rattle.records.proofs.SizeLaws.{table-bound}
-use Rattle.parties.proofs.DirectoryEndLaws.{ends-room, scan-measures, scan-short-table, scan-short-room, scan-broken, scan-rows}
+use Rattle.parties.specs.protocol.Measures.{passes, rowSize}
+use Rattle.parties.specs.protocol.Answer.{serves}
+use Rattle.parties.specs.protocol.DirectoryEvents.{directorySize}
+use Rattle.parties.proofs.records.SizeLaws.{table-bound}
+use Rattle.parties.proofs.directory.EndLaws.{ends-room, scan-measures, scan-short-table, scan-short-room, scan-broken, scan-rows}
 use Rattle.parties.proofs.directory.scan.Statement.{statement}
 use Rattle.parties.proofs.directory.scan.Tie as tie
 

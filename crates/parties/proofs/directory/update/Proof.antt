@@ -6,15 +6,15 @@ use Prim.Native.Nat.{ℕ, _+_, _*_, _≤_}
 use native.Mathlib.Omega.{arith}
 use borrow.Author.Tests.{not-true, not-false}
 use lib.ListN.{length, drop}
-use Rattle.protocol.specs.Measures.{passes, rowSize}
-use Rattle.protocol.specs.Directory.{readDirectory, readRow}
-use Rattle.protocol.specs.DirectoryEvents.{directorySize}
-use Rattle.records.specs.declared.form.Parts.{Parts}
-use Rattle.records.specs.Form.{rest, Recorded}
-use Rattle.parties.specs.Room.{Renewed}
-use Rattle.records.proofs.SizeLaws.{table-bound, below-rows}
-use Rattle.parties.proofs.DirectoryEndLaws.{ends-table}
-use Rattle.parties.proofs.UpdateEndLaws.{recorded-sound, recorded-broken, own-row-left, update-measures, update-short, update-number, update-broken-table, update-broken-record, update-done}
+use Rattle.parties.specs.protocol.Measures.{passes, rowSize}
+use Rattle.parties.specs.protocol.Directory.{readDirectory, readRow}
+use Rattle.parties.specs.protocol.DirectoryEvents.{directorySize}
+use Rattle.parties.specs.declared.records.form.Parts.{Parts}
+use Rattle.parties.specs.records.Form.{rest, Recorded}
+use Rattle.parties.specs.directory.Room.{Renewed}
+use Rattle.parties.proofs.records.SizeLaws.{table-bound, below-rows}
+use Rattle.parties.proofs.directory.EndLaws.{ends-table}
+use Rattle.parties.proofs.directory.UpdateEndLaws.{recorded-sound, recorded-broken, own-row-left, update-measures, update-short, update-number, update-broken-table, update-broken-record, update-done}
 use Rattle.parties.proofs.directory.update.Statement.{statement}
 use Rattle.parties.proofs.directory.update.Tie as tie
 

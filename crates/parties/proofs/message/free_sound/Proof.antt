@@ -1,6 +1,6 @@
 use borrow.Author.Needs.{needs}
 use mathlib.Core.Path.{_∙_}
-use Rattle.parties.proofs.ToNodeLaws.{free-length, free-versions}
+use Rattle.parties.proofs.node.ToNodeLaws.{free-length, free-versions}
 use Rattle.parties.proofs.message.free_sound.Statement.{statement}
 use Rattle.parties.proofs.message.free_sound.Tie as tie
 

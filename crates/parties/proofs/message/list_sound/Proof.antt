@@ -4,10 +4,10 @@ use Prim.Native.Nat.{_+_, _*_, _≤_}
 use native.Mathlib.Omega.{arith}
 use borrow.Author.Tests.{not-true, not-false}
 use lib.ListN.{length}
-use Rattle.protocol.specs.Version.{none}
-use Rattle.records.specs.Places.{versionAt, properAt}
-use Rattle.parties.specs.ToNode.{listedFrom}
-use Rattle.records.proofs.PositionLaws.{ordered-end, ordered-broken, ordered-not, ordered-next}
+use Rattle.parties.specs.protocol.Version.{none}
+use Rattle.parties.specs.records.Places.{versionAt, properAt}
+use Rattle.parties.specs.node.ToNode.{listedFrom}
+use Rattle.parties.proofs.records.PositionLaws.{ordered-end, ordered-broken, ordered-not, ordered-next}
 use Rattle.parties.proofs.message.list_sound.Statement.{statement}
 use Rattle.parties.proofs.message.list_sound.Tie as tie
 

@@ -1,6 +1,6 @@
 use borrow.Author.Needs.{needs}
 use mathlib.Core.Path.{_∙_}
-use Rattle.parties.proofs.ToNodeLaws.{store-short, store-wide, store-version}
+use Rattle.parties.proofs.node.ToNodeLaws.{store-short, store-wide, store-version}
 use Rattle.parties.proofs.message.store_sound.Statement.{statement}
 use Rattle.parties.proofs.message.store_sound.Tie as tie
 

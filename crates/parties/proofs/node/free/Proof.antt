@@ -4,9 +4,9 @@ use mathlib.Core.Bool.{true}
 use native.Mathlib.Nat.{mul-le-mul-right}
 use native.Mathlib.Omega.{arith}
 use borrow.Author.Tests.{not-true, not-false}
-use Rattle.protocol.specs.Measures.{placeSize}
-use Rattle.parties.specs.ToNode.{freeSound}
-use Rattle.parties.proofs.NodeEndLaws.{broken-free, filled, listing, freed}
+use Rattle.parties.specs.protocol.Measures.{placeSize}
+use Rattle.parties.specs.node.ToNode.{freeSound}
+use Rattle.parties.proofs.node.EndLaws.{broken-free, filled, listing, freed}
 use Rattle.parties.proofs.node.free.Statement.{statement}
 use Rattle.parties.proofs.node.free.Tie as tie
 

@@ -3,8 +3,8 @@ use mathlib.Core.Path.{refl, sym, _∙_}
 use native.Mathlib.Omega.{arith}
 use borrow.Author.Tests.{not-true, not-false}
 use lib.ListN.{length-set}
-use Rattle.records.proofs.PlaceLaws.{alone-size}
-use Rattle.parties.proofs.NodeEndLaws.{filled, ranked, stands-inside, stands-short, request-absent, request-found}
+use Rattle.parties.proofs.records.PlaceLaws.{alone-size}
+use Rattle.parties.proofs.node.EndLaws.{filled, ranked, stands-inside, stands-short, request-absent, request-found}
 use Rattle.parties.proofs.node.hand_back.Statement.{statement}
 use Rattle.parties.proofs.node.hand_back.Tie as tie
 

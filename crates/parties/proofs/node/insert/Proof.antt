@@ -1,9 +1,9 @@
 use borrow.Author.Needs.{needs}
 use native.Mathlib.Omega.{arith}
 use Prim.Native.Nat.{_+_, _*_}
-use Rattle.protocol.specs.Measures.{placeSize}
-use Rattle.parties.specs.NodeCode.{broughtBy}
-use Rattle.parties.proofs.KeepLaws.{insert-put}
+use Rattle.parties.specs.protocol.Measures.{placeSize}
+use Rattle.parties.specs.node.NodeCode.{broughtBy}
+use Rattle.parties.proofs.node.KeepLaws.{insert-put}
 use Rattle.parties.proofs.node.insert.Statement.{statement}
 use Rattle.parties.proofs.node.insert.Tie as tie
 

@@ -1,10 +1,10 @@
 use borrow.Author.Needs.{needs}
 use mathlib.Core.Path.{sym, _∙_}
 use native.Mathlib.Omega.{arith}
-use Rattle.protocol.proofs.MeasureLaws.{passed}
-use Rattle.parties.proofs.NodeSizeLaws.{sizes}
-use Rattle.parties.proofs.ToNodeLaws.{store-sizes}
-use Rattle.parties.proofs.NodeEndLaws.{filled, grows, ranked, stands-inside, store-over, store-full, store-new}
+use Rattle.parties.proofs.protocol.formats.MeasureLaws.{passed}
+use Rattle.parties.proofs.node.SizeLaws.{sizes}
+use Rattle.parties.proofs.node.ToNodeLaws.{store-sizes}
+use Rattle.parties.proofs.node.EndLaws.{filled, grows, ranked, stands-inside, store-over, store-full, store-new}
 use Rattle.parties.proofs.node.keep.Statement.{statement}
 use Rattle.parties.proofs.node.keep.Tie as tie
 

@@ -1,5 +1,5 @@
 use borrow.Author.Needs.{needs}
-use Rattle.records.proofs.PlaceLaws.{number-told}
+use Rattle.parties.proofs.records.PlaceLaws.{number-told}
 use Rattle.parties.proofs.node.length_at.Statement.{statement}
 use Rattle.parties.proofs.node.length_at.Tie as tie
 

@@ -1,6 +1,6 @@
 use borrow.Author.Needs.{needs}
 use mathlib.Core.Path.{_∙_}
-use Rattle.parties.proofs.DropLaws.{behind-none, behind-here}
+use Rattle.parties.proofs.node.DropLaws.{behind-none, behind-here}
 use Rattle.parties.proofs.node.list_behind.Statement.{statement}
 use Rattle.parties.proofs.node.list_behind.Tie as tie
 

@@ -1,7 +1,7 @@
 use borrow.Author.Needs.{needs}
 use mathlib.Core.Path.{sym, ap, _∙_}
 use mathlib.Core.Bool.{not}
-use Rattle.parties.proofs.DropLaws.{names-none, names-behind, names-here}
+use Rattle.parties.proofs.node.DropLaws.{names-none, names-behind, names-here}
 use Rattle.parties.proofs.node.list_names.Statement.{statement}
 use Rattle.parties.proofs.node.list_names.Tie as tie
 

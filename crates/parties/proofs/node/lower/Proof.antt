@@ -1,6 +1,6 @@
 use borrow.Author.Needs.{needs}
 use mathlib.Core.Path.{_∙_}
-use Rattle.records.proofs.SpliceLaws.{splice-self, lowered}
+use Rattle.parties.proofs.records.SpliceLaws.{splice-self, lowered}
 use Rattle.parties.proofs.node.lower.Statement.{statement}
 use Rattle.parties.proofs.node.lower.Tie as tie
 

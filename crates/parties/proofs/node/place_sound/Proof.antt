@@ -1,5 +1,5 @@
 use borrow.Author.Needs.{needs}
-use Rattle.records.proofs.PlaceLaws.{sound-low, sound-client, sound-empty, sound-long, sound-spare}
+use Rattle.parties.proofs.records.PlaceLaws.{sound-low, sound-client, sound-empty, sound-long, sound-spare}
 use Rattle.parties.proofs.node.place_sound.Statement.{statement}
 use Rattle.parties.proofs.node.place_sound.Tie as tie
 

@@ -4,10 +4,10 @@ use Prim.Native.Nat.{_+_, _*_, _≤_}
 use native.Mathlib.Omega.{arith}
 use borrow.Author.Tests.{not-true, not-false}
 use lib.ListN.{length}
-use Rattle.protocol.specs.Measures.{placeSize}
-use Rattle.protocol.specs.Version.{none}
-use Rattle.records.specs.Places.{soundFrom, soundAt, versionAt}
-use Rattle.records.proofs.PositionLaws.{one-less, ordered-end, ordered-broken, ordered-not, ordered-next}
+use Rattle.parties.specs.protocol.Measures.{placeSize}
+use Rattle.parties.specs.protocol.Version.{none}
+use Rattle.parties.specs.records.Places.{soundFrom, soundAt, versionAt}
+use Rattle.parties.proofs.records.PositionLaws.{one-less, ordered-end, ordered-broken, ordered-not, ordered-next}
 use Rattle.parties.proofs.node.places_sound.Statement.{statement}
 use Rattle.parties.proofs.node.places_sound.Tie as tie
 

@@ -1,7 +1,7 @@
 use borrow.Author.Needs.{needs}
 use mathlib.Core.Path.{_∙_}
 use lib.ListN.{length-set}
-use Rattle.records.proofs.SpliceLaws.{tagged}
+use Rattle.parties.proofs.records.SpliceLaws.{tagged}
 use Rattle.parties.proofs.node.put_head.Statement.{statement}
 use Rattle.parties.proofs.node.put_head.Tie as tie
 

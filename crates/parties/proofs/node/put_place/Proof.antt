@@ -1,5 +1,5 @@
 use borrow.Author.Needs.{needs}
-use Rattle.parties.proofs.KeepLaws.{place-put}
+use Rattle.parties.proofs.node.KeepLaws.{place-put}
 use Rattle.parties.proofs.node.put_place.Statement.{statement}
 use Rattle.parties.proofs.node.put_place.Tie as tie
 

@@ -1,8 +1,8 @@
 use borrow.Author.Needs.{needs}
 use mathlib.Core.Path.{sym, _∙_}
 use borrow.Author.Tests.{not-true, not-false}
-use Rattle.parties.proofs.ToNodeLaws.{tag-other, tag-none}
-use Rattle.parties.proofs.NodeEndLaws.{broken-table, broken-message}
+use Rattle.parties.proofs.node.ToNodeLaws.{tag-other, tag-none}
+use Rattle.parties.proofs.node.EndLaws.{broken-table, broken-message}
 use Rattle.parties.proofs.node.receive.Statement.{statement}
 use Rattle.parties.proofs.node.receive.Tie as tie
 

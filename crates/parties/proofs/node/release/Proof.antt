@@ -2,9 +2,9 @@ use mathlib.Core.Path.{_≡_, sym, _∙_}
 use mathlib.Core.Bool.{true, false}
 use Prim.Native.Nat.{_+_}
 use native.Mathlib.Omega.{arith}
-use Rattle.parties.specs.NodeCode.{listBehind, listNames}
-use Rattle.records.specs.Places.{versionAt}
-use Rattle.parties.proofs.FreeingLaws.{Freeing, freeing-start, freeing-end, place-inside, freeing-behind, freeing-named, freeing-kept}
+use Rattle.parties.specs.node.NodeCode.{listBehind, listNames}
+use Rattle.parties.specs.records.Places.{versionAt}
+use Rattle.parties.proofs.node.FreeingLaws.{Freeing, freeing-start, freeing-end, place-inside, freeing-behind, freeing-named, freeing-kept}
 use Rattle.parties.proofs.node.release.Statement.{statement}
 use Rattle.parties.proofs.node.release.Tie as tie
 

@@ -1,7 +1,7 @@
 use borrow.Author.Needs.{needs}
 use mathlib.Core.Path.{sym, _∙_}
 use borrow.Author.Tests.{not-true, not-false}
-use Rattle.parties.proofs.NodeEndLaws.{broken-request}
+use Rattle.parties.proofs.node.EndLaws.{broken-request}
 use Rattle.parties.proofs.node.request.Statement.{statement}
 use Rattle.parties.proofs.node.request.Tie as tie
 

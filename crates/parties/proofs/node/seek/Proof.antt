@@ -3,9 +3,9 @@ use Prim.Native.Nat.{_+_, _-_, _*_, _≤_}
 use native.Mathlib.Omega.{arith}
 use borrow.Author.Tests.{not-true, not-false}
 use Rattle.coding.proofs.BytesLaws.{stride}
-use Rattle.records.specs.Places.{rank}
-use Rattle.records.proofs.SizeLaws.{below-rows}
-use Rattle.parties.proofs.SeekLaws.{rank-end, rank-found, rank-on}
+use Rattle.parties.specs.records.Places.{rank}
+use Rattle.parties.proofs.records.SizeLaws.{below-rows}
+use Rattle.parties.proofs.node.SeekLaws.{rank-end, rank-found, rank-on}
 use Rattle.parties.proofs.node.seek.Statement.{statement}
 use Rattle.parties.proofs.node.seek.Tie as tie
 

@@ -2,8 +2,8 @@ use borrow.Author.Needs.{needs}
 use mathlib.Core.Path.{ap, _∙_}
 use mathlib.Core.Bool.{not}
 use native.Mathlib.Omega.{arith}
-use Rattle.records.proofs.SizeLaws.{below-rows}
-use Rattle.parties.proofs.SeekLaws.{stands-none, stands-here}
+use Rattle.parties.proofs.records.SizeLaws.{below-rows}
+use Rattle.parties.proofs.node.SeekLaws.{stands-none, stands-here}
 use Rattle.parties.proofs.node.stands.Statement.{statement}
 use Rattle.parties.proofs.node.stands.Tie as tie
 

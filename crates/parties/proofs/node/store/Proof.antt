@@ -1,8 +1,8 @@
 use borrow.Author.Needs.{needs}
 use mathlib.Core.Path.{sym, _∙_}
 use borrow.Author.Tests.{not-true, not-false}
-use Rattle.protocol.proofs.MeasureLaws.{passed}
-use Rattle.parties.proofs.NodeEndLaws.{broken-store}
+use Rattle.parties.proofs.protocol.formats.MeasureLaws.{passed}
+use Rattle.parties.proofs.node.EndLaws.{broken-store}
 use Rattle.parties.proofs.node.store.Statement.{statement}
 use Rattle.parties.proofs.node.store.Tie as tie
 

@@ -3,9 +3,9 @@ use mathlib.Core.Path.{sym, _∙_}
 use native.Mathlib.Nat.{mul-le-mul-right}
 use native.Mathlib.Omega.{arith}
 use borrow.Author.Tests.{not-true, not-false}
-use Rattle.protocol.specs.Measures.{placeSize}
-use Rattle.protocol.proofs.MeasureLaws.{passed}
-use Rattle.parties.proofs.TableLaws.{table-many, table-broken, table-rest}
+use Rattle.parties.specs.protocol.Measures.{placeSize}
+use Rattle.parties.proofs.protocol.formats.MeasureLaws.{passed}
+use Rattle.parties.proofs.node.TableLaws.{table-many, table-broken, table-rest}
 use Rattle.parties.proofs.node.table_sound.Statement.{statement}
 use Rattle.parties.proofs.node.table_sound.Tie as tie
 

@@ -1,16 +1,14 @@
--- The text keeps its length, and i stays a node until the end.
+-- i stays a node until the end.
 use Prim.Native.Nat.{_-_, _≤_}
-use mathlib.Core.Path.{_≡_}
 use borrow.Author.Needs.{needs}
-use lib.ListN.{length}
 use Rattle.replay.proofs.report.nodes.Statement.{statement}
 use Rattle.replay.proofs.report.nodes.Tie as tie
 
 abbrev Inv-loop : tie.InvT-loop
-Inv-loop text₀ at map to₀ i₀ text to i = (1 ≤ i) × (i ≤ 17) × (length text ≡ length text₀)
+Inv-loop map i₀ i = (1 ≤ i) × (i ≤ 17)
 
 abbrev μ-loop : tie.MeasureT-loop
-μ-loop text₀ at map to₀ i₀ text to i = 17 - i
+μ-loop map i₀ i = 17 - i
 
 loop-holds : tie.Need-loop-holds Inv-loop μ-loop
 loop-holds c = search needs
@@ -27,22 +25,10 @@ loop-less c = search needs
 loop-again : tie.Need-loop-again Inv-loop μ-loop
 loop-again c = search needs
 
-same-length : tie.Need-same-length Inv-loop μ-loop
-same-length c = search needs
-
 returns : tie.Need-returns Inv-loop μ-loop
 returns c = search needs
 
 pub nodes-spec : {M : Type 1} → statement M
 nodes-spec =
     tie.close
-    (tie.spec
-    Inv-loop
-    μ-loop
-    loop-holds
-    node-requires
-    add-i
-    loop-less
-    loop-again
-    same-length
-    returns)
+    (tie.spec Inv-loop μ-loop loop-holds node-requires add-i loop-less loop-again returns)

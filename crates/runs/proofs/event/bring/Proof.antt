@@ -3,7 +3,7 @@ use mathlib.Core.Path.{refl}
 use mathlib.Core.List.{List}
 use Prim.Native.Nat.{_+_, _≤_}
 use lib.ListN.{length}
-use Rattle.protocol.specs.Run.{bring}
+use Rattle.parties.specs.protocol.Run.{bring}
 use Rattle.runs.specs.Parcels.{Parcel, Listed, FindsAt}
 use Rattle.runs.specs.Happens.{Capable, Happens, honestIn}
 use Rattle.runs.specs.Acts.{None, Acts}
@@ -39,8 +39,8 @@ enum-told-2 c = search needs
 enum-known-at : tie.Need-enum-known-at
 enum-known-at c = search needs
 
-lies-requires : tie.Need-lies-requires
-lies-requires c κs = search needs
+has-node-requires : tie.Need-has-node-requires
+has-node-requires c κs = search needs
 
 bring-dishonest-requires : tie.Need-bring-dishonest-requires
 bring-dishonest-requires c κs = let w = within (c .before .before .before .before .before .before) in (able (c .before .before .before .before .before .before .before .before .before .before), record { first = w .0; last = w .1; oldest = oldest (c .before .before .before .before .before .before) })
@@ -74,7 +74,7 @@ same-length-4 c = search needs
 returns-3 : tie.Need-returns-3
 returns-3 c =
     let a = c .before .before .before .before .before .before .before .before .before .before .before .before .before .before .before .before .before .before .before .before .before .before .before .args in let t = c .before .before .before .before .before .before .bring-dishonest in
-    let k = t .ensures .1 (honestIn (a .liars)) (dishonest (a .liars) (a .i) (c .before .before .before .before .before .before .before .before .before .before .before .lies .result) (c .before .before .before .before .before .before .before .before .before .before .before .lies .ensures) (c .before .before .before .before .before .before .before .before .before .before .if1 .taken)) in
+    let k = t .ensures .1 (honestIn (a .liars)) (dishonest (a .liars) (a .i) (c .before .before .before .before .before .before .before .before .before .before .before .has-node .result) (c .before .before .before .before .before .before .before .before .before .before .before .has-node .ensures) (c .before .before .before .before .before .before .before .before .before .before .if1 .taken)) in
     Happens.happens (t .result) (able (c .before .before .before .before .before .before .before .before .before .before .before .before .before .before .before .before .before)) (t .ensures .0) (k .0) (k .1)
 
 same-length-5 : tie.Need-same-length-5
@@ -89,7 +89,7 @@ same-length-7 c = search needs
 returns-4 : tie.Need-returns-4
 returns-4 c =
     let a = c .before .before .before .before .before .before .before .before .before .before .before .before .before .before .before .before .before .before .before .before .before .before .before .args in let t = c .before .before .before .before .before .before .bring-honest in
-    let k = t .ensures .1 (honestIn (a .liars)) (honest-one (a .liars) (a .i) (c .before .before .before .before .before .before .before .before .before .before .before .lies .result) (c .before .before .before .before .before .before .before .before .before .before .before .lies .ensures) (c .before .before .before .before .before .before .before .before .before .before .if1 .left)) in
+    let k = t .ensures .1 (honestIn (a .liars)) (honest-one (a .liars) (a .i) (c .before .before .before .before .before .before .before .before .before .before .before .has-node .result) (c .before .before .before .before .before .before .before .before .before .before .before .has-node .ensures) (c .before .before .before .before .before .before .before .before .before .before .if1 .left)) in
     Happens.happens (t .result) (able (c .before .before .before .before .before .before .before .before .before .before .before .before .before .before .before .before .before)) (t .ensures .0) (k .0) (k .1)
 
 pub bring-spec : {M : Type 1} → statement M
@@ -102,7 +102,7 @@ bring-spec =
     find-requires
     enum-told-2
     enum-known-at
-    lies-requires
+    has-node-requires
     bring-dishonest-requires
     bring-honest-requires
     returns

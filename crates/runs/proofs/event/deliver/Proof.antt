@@ -3,7 +3,7 @@ use mathlib.Core.Path.{refl}
 use mathlib.Core.List.{List}
 use Prim.Native.Nat.{_+_, _≤_}
 use lib.ListN.{length}
-use Rattle.protocol.specs.Run.{deliver}
+use Rattle.parties.specs.protocol.Run.{deliver}
 use Rattle.runs.specs.Parcels.{Parcel, Listed, FindsAt}
 use Rattle.runs.specs.Happens.{Capable, Happens}
 use Rattle.runs.specs.Acts.{None, Acts}

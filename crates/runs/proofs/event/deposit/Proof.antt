@@ -1,7 +1,7 @@
 use borrow.Author.Needs.{needs}
 use mathlib.Core.Path.{refl, sym}
 use lib.ListN.{length}
-use Rattle.protocol.proofs.DepositStartLaws.{deposit-room}
+use Rattle.parties.proofs.protocol.events.DepositStartLaws.{deposit-room}
 use Rattle.runs.specs.Happens.{Capable, Happens}
 use Rattle.runs.specs.Acts.{Acts}
 use Rattle.runs.proofs.GoesLaws.{deposit-goes}

@@ -4,7 +4,7 @@ use mathlib.Core.List.{List}
 use Prim.Native.Nat.{_+_, _≤_}
 use native.Mathlib.Omega.{arith}
 use lib.ListN.{length}
-use Rattle.protocol.specs.Run.{hand}
+use Rattle.parties.specs.protocol.Run.{hand}
 use Rattle.runs.specs.Parcels.{Parcel, Listed, FindsAt}
 use Rattle.runs.specs.Happens.{Capable, Happens}
 use Rattle.runs.specs.Acts.{None, Acts}

@@ -20,8 +20,8 @@ enum-known-x c = search needs
 enum-told : tie.Need-enum-told
 enum-told c = search needs
 
-lies-requires : tie.Need-lies-requires
-lies-requires c κs = search needs
+has-node-requires : tie.Need-has-node-requires
+has-node-requires c κs = search needs
 
 to-client-requires : tie.Need-to-client-requires
 to-client-requires c κs = search needs
@@ -50,7 +50,7 @@ returns-2 c =
     let d = c .before .before .before .before .before .before .before .before .before .before .before .to-client in
     let t = c .before .before .starts in
     let p = able (c .before .before .before .before .before .before .before .before .before .before .before .before .before .before .before .before .before) in
-    let z = dishonest (a .liars) (a .i) (c .before .before .before .before .before .before .before .before .before .before .before .before .before .before .before .before .lies .result) (c .before .before .before .before .before .before .before .before .before .before .before .before .before .before .before .before .lies .ensures) (c .before .before .before .before .before .before .before .before .before .before .before .before .before .before .before .if1 .taken) in
+    let z = dishonest (a .liars) (a .i) (c .before .before .before .before .before .before .before .before .before .before .before .before .before .before .before .before .has-node .result) (c .before .before .before .before .before .before .before .before .before .before .before .before .before .before .before .before .has-node .ensures) (c .before .before .before .before .before .before .before .before .before .before .before .before .before .before .before .if1 .taken) in
     Happens.happens (t .result) p (t .ensures .0)
     (Acts.lies (a .i) (a .c) (a .bytes .now) (d .result) (t .result) z (record { answer = d .ensures .0; memory = d .ensures .1; room = d .ensures .2 }) (d .ensures .3) (t .ensures .1))
     (λ es h. lie-goes (a .s) (p .measures) (honestIn (a .liars)) es (a .memory .now) (a .post .now) (a .used) h (a .i) (a .c) (a .bytes .now) (a .room .now) (a .out .now) (d .last .1 .1 .1 .1 .1 .0) (d .last .1 .1 .1 .1 .1 .1 .0) (d .result) (d .last .1 .1 .1 .0) (t .last .1 .1 .1 .1 .0) (t .result)
@@ -60,7 +60,7 @@ returns-3 : tie.Need-returns-3
 returns-3 c =
     let a = c .before .before .before .before .before .before .before .before .before .before .args in
     let p = able (c .before .before) in
-    let z = honest-one (a .liars) (a .i) (c .before .lies .result) (c .before .lies .ensures) (c .if1 .left) in
+    let z = honest-one (a .liars) (a .i) (c .before .has-node .result) (c .before .has-node .ensures) (c .if1 .left) in
     Happens.happens _ p refl (Acts.rests _ z refl)
     (λ es h. lie-honest (a .s) (p .measures) (honestIn (a .liars)) es (a .memory .now) (a .post .now) (a .used) h (a .i) (a .c) (a .bytes .now) (a .room .now) (a .out .now) z)
 
@@ -71,7 +71,7 @@ lie-spec =
     ready-requires
     enum-known-x
     enum-told
-    lies-requires
+    has-node-requires
     to-client-requires
     starts-requires
     returns

@@ -3,8 +3,8 @@ use mathlib.Core.Path.{_≡_, sym, _∙_}
 use mathlib.Core.Bool.{true}
 use native.Mathlib.Omega.{arith}
 use borrow.Author.Tests.{not-true, not-false}
-use Rattle.protocol.specs.Measures.{passes}
-use Rattle.protocol.proofs.MeasureLaws.{passed}
+use Rattle.parties.specs.protocol.Measures.{passes}
+use Rattle.parties.proofs.protocol.formats.MeasureLaws.{passed}
 use Rattle.runs.specs.Happens.{Unready}
 use Rattle.runs.proofs.EventLaws.{needed-room, needed-fits, number-client, number-low, number-high}
 use Rattle.runs.proofs.event.ready.Statement.{statement}

@@ -3,7 +3,7 @@ use borrow.Author.Needs.{needs}
 use mathlib.Core.Path.{_≡_, refl, sym, _∙_}
 use mathlib.Core.Bool.{true}
 use borrow.Author.Tests.{not-true, not-false}
-use Rattle.protocol.specs.Measures.{passes}
+use Rattle.parties.specs.protocol.Measures.{passes}
 use native.Mathlib.Omega.{arith}
 use Rattle.runs.specs.Oldest.{honestAll, Oldest}
 use Rattle.runs.proofs.oldest.oldest.Statement.{statement}

@@ -1,6 +1,6 @@
 use native.Mathlib.Omega.{arith}
 use borrow.Author.Needs.{needs}
-use Rattle.client.specs.Answer.{answered}
+use Rattle.parties.specs.client.Answer.{answered}
 use Rattle.runs.proofs.PostLaws.{appended-more}
 use Rattle.runs.proofs.SendLaws.{call-room}
 use Rattle.runs.proofs.send.send.Statement.{statement}

@@ -3,6 +3,7 @@ use native.Mathlib.Omega.{arith}
 use lib.ListN.{length-take}
 use lib.Seq.{length-take-le}
 use borrow.Author.Needs.{needs}
+use Rattle.parties.proofs.records.NodesLaws.{has-is}
 use Rattle.runs.proofs.PostLaws.{appended-none}
 use Rattle.runs.proofs.SendLaws.{as-sent, stores-sent, request-sent, no-request, free-sent, no-message, parts-fit, area-small}
 use Rattle.runs.proofs.send.send_message.Statement.{statement}
@@ -53,9 +54,8 @@ append-requires c κs = let s = c .before .before .before .before .before .befor
 enum-known-a-2 : tie.Need-enum-known-a-2
 enum-known-a-2 c = search needs
 
-stands-requires : tie.Need-stands-requires
-stands-requires c κs =
-    let s = c .before .before .before .before .before .before in (omega arith, area-small (s .args .s) (s .pre .0) (s .args .i) (s .pre .2) .0)
+has-node-requires : tie.Need-has-node-requires
+has-node-requires c κs = search needs
 
 slice-aggregate-append-2 : tie.Need-slice-aggregate-append-2
 slice-aggregate-append-2 c = sym (length-take-le _ _ (c .before .before .before .before .before .before .before .least .ensures .2))
@@ -98,17 +98,19 @@ same-length-2 c = search needs
 
 returns-2 : tie.Need-returns-2
 returns-2 c =
-    let a = c .before .before .before .before .before .before .before .before .before .before .before .before .before .before .args in
+    let s = c .before .before .before .before .before .before .before .before .before .before .before .before .before .before in
+    let a = s .args in
     let x = c .before .before .before .before .before .before in
     as-sent
     (request-sent (a .s) (a .c) (a .i) (a .a) (a .room .now) _ _ _ _ (x .before .before .before .a2 .given .1) (c .before .before .before .before .before .before .before .before .before .before .before .least .ensures .0)
-    (x .before .stands .ensures) (x .if1 .taken))
+    (has-is _ (a .i) (s .pre .1) (area-small (a .s) (s .pre .0) (a .i) (s .pre .2) .0) _ (x .before .has-node .ensures)) (x .if1 .taken))
     (c .before .before .append2 .ensures)
 
 returns-3 : tie.Need-returns-3
 returns-3 c =
-    let a = c .before .before .before .before .before .before .before .before .args in
-    as-sent (no-request (a .s) (a .c) (a .i) (a .a) (a .room .now) _ _ _ (c .before .before .before .a2 .given .1) (c .before .stands .ensures) (c .if1 .left))
+    let s = c .before .before .before .before .before .before .before .before in
+    let a = s .args in
+    as-sent (no-request (a .s) (a .c) (a .i) (a .a) (a .room .now) _ _ _ (c .before .before .before .a2 .given .1) (has-is _ (a .i) (s .pre .1) (area-small (a .s) (s .pre .0) (a .i) (s .pre .2) .0) _ (c .before .has-node .ensures)) (c .if1 .left))
     (appended-none _ _ (omega arith))
 
 same-length-3 : tie.Need-same-length-3
@@ -143,7 +145,7 @@ send-message-spec =
     part-append-end
     append-requires
     enum-known-a-2
-    stands-requires
+    has-node-requires
     slice-aggregate-append-2
     slice-aggregate-append-3
     append-requires-2

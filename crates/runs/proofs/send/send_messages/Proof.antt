@@ -1,6 +1,6 @@
 use Prim.Native.Nat.{_-_, _≤_}
 use native.Mathlib.Omega.{arith}
-use Rattle.client.specs.Answer.{answered}
+use Rattle.parties.specs.client.Answer.{answered}
 use Rattle.runs.specs.Parcels.{Appended}
 use Rattle.runs.specs.Sent.{messagesBy}
 use Rattle.runs.proofs.SendLaws.{messages-none, messages-room, messages-more, messages-all}

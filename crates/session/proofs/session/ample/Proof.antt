@@ -1,108 +1,99 @@
 use borrow.Author.Needs.{needs}
-use mathlib.Core.Path.{ap}
-use Prim.Native.Nat.{ℕ, _-_, _*_, _+_, _≤_, _<_}
+use Prim.Native.Nat.{_-_, _*_, _+_, _≤_, _<_}
 use native.Mathlib.Omega.{arith}
-use Rattle.protocol.specs.ClientEvents.{roomSize}
-use Rattle.protocol.specs.DirectoryEvents.{directorySize}
-use Rattle.protocol.proofs.MeasureLaws.{passed}
-use Rattle.records.proofs.SizeLaws.{row-bound, table-bound}
+use Rattle.parties.specs.protocol.ClientEvents.{roomSize}
+use Rattle.parties.specs.protocol.DirectoryEvents.{directorySize}
+use Rattle.parties.proofs.protocol.formats.MeasureLaws.{passed}
+use Rattle.parties.proofs.SizesLaws.{sized-passed}
 use Rattle.runs.proofs.EventLaws.{needed-fits}
 use Rattle.session.proofs.LineLaws.{frame-bound, no-room, no-rows, no-output, no-page, no-text, huge-post, no-post, by-post}
 use Rattle.session.proofs.session.ample.Statement.{statement}
 use Rattle.session.proofs.session.ample.Tie as tie
 
-row-size-requires : tie.Need-row-size-requires
-row-size-requires c κs = search needs
+room-requires : tie.Need-room-requires
+room-requires c κs = search needs
+
+directory-requires : tie.Need-directory-requires
+directory-requires c κs = search needs
 
 wide : (c : tie.Else1) → let a = c .before .before .before .before .before .args in roomSize (a .s) ≤ a .l .room
-wide c = omega (arith, c .before .before .before .before .row-size .ensures)
+wide c = let x = c .before .before .before .before .before in omega (arith, c .before .before .before .before .room .ensures, sized-passed (x .args .s) (roomSize (x .args .s)) (x .pre))
 
-rows : (c : tie.Else2) → let a = c .before .before .before .before .before .before .before .before .args in directorySize (a .s) ≤ a .l .room
-rows c = let a = c .before .before .before .before .before .before .before .before .args in omega (arith, ap (λ (x : ℕ). a .s .m * x) (c .before .before .before .before .before .before .before .row-size .ensures))
+rows : (c : tie.Else2) → let a = c .before .before .before .before .before .before .before .args in directorySize (a .s) ≤ a .l .room
+rows c = let x = c .before .before .before .before .before .before .before in omega (arith, c .before .before .before .before .before .directory .ensures, sized-passed (x .args .s) (directorySize (x .args .s)) (x .pre))
 
-output : (c : tie.Else3) → let a = c .before .before .before .before .before .before .before .before .before .before .args in a .s .k * a .s .f - 4 ≤ a .l .out
+output : (c : tie.Else3) → let a = c .before .before .before .before .before .before .before .before .before .args in a .s .k * a .s .f - 4 ≤ a .l .out
 output c = omega arith
 
-page : (c : tie.Else4) → let a = c .before .before .before .before .before .before .before .before .before .before .before .before .args in a .s .k * a .s .f - 4 < a .l .page
+page : (c : tie.Else4) → let a = c .before .before .before .before .before .before .before .before .before .before .before .args in a .s .k * a .s .f - 4 < a .l .page
 page c = omega arith
 
-text : (c : tie.Else5) → let a = c .before .before .before .before .before .before .before .before .before .before .before .before .before .before .args in 2 * (a .s .k * a .s .f) + 32 ≤ a .l .text
+text : (c : tie.Else5) → let a = c .before .before .before .before .before .before .before .before .before .before .before .before .before .args in 2 * (a .s .k * a .s .f) + 32 ≤ a .l .text
 text c = omega arith
 
 mul-frame : tie.Need-mul-frame
-mul-frame c = omega (arith, frame-bound (c .before .before .args .s) (c .before .before .pre) .1)
-
-mul-if1 : tie.Need-mul-if1
-mul-if1 c = omega (arith, frame-bound (c .before .before .before .args .s) (c .before .before .before .pre) .2)
-
-add-if1 : tie.Need-add-if1
-add-if1 c = omega (arith, frame-bound (c .before .before .before .args .s) (c .before .before .before .pre) .2)
-
-add-if1-2 : tie.Need-add-if1-2
-add-if1-2 c = omega (arith, frame-bound (c .before .before .before .args .s) (c .before .before .before .pre) .2, row-bound (c .before .before .before .args .s) (c .before .before .before .pre), c .before .before .row-size .ensures)
+mul-frame c = omega (arith, frame-bound (c .before .before .before .args .s) (c .before .before .before .pre) .1)
 
 returns : tie.Need-returns
-returns c = let a = c .before .before .before .before .before .args in no-room (a .s) (a .l) (omega (arith, c .before .before .before .before .row-size .ensures))
-
-mul-if2 : tie.Need-mul-if2
-mul-if2 c = let a = c .before .before .before .before .before .before .args in omega (arith, table-bound (a .s) (c .before .before .before .before .before .before .pre), ap (λ (x : ℕ). a .s .m * x) (c .before .before .before .before .before .row-size .ensures))
+returns c =
+    let x = c .before .before .before .before .before in
+    no-room (x .args .s) (x .args .l) (omega (arith, c .before .before .before .before .room .ensures, sized-passed (x .args .s) (roomSize (x .args .s)) (x .pre)))
 
 returns-2 : tie.Need-returns-2
-returns-2 c = let a = c .before .before .before .before .before .before .before .before .args in no-rows (a .s) (a .l) (wide (c .before .before .before)) (omega (arith, ap (λ (x : ℕ). a .s .m * x) (c .before .before .before .before .before .before .before .row-size .ensures)))
+returns-2 c =
+    let x = c .before .before .before .before .before .before .before in
+    no-rows (x .args .s) (x .args .l) (wide (c .before .before)) (omega (arith, c .before .before .before .before .before .directory .ensures, sized-passed (x .args .s) (directorySize (x .args .s)) (x .pre)))
 
 sub-if3 : tie.Need-sub-if3
-sub-if3 c = omega (arith, frame-bound (c .before .before .before .before .before .before .before .before .args .s) (c .before .before .before .before .before .before .before .before .pre) .0)
+sub-if3 c = omega (arith, frame-bound (c .before .before .before .before .before .before .before .args .s) (c .before .before .before .before .before .before .before .pre) .0)
 
 returns-3 : tie.Need-returns-3
-returns-3 c = let a = c .before .before .before .before .before .before .before .before .before .before .args in no-output (a .s) (a .l) (wide (c .before .before .before .before .before)) (rows (c .before .before)) (omega arith)
+returns-3 c = let a = c .before .before .before .before .before .before .before .before .before .args in no-output (a .s) (a .l) (wide (c .before .before .before .before)) (rows (c .before .before)) (omega arith)
 
 sub-if4 : tie.Need-sub-if4
-sub-if4 c = omega (arith, frame-bound (c .before .before .before .before .before .before .before .before .before .before .args .s) (c .before .before .before .before .before .before .before .before .before .before .pre) .0)
+sub-if4 c = omega (arith, frame-bound (c .before .before .before .before .before .before .before .before .before .args .s) (c .before .before .before .before .before .before .before .before .before .pre) .0)
 
 returns-4 : tie.Need-returns-4
-returns-4 c = let a = c .before .before .before .before .before .before .before .before .before .before .before .before .args in no-page (a .s) (a .l) (wide (c .before .before .before .before .before .before .before)) (rows (c .before .before .before .before)) (output (c .before .before)) (omega arith)
+returns-4 c = let a = c .before .before .before .before .before .before .before .before .before .before .before .args in no-page (a .s) (a .l) (wide (c .before .before .before .before .before .before)) (rows (c .before .before .before .before)) (output (c .before .before)) (omega arith)
 
 mul-if5 : tie.Need-mul-if5
-mul-if5 c = omega (arith, frame-bound (c .before .before .before .before .before .before .before .before .before .before .before .before .args .s) (c .before .before .before .before .before .before .before .before .before .before .before .before .pre) .1)
+mul-if5 c = omega (arith, frame-bound (c .before .before .before .before .before .before .before .before .before .before .before .args .s) (c .before .before .before .before .before .before .before .before .before .before .before .pre) .1)
 
 add-if5 : tie.Need-add-if5
-add-if5 c = omega (arith, frame-bound (c .before .before .before .before .before .before .before .before .before .before .before .before .args .s) (c .before .before .before .before .before .before .before .before .before .before .before .before .pre) .1)
+add-if5 c = omega (arith, frame-bound (c .before .before .before .before .before .before .before .before .before .before .before .args .s) (c .before .before .before .before .before .before .before .before .before .before .before .pre) .1)
 
 returns-5 : tie.Need-returns-5
-returns-5 c = let a = c .before .before .before .before .before .before .before .before .before .before .before .before .before .before .args in no-text (a .s) (a .l) (wide (c .before .before .before .before .before .before .before .before .before)) (rows (c .before .before .before .before .before .before)) (output (c .before .before .before .before)) (page (c .before .before)) (omega arith)
+returns-5 c = let a = c .before .before .before .before .before .before .before .before .before .before .before .before .before .args in no-text (a .s) (a .l) (wide (c .before .before .before .before .before .before .before .before)) (rows (c .before .before .before .before .before .before)) (output (c .before .before .before .before)) (page (c .before .before)) (omega arith)
 
 returns-6 : tie.Need-returns-6
-returns-6 c = let a = c .before .before .before .before .before .before .before .before .before .before .before .before .before .before .before .before .args in huge-post (a .s) (a .l) (wide (c .before .before .before .before .before .before .before .before .before .before .before)) (rows (c .before .before .before .before .before .before .before .before)) (output (c .before .before .before .before .before .before)) (page (c .before .before .before .before)) (text (c .before .before)) (omega arith)
+returns-6 c = let a = c .before .before .before .before .before .before .before .before .before .before .before .before .before .before .before .args in huge-post (a .s) (a .l) (wide (c .before .before .before .before .before .before .before .before .before .before)) (rows (c .before .before .before .before .before .before .before .before)) (output (c .before .before .before .before .before .before)) (page (c .before .before .before .before)) (text (c .before .before)) (omega arith)
 
 returns-7 : tie.Need-returns-7
-returns-7 c = let a = c .before .before .before .before .before .before .before .before .before .before .before .before .before .before .before .before .before .before .args in no-post (a .s) (a .l) (wide (c .before .before .before .before .before .before .before .before .before .before .before .before .before)) (rows (c .before .before .before .before .before .before .before .before .before .before)) (output (c .before .before .before .before .before .before .before .before)) (page (c .before .before .before .before .before .before)) (text (c .before .before .before .before)) (omega arith) (omega arith)
+returns-7 c = let a = c .before .before .before .before .before .before .before .before .before .before .before .before .before .before .before .before .before .args in no-post (a .s) (a .l) (wide (c .before .before .before .before .before .before .before .before .before .before .before .before)) (rows (c .before .before .before .before .before .before .before .before .before .before)) (output (c .before .before .before .before .before .before .before .before)) (page (c .before .before .before .before .before .before)) (text (c .before .before .before .before)) (omega arith) (omega arith)
 
 add-result : tie.Need-add-result
-add-result c = omega (arith, passed (c .before .before .before .before .before .before .before .before .before .before .before .before .before .before .before .before .before .before .before .args .s) (c .before .before .before .before .before .before .before .before .before .before .before .before .before .before .before .before .before .before .before .pre) .nodes .1)
+add-result c = omega (arith, passed (c .before .before .before .before .before .before .before .before .before .before .before .before .before .before .before .before .before .before .args .s) (c .before .before .before .before .before .before .before .before .before .before .before .before .before .before .before .before .before .before .pre) .nodes .1)
 
 add-result-2 : tie.Need-add-result-2
 add-result-2 c = search needs
 
 mul-result : tie.Need-mul-result
-mul-result c = let a = c .before .before .before .before .before .before .before .before .before .before .before .before .before .before .before .before .before .before .before .before .args in omega (arith, needed-fits (a .s) (a .l .room) (c .before .before .before .before .before .before .before .before .before .before .before .before .before .before .before .before .before .before .before .before .pre) (omega arith))
+mul-result c = let a = c .before .before .before .before .before .before .before .before .before .before .before .before .before .before .before .before .before .before .before .args in omega (arith, needed-fits (a .s) (a .l .room) (c .before .before .before .before .before .before .before .before .before .before .before .before .before .before .before .before .before .before .before .pre) (omega arith))
 
 mul-result-2 : tie.Need-mul-result-2
-mul-result-2 c = let a = c .before .before .before .before .before .before .before .before .before .before .before .before .before .before .before .before .before .before .before .before .args in omega (arith, needed-fits (a .s) (a .l .room) (c .before .before .before .before .before .before .before .before .before .before .before .before .before .before .before .before .before .before .before .before .pre) (omega arith))
+mul-result-2 c = let a = c .before .before .before .before .before .before .before .before .before .before .before .before .before .before .before .before .before .before .before .args in omega (arith, needed-fits (a .s) (a .l .room) (c .before .before .before .before .before .before .before .before .before .before .before .before .before .before .before .before .before .before .before .pre) (omega arith))
 
 returns-8 : tie.Need-returns-8
-returns-8 c = let a = c .before .before .before .before .before .before .before .before .before .before .before .before .before .before .before .before .before .before .before .before .before .args in by-post (a .s) (a .l) (wide (c .before .before .before .before .before .before .before .before .before .before .before .before .before .before .before .before)) (rows (c .before .before .before .before .before .before .before .before .before .before .before .before .before)) (output (c .before .before .before .before .before .before .before .before .before .before .before)) (page (c .before .before .before .before .before .before .before .before .before)) (text (c .before .before .before .before .before .before .before)) (omega arith)
+returns-8 c = let a = c .before .before .before .before .before .before .before .before .before .before .before .before .before .before .before .before .before .before .before .before .args in by-post (a .s) (a .l) (wide (c .before .before .before .before .before .before .before .before .before .before .before .before .before .before .before)) (rows (c .before .before .before .before .before .before .before .before .before .before .before .before .before)) (output (c .before .before .before .before .before .before .before .before .before .before .before)) (page (c .before .before .before .before .before .before .before .before .before)) (text (c .before .before .before .before .before .before .before)) (omega arith)
 
 pub ample-spec : {M : Type 1} → statement M
 ample-spec =
     tie.close
     (tie.spec
-    row-size-requires
+    room-requires
+    directory-requires
     mul-frame
-    mul-if1
-    add-if1
-    add-if1-2
     returns
-    mul-if2
     returns-2
     sub-if3
     returns-3

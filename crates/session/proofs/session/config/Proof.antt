@@ -3,7 +3,7 @@ use mathlib.Core.Bool.{true}
 use native.Mathlib.Omega.{arith}
 use borrow.Author.Tests.{not-false, not-true}
 use borrow.Author.Needs.{needs}
-use Rattle.protocol.specs.Measures.{passes}
+use Rattle.parties.specs.protocol.Measures.{passes}
 use Rattle.session.specs.Session.{small, ample}
 use Rattle.session.proofs.LineLaws.{opens-measures, opens-big, opens-scarce, opens-short, opens-taken, replied}
 use Rattle.session.proofs.SessionLaws.{fresh-runs}

@@ -2,8 +2,8 @@ use borrow.Author.Needs.{needs}
 use mathlib.Core.Path.{_∙_}
 use native.Mathlib.Omega.{arith}
 use lib.ListN.{length}
-use Rattle.protocol.specs.DirectoryEvents.{directorySize}
-use Rattle.records.specs.Answer.{number}
+use Rattle.parties.specs.protocol.DirectoryEvents.{directorySize}
+use Rattle.parties.specs.records.Answer.{number}
 use Rattle.title.specs.Part.{Stands}
 use Rattle.title.proofs.MemoryLaws.{placed-within, placed-refused}
 use Rattle.title.proofs.FreshMemoryLaws.{fresh-refused, tables-fit, records-fit, fresh-written}

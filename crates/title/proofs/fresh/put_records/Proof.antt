@@ -2,8 +2,8 @@ use mathlib.Core.Path.{sym, ap, _∙_}
 use Prim.Native.Nat.{ℕ, _+_, _-_, _*_, _≤_}
 use native.Mathlib.Omega.{arith}
 use lib.ListN.{length}
-use Rattle.protocol.specs.Client.{writeClient, freshClient}
-use Rattle.protocol.proofs.FreshTableLaws.{client-long}
+use Rattle.parties.specs.protocol.Client.{writeClient, freshClient}
+use Rattle.parties.proofs.protocol.events.FreshTableLaws.{client-long}
 use Rattle.title.proofs.FreshMemoryLaws.{Filled, filled-none, filled-next, filled-more, filled-all}
 use Rattle.title.proofs.fresh.put_records.Statement.{statement}
 use Rattle.title.proofs.fresh.put_records.Tie as tie

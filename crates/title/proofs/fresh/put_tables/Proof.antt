@@ -3,8 +3,8 @@ use mathlib.Core.List.{[]}
 use Prim.Native.Nat.{ℕ, _+_, _-_, _*_, _≤_}
 use native.Mathlib.Omega.{arith}
 use lib.ListN.{length}
-use Rattle.protocol.specs.NodeTable.{writeTable}
-use Rattle.protocol.proofs.FreshTableLaws.{table-long}
+use Rattle.parties.specs.protocol.NodeTable.{writeTable}
+use Rattle.parties.proofs.protocol.events.FreshTableLaws.{table-long}
 use Rattle.title.proofs.FreshMemoryLaws.{Filled, filled-none, filled-next, filled-more, filled-all}
 use Rattle.title.proofs.fresh.put_tables.Statement.{statement}
 use Rattle.title.proofs.fresh.put_tables.Tie as tie

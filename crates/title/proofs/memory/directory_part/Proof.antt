@@ -3,8 +3,8 @@ use mathlib.Core.Path.{_≡_, refl, sym, _∙_}
 use mathlib.Core.Bool.{true}
 use native.Mathlib.Omega.{arith}
 use borrow.Author.Tests.{not-true, not-false}
-use Rattle.protocol.specs.Measures.{passes}
-use Rattle.protocol.specs.DirectoryEvents.{directorySize}
+use Rattle.parties.specs.protocol.Measures.{passes}
+use Rattle.parties.specs.protocol.DirectoryEvents.{directorySize}
 use Rattle.title.specs.Part.{measures, short}
 use Rattle.title.proofs.MemoryLaws.{stands}
 use Rattle.title.proofs.memory.directory_part.Statement.{statement}

@@ -4,8 +4,8 @@ use mathlib.Core.Bool.{true}
 use Prim.Native.Nat.{_+_}
 use native.Mathlib.Omega.{arith}
 use borrow.Author.Tests.{not-true, not-false}
-use Rattle.protocol.specs.Measures.{passes}
-use Rattle.protocol.specs.Client.{clientSize}
+use Rattle.parties.specs.protocol.Measures.{passes}
+use Rattle.parties.specs.protocol.Client.{clientSize}
 use Rattle.title.specs.Memory.{recordAt}
 use Rattle.title.specs.Part.{measures, short}
 use Rattle.title.proofs.MemoryLaws.{memory-bound, record-within, stands}

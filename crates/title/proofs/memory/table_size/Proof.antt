@@ -1,27 +1,15 @@
 use borrow.Author.Needs.{needs}
-use native.Mathlib.Omega.{arith}
-use Rattle.parties.proofs.NodeSizeLaws.{sizes}
+use mathlib.Core.Path.{_∙_}
+use Rattle.parties.specs.protocol.NodeEvents.{tableSize}
+use Rattle.parties.proofs.SizesLaws.{sized-passed}
 use Rattle.title.proofs.memory.table_size.Statement.{statement}
 use Rattle.title.proofs.memory.table_size.Tie as tie
 
-mul-result : tie.Need-mul-result
-mul-result c = let z = sizes (c .before .args .s) (c .before .pre) in omega (arith, z .squares)
-
-mul-result-2 : tie.Need-mul-result-2
-mul-result-2 c = let z = sizes (c .before .args .s) (c .before .pre) in omega (arith, z .squares)
-
-add-result : tie.Need-add-result
-add-result c = let z = sizes (c .before .before .args .s) (c .before .before .pre) in omega (arith, z .place)
-
-mul-result-3 : tie.Need-mul-result-3
-mul-result-3 c = let z = sizes (c .before .before .args .s) (c .before .before .pre) in omega (arith, z .table)
-
-add-result-2 : tie.Need-add-result-2
-add-result-2 c = let z = sizes (c .before .before .args .s) (c .before .before .pre) in omega (arith, z .table)
+table-requires : tie.Need-table-requires
+table-requires c κs = search needs
 
 returns : tie.Need-returns
-returns c = search needs
+returns c = let s = c .before .args .s in c .table .ensures ∙ sized-passed s (tableSize s) (c .before .pre)
 
 pub table-size-spec : {M : Type 1} → statement M
-table-size-spec =
-    tie.close (tie.spec mul-result mul-result-2 add-result mul-result-3 add-result-2 returns)
+table-size-spec = tie.close (tie.spec table-requires returns)

@@ -1,10 +1,10 @@
 use borrow.Author.Needs.{needs}
 use mathlib.Core.List.{[]}
 use lib.ListN.{length}
-use Rattle.protocol.specs.Client.{clientSize}
-use Rattle.protocol.specs.ClientEvents.{startReading}
-use Rattle.protocol.proofs.LacksLaws.{reading-lacks}
-use Rattle.records.specs.Answer.{number}
+use Rattle.parties.specs.protocol.Client.{clientSize}
+use Rattle.parties.specs.protocol.ClientEvents.{startReading}
+use Rattle.parties.proofs.protocol.events.LacksLaws.{reading-lacks}
+use Rattle.parties.specs.records.Answer.{number}
 use Rattle.title.specs.Memory.{recordAt}
 use Rattle.title.specs.Part.{Stands}
 use Rattle.title.proofs.MemoryLaws.{placed-within, placed-refused, part-order}

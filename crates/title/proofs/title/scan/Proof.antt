@@ -1,7 +1,7 @@
 use borrow.Author.Needs.{needs}
 use lib.ListN.{length}
-use Rattle.protocol.specs.DirectoryEvents.{directorySize, directoryScan}
-use Rattle.records.specs.Answer.{number}
+use Rattle.parties.specs.protocol.DirectoryEvents.{directorySize, directoryScan}
+use Rattle.parties.specs.records.Answer.{number}
 use Rattle.title.specs.Part.{Stands}
 use Rattle.title.proofs.MemoryLaws.{placed-within, placed-refused, part-order}
 use Rattle.title.proofs.TablePartLaws.{scan-refused, directory-scanned}

@@ -1,9 +1,9 @@
 use borrow.Author.Needs.{needs}
 use lib.ListN.{length}
-use Rattle.protocol.specs.Client.{clientSize}
-use Rattle.protocol.specs.ClientEvents.{clientMessage}
-use Rattle.protocol.proofs.LacksLaws.{message-lacks}
-use Rattle.records.specs.Answer.{number}
+use Rattle.parties.specs.protocol.Client.{clientSize}
+use Rattle.parties.specs.protocol.ClientEvents.{clientMessage}
+use Rattle.parties.proofs.protocol.events.LacksLaws.{message-lacks}
+use Rattle.parties.specs.records.Answer.{number}
 use Rattle.title.specs.Memory.{recordAt}
 use Rattle.title.specs.Part.{Stands}
 use Rattle.title.proofs.MemoryLaws.{placed-within, placed-refused, part-order}

@@ -1,7 +1,7 @@
 use borrow.Author.Needs.{needs}
 use lib.ListN.{length}
-use Rattle.protocol.specs.NodeEvents.{tableSize, nodeMessage}
-use Rattle.records.specs.Answer.{number}
+use Rattle.parties.specs.protocol.NodeEvents.{tableSize, nodeMessage}
+use Rattle.parties.specs.records.Answer.{number}
 use Rattle.title.specs.Memory.{tableAt}
 use Rattle.title.specs.Part.{Stands}
 use Rattle.title.proofs.MemoryLaws.{placed-within, placed-refused, part-order}

@@ -1,2 +1,0 @@
-pub mod BriefLaws
-pub mod RecordLaws

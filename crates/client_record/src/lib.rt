@@ -1,2 +1,0 @@
-pub mod event;
-mod phase;

@@ -1,0 +1,10 @@
+pub mod TableLaws
+pub mod SeekLaws
+pub mod ToNodeLaws
+pub mod ShownLaws
+pub mod KeepLaws
+pub mod FreshLaws
+pub mod SizeLaws
+pub mod EndLaws
+pub mod DropLaws
+pub mod FreeingLaws

@@ -1,0 +1,4 @@
+pub mod EdgeCases
+pub mod ClaimHolds
+pub mod Demand
+pub mod ExampleRun

@@ -1,0 +1,128 @@
+-- The worked run is as it is written down: one computation of its events by the definitions on bytes.
+use mathlib.Core.Path.{_≡_, refl, ap, ap₂, sym, _∙_}
+use mathlib.Core.Bool.{Bool, true, _&&_}
+use mathlib.Core.List.{List, [], _∷_}
+use Prim.Native.Nat.{ℕ}
+use native.Mathlib.Omega.{arith}
+use borrow.Author.Tests.{ltb-true}
+use lib.Dec.{ltb}
+use Rattle.coding.specs.Bytes.{Bytes, tabulate}
+use Rattle.coding.specs.Digest.{digestInput, pieceDigest}
+use Rattle.coding.specs.Field.{polyProduct, polyRemainder, product, power, inverse, sum}
+use Rattle.coding.specs.Join.{joined, pageOf, join}
+use Rattle.coding.specs.Nodes.{all as allOf, nodesOf, sound, firstLength}
+use Rattle.coding.specs.Pieces.{proper, columns, frame, pieceByte, piece}
+use Rattle.coding.specs.Polynomial.{value, plus, times, rootsAt, interpolate}
+use Rattle.coding.specs.Sha256.{K, bytes, padded, words, H₀, extended, schedule, turned, round, rounds, added, compress, hash, joined as digestJoined, sha256}
+use Rattle.coding.specs.Split.{written as splitWritten, split}
+use Rattle.coding.proofs.BytesLaws.{bytes-cons}
+use Rattle.coding.proofs.Cases.{and-true}
+use Rattle.parties.specs.declared.Measures.{Measures}
+use Rattle.parties.specs.protocol.Format.{readNumber, writeNumber, readMany, writeMany, readEach, readBytes, readZeros, readArea, writeArea}
+use Rattle.parties.specs.protocol.Measures.{passes}
+use Rattle.parties.specs.protocol.Version.{ascending}
+use Rattle.parties.specs.protocol.Nodes.{stands, withNode}
+use Rattle.parties.specs.protocol.Pointer.{readVersion, writeVersion, properPointer, readNamed, writeNamed, readPointer, writePointer}
+use Rattle.parties.specs.protocol.Directory.{readIndex, writeIndex, readContent, writeContent, readFields, writeFields, mapOf, readRecord, writeRecord, readRow, readDirectory, writeDirectory, merge, updateRow}
+use Rattle.parties.specs.protocol.NodeTable.{readPiece, writePiece, readHeld, writeHeld, readPlaces, writePlaces, readTable, writeTable}
+use Rattle.parties.specs.protocol.Node.{keep, handBack, listed, release}
+use Rattle.parties.specs.protocol.Message.{readProper, readVersions, readToNode, writeToNode, readToClient, writeToClient}
+use Rattle.parties.specs.protocol.Client.{readPage, writePage, readSome, readStores, writeStores, readPieces, writePieces, readFetches, writeFetches, readWork, writeWork, readReserved, readRetained, writeRetained, readClient, writeClient}
+use Rattle.parties.specs.protocol.Deposit.{highest, digestsOf, pointerOf, noticed, frozenAfter, replaced, insert, freeList}
+use Rattle.parties.specs.protocol.Reading.{pick, sameBytes, digestAt, matches}
+use Rattle.parties.specs.protocol.ClientEvents.{beginDeposit, beginReading, startDeposit, startReading, updateAnswer, scanAnswer, clientMessage}
+use Rattle.parties.specs.protocol.DirectoryEvents.{directoryUpdate, directoryScan}
+use Rattle.parties.specs.protocol.NodeEvents.{nodeMessage}
+use Rattle.parties.specs.protocol.Run.{Event, deposit, reading, carry, hand, bring, deliver, lie, Answered, State, fresh, carryOut, run}
+use Rattle.parties.specs.protocol.Claim.{Lent, AllLent}
+use Rattle.parties.specs.protocol.Example.{measures, honest, script, events, answers, Ending, ending, expected, Worked}
+use Rattle.parties.proofs.protocol.formats.BytesWritten.{bytes-nil}
+
+-- ---- answers and state at once, so that each event is computed once
+
+unfoldable play : Measures → (ℕ → Bool) → List Event → State → List Answered × State
+play s honest [] st = ([], st)
+play s honest (e ∷ es) st =
+    let r = carryOut s honest e st in
+    let q = play s honest es (r .state) in (r .answer ∷ q .0, q .1)
+
+play-answers : (s : Measures) (honest : ℕ → Bool) (es : List Event) (st : State) → play s honest es st .0 ≡ answers s honest es st
+unfolding play answers
+play-answers s honest [] st = refl
+play-answers s honest (e ∷ es) st =
+    ap (λ l. carryOut s honest e st .answer ∷ l) (play-answers s honest es (carryOut s honest e st .state))
+
+play-run : (s : Measures) (honest : ℕ → Bool) (es : List Event) (st : State) → play s honest es st .1 ≡ run s honest es st
+unfolding play run
+play-run s honest [] st = refl
+play-run s honest (e ∷ es) st = play-run s honest es (carryOut s honest e st .state)
+
+abbrev endOf : List Answered × State → Ending
+endOf (l, st) = ending l st
+
+played : endOf (play measures honest events (fresh measures)) ≡ expected
+unfolding expected play tabulate digestInput pieceDigest polyProduct polyRemainder product power inverse sum joined pageOf join allOf nodesOf sound
+    firstLength proper columns frame pieceByte piece value plus times rootsAt interpolate K bytes padded words H₀ extended schedule turned round
+    rounds added compress hash digestJoined sha256 splitWritten split readNumber writeNumber readMany writeMany readEach readBytes readZeros readArea
+    writeArea passes ascending stands withNode readVersion writeVersion properPointer readNamed writeNamed readPointer writePointer readIndex
+    writeIndex readContent writeContent readFields writeFields mapOf readRecord writeRecord readRow readDirectory writeDirectory merge updateRow
+    readPiece writePiece readHeld writeHeld readPlaces writePlaces readTable writeTable keep handBack listed release readProper readVersions
+    readToNode writeToNode readToClient writeToClient readPage writePage readSome readStores writeStores readPieces writePieces readFetches
+    writeFetches readWork writeWork readReserved readRetained writeRetained readClient writeClient highest digestsOf pointerOf noticed frozenAfter
+    replaced insert freeList pick sameBytes digestAt matches beginDeposit beginReading startDeposit startReading updateAnswer scanAnswer clientMessage
+    directoryUpdate directoryScan nodeMessage carryOut
+played = refl
+
+-- ---- lent memory has bytes in it: a test that antt computes
+
+bytesIn : List ℕ → Bool
+bytesIn l = allOf (λ b. ltb b 256) l
+
+bytes-in : (l : List ℕ) → bytesIn l ≡ true → Bytes l
+unfolding bytesIn allOf
+bytes-in [] e = bytes-nil
+bytes-in (x ∷ l) e = let t = and-true (ltb x 256) _ e in bytes-cons x l (ltb-true x 256 (t .0)) (bytes-in l (t .1))
+
+abbrev lentTo : Event → Bool
+lentTo (deposit c bytes) = bytesIn bytes
+lentTo (reading c room) = bytesIn room
+lentTo (carry c room) = bytesIn room
+lentTo (hand c room) = bytesIn room
+lentTo (bring c i room) = bytesIn room
+lentTo (deliver i c room out) = bytesIn room && bytesIn out
+lentTo (lie i c bytes room out) = bytesIn bytes && (bytesIn room && bytesIn out)
+
+lent-to : (e : Event) → lentTo e ≡ true → Lent e
+lent-to (deposit c bytes) e = bytes-in bytes e
+lent-to (reading c room) e = bytes-in room e
+lent-to (carry c room) e = bytes-in room e
+lent-to (hand c room) e = bytes-in room e
+lent-to (bring c i room) e = bytes-in room e
+lent-to (deliver i c room out) e = let t = and-true (bytesIn room) _ e in (bytes-in room (t .0), bytes-in out (t .1))
+lent-to (lie i c bytes room out) e =
+    let t = and-true (bytesIn bytes) _ e in
+    let u = and-true (bytesIn room) _ (t .1) in (bytes-in bytes (t .0), bytes-in room (u .0), bytes-in out (u .1))
+
+allLentTo : List Event → Bool
+allLentTo [] = true
+allLentTo (e ∷ es) = lentTo e && allLentTo es
+
+all-lent : (es : List Event) → allLentTo es ≡ true → AllLent es
+unfolding allLentTo
+all-lent [] t = tt
+all-lent (e ∷ es) t = let u = and-true (lentTo e) _ t in (lent-to e (u .0), all-lent es (u .1))
+
+lent-here : allLentTo events ≡ true
+unfolding allLentTo bytesIn allOf script writeToClient writeVersion writeNumber
+lent-here = refl
+
+-- ---- the theorem
+
+pub worked : Worked
+worked =
+    record {
+      ends =
+          ap₂ ending (sym (play-answers measures honest events (fresh measures))) (sym (play-run measures honest events (fresh measures))) ∙ played;
+      few = omega arith;
+      lent = all-lent events lent-here;
+    }

@@ -1,0 +1,14 @@
+pub mod NodeLaws
+pub mod RunLaws
+pub mod DepositLaws
+pub mod FreeLaws
+pub mod FreeListLaws
+pub mod RefusalLaws
+pub mod TableRefusalLaws
+pub mod LacksLaws
+pub mod DepositStartLaws
+pub mod FreshTableLaws
+pub mod PickLaws
+pub mod ReplyLaws
+pub mod HandLaws
+pub mod EventShows

@@ -1,0 +1,12 @@
+pub mod FormatLaws
+pub mod EachLaws
+pub mod MeasureLaws
+pub mod VersionLaws
+pub mod PointerLaws
+pub mod DirectoryLaws
+pub mod RowLaws
+pub mod NodeTableLaws
+pub mod NodeMapLaws
+pub mod MessageLaws
+pub mod ClientLaws
+pub mod BytesWritten

@@ -1,0 +1,16 @@
+pub mod Invariants
+pub mod Chronicle
+pub mod DrawLaws
+pub mod StockLaws
+pub mod RecordingLaws
+pub mod LaggingKept
+pub mod OwnedKept
+pub mod DrawingKept
+pub mod RetainingKept
+pub mod StockingKept
+pub mod ArrivingKept
+pub mod FetchingKept
+pub mod OrderingKept
+pub mod PuttingKept
+pub mod RecordingKept
+pub mod Invariant

@@ -1,0 +1,10 @@
+pub mod Cells
+pub mod Model
+pub mod VersionNumbers
+pub mod MemberLaws
+pub mod PastLaws
+pub mod Growth
+pub mod HistoryLaws
+pub mod QueueLaws
+pub mod PlaysLaws
+pub mod MarkLaws

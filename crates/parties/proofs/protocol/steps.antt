@@ -1,0 +1,11 @@
+pub mod View
+pub mod ViewLaws
+pub mod GoodLaws
+pub mod FreshShows
+pub mod StartShows
+pub mod CarryShows
+pub mod DrawShows
+pub mod ScanShows
+pub mod HandShows
+pub mod BringShows
+pub mod DeliverShows

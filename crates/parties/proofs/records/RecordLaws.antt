@@ -1,0 +1,315 @@
+-- What is left after pointers, directory records and rows.
+use mathlib.Core.Path.{_≡_, refl, ap, subst, _∙_}
+use mathlib.Core.Bool.{Bool, true, false, cond, _||_}
+use mathlib.Core.List.{List, [], _∷_}
+use mathlib.Core.Option.{Option, some, none}
+use Prim.Native.Nat.{ℕ, suc, _+_, _-_, _*_, _/_, _%_, _<_, _≤_}
+use native.Mathlib.Omega.{arith}
+use borrow.Author.Tests.{eq-eqb, ne-eqb, ltb-true, lt-ltb, le-ltb}
+use lib.Dec.{eqb, ltb}
+use lib.ListN.{length, take, drop, getD, length-append, length-drop}
+use lib.Seq.{drop-drop, getD-drop, drop-cons}
+use Rattle.coding.specs.Nodes.{all}
+use Rattle.coding.specs.Bytes.{Bytes}
+use Rattle.parties.specs.declared.Measures.{Measures}
+use Rattle.parties.specs.protocol.Format.{Read, Reader, bind, check, both, given, mapped, chain, whole}
+use Rattle.parties.specs.protocol.Format.{readNumber, writeNumber, readMany, writeMany, readBytes, readZeros}
+use Rattle.parties.specs.protocol.Measures.{rowSize}
+use Rattle.parties.specs.protocol.Nodes.{count}
+use Rattle.parties.specs.protocol.Pointer.{Pointer, properPointer, readVersion, writeVersion, readNamed, writeNamed, readPointer, writePointer}
+use Rattle.parties.specs.protocol.Directory.{Field, pointers, indices, Content, fields, readIndex, readContent, readFields}
+use Rattle.parties.specs.protocol.Directory.{mapOf, readRecord, writeRecord, Row, asRow, writeRow, readRow}
+use Rattle.parties.proofs.protocol.formats.PointerLaws.{format-pointer, length-number, length-version}
+use Rattle.parties.proofs.protocol.formats.DirectoryLaws.{format-record}
+use Rattle.parties.proofs.protocol.formats.RowLaws.{GoodRow, format-row-fields, row-fits}
+use Rattle.parties.specs.declared.records.form.Ends.{Ends}
+use Rattle.parties.specs.declared.records.form.Parts.{Parts}
+use Rattle.parties.specs.records.Form.{rest, properNumbers, after, Ended, Parted}
+use Rattle.parties.proofs.records.FormLaws.{left-read, none-read, rest-check, none-either, rest-make, rest-mapped, rest-both, rest-zeros, rest-area, none-area, Fixed, fixed-fits, fixed-short, fixed-bytes, fixed-number, fixed-mapped, fixed-many}
+
+pub bytes-drop : (at : ℕ) (t : List ℕ) → Bytes t → Bytes (drop at t)
+bytes-drop at t b i = rw (getD-drop at t i 0) (b (at + i))
+
+-- ---- a pointer
+
+pub or-nothing : (b : Bool) → b ≡ (b || false)
+or-nothing true = refl
+or-nothing false = refl
+
+pub pointer-short : (s : Measures) (u : List ℕ) → Bytes u → length u < 7 → rest (readPointer s u) ≡ none
+unfolding writePointer writeNamed
+pointer-short s u b h = go (readPointer s u) refl
+  where
+    go : (o : Option (Read Pointer)) → readPointer s u ≡ o → rest o ≡ none
+    go none e = refl
+    go (some r) e =
+        let x = format-pointer s .only u r b e in
+        let p = r .value in
+        absurd
+        (omega (
+          arith,
+          ap length (x .1),
+          length-append (writePointer p) (r .rest),
+          length-append (writeVersion (p .version)) (writeNamed (p .named)),
+          length-version (p .version),
+          length-append (writeNumber 2 (p .named .nodes)) (writeMany (λ d. d) (p .named .digests)),
+          length-number 2 (p .named .nodes),
+        ))
+
+-- one that has its seven bytes: the test goes by them, and the digests follow
+module _ (s : Measures) (u v w x : List ℕ) (q c map : ℕ)
+    (sequence : readNumber 4 u ≡ some (record { value = q; rest = v }))
+    (client : readNumber 1 v ≡ some (record { value = c; rest = w }))
+    (nodes : readNumber 2 w ≡ some (record { value = map; rest = x })) where
+  pub rest-pointer : rest (readPointer s u) ≡ cond (properNumbers s q c map) (rest (readMany (readBytes 32) (count map) x)) none
+  unfolding readPointer readVersion readNamed properPointer
+  rest-pointer = rw sequence (rw client (rw nodes (go (readMany (readBytes 32) (count map) x))))
+    where
+      go : (o : Option (Read (List (List ℕ))))
+          → rest (bind (bind (bind o (λ l u. some (record { value = record { nodes = map; digests = l }; rest = u })))
+          (λ n u. some (record { value = record { version = record { sequence = record { 0 = q }; client = c }; named = n }; rest = u })))
+          (λ p t. check (properPointer s p) p t)) ≡ cond (properNumbers s q c map) (rest o) none
+      go none = none-either (properNumbers s q c map)
+      go (some r) = rest-check (properNumbers s q c map) _ (r .rest)
+
+-- one byte
+pub number-one : (b : ℕ) (u : List ℕ) → readNumber 1 (b ∷ u) ≡ some (record { value = b; rest = u })
+unfolding readNumber
+number-one b u = let e : 0 * 256 + b ≡ b = omega arith in ap (λ (x : ℕ). some (record { value = x; rest = u })) e
+
+-- at a place of t
+module _ (s : Measures) (t : List ℕ) (at q map : ℕ) (room : 7 ≤ length t - at)
+    (sequence : readNumber 4 (drop at t) ≡ some (record { value = q; rest = drop (at + 4) t }))
+    (nodes : readNumber 2 (drop (at + 5) t) ≡ some (record { value = map; rest = drop (at + 5 + 2) t })) where
+  pointer-at : rest (readPointer s (drop at t))
+      ≡ cond (properNumbers s q (getD t (at + 4) 0) map) (rest (readMany (readBytes 32) (count map) (drop (at + 5 + 2) t))) none
+  pointer-at =
+      rest-pointer s (drop at t) (drop (at + 4) t) (drop (at + 5) t) (drop (at + 5 + 2) t) q (getD t (at + 4) 0) map sequence
+      (let e : suc (at + 4) ≡ at + 5 = omega arith in rw (drop-cons t (at + 4) 0 (omega arith)) (rw e (number-one (getD t (at + 4) 0) (drop (at + 5) t)))) nodes
+
+  digests : Fixed (count map * 32) (readMany (readBytes 32) (count map))
+  digests = fixed-many 32 (readBytes 32) (fixed-bytes 32) (count map)
+
+  pub pointer-improper : properNumbers s q (getD t (at + 4) 0) map ≡ false → rest (readPointer s (drop at t)) ≡ none
+  pointer-improper p = pointer-at ∙ ap (λ (b : Bool). cond b (rest (readMany (readBytes 32) (count map) (drop (at + 5 + 2) t))) none) p
+
+  pub pointer-long : properNumbers s q (getD t (at + 4) 0) map ≡ true → length t - at < 7 + 32 * count map → rest (readPointer s (drop at t)) ≡ none
+  pointer-long p h =
+      pointer-at ∙ ap (λ (b : Bool). cond b (rest (readMany (readBytes 32) (count map) (drop (at + 5 + 2) t))) none) p
+      ∙ fixed-short (count map * 32) (readMany (readBytes 32) (count map)) digests (drop (at + 5 + 2) t) (omega (arith, length-drop (at + 5 + 2) t))
+
+  pub pointer-sound : properNumbers s q (getD t (at + 4) 0) map ≡ true → 7 + 32 * count map ≤ length t - at
+      → rest (readPointer s (drop at t)) ≡ some (drop (at + (7 + 32 * count map)) t)
+  pointer-sound p h =
+      let e : at + 5 + 2 + count map * 32 ≡ at + (7 + 32 * count map) = omega arith in
+      pointer-at ∙ ap (λ (b : Bool). cond b (rest (readMany (readBytes 32) (count map) (drop (at + 5 + 2) t))) none) p
+      ∙ fixed-fits (count map * 32) (readMany (readBytes 32) (count map)) digests (drop (at + 5 + 2) t) (omega (arith, length-drop (at + 5 + 2) t))
+      ∙ ap some (drop-drop (count map * 32) (at + 5 + 2) t ∙ ap (λ (k : ℕ). drop k t) e)
+
+-- ---- fields
+
+pub rest-pointers : (s : Measures) (n : ℕ) (u : List ℕ) → rest (readContent s (pointers n) u) ≡ rest (readMany (readPointer s) n u)
+unfolding readContent
+rest-pointers s n u = rest-mapped Content.pointersOf (readMany (readPointer s) n) u
+
+pub indices-fixed : (n : ℕ) → Fixed (n * 4) (readMany readIndex n)
+unfolding readIndex
+indices-fixed n = fixed-many 4 readIndex (fixed-mapped 4 (λ n. record { 0 = n }) (readNumber 4) (fixed-number 4)) n
+
+pub fixed-indices : (s : Measures) (n : ℕ) → Fixed (n * 4) (readContent s (indices n))
+unfolding readContent
+fixed-indices s n = fixed-mapped (n * 4) Content.indicesOf (readMany readIndex n) (indices-fixed n)
+
+pub rest-fields : (s : Measures) (f : Field) (fs : List Field) (map : ℕ) (u : List ℕ)
+    → rest (readFields s (f ∷ fs) map u) ≡ chain (after s f (map % 2) u) (λ v. rest (readFields s fs (map / 2) v))
+unfolding readFields
+rest-fields s f fs map u = go (eqb (map % 2) 1)
+  where
+    go : (b : Bool)
+        → rest (cond b
+        (mapped (λ (x : Content × List (Option Content)). some (x .0) ∷ x .1) (both (readContent s f) (λ c. readFields s fs (map / 2)) (λ c l. (c, l))))
+        (mapped (λ l. none ∷ l) (readFields s fs (map / 2))) u)
+        ≡ chain (cond b (rest (readContent s f u)) (some u)) (λ v. rest (readFields s fs (map / 2) v))
+    go true =
+        rest-mapped (λ (x : Content × List (Option Content)). some (x .0) ∷ x .1) (both (readContent s f) (λ c. readFields s fs (map / 2)) (λ c l. (c, l))) u
+        ∙ rest-both (readContent s f) (readFields s fs (map / 2)) (λ c l. (c, l)) u
+    go false = rest-mapped (λ l. none ∷ l) (readFields s fs (map / 2)) u
+
+rest-no-fields : (s : Measures) (map : ℕ) (u : List ℕ) → rest (readFields s [] map u) ≡ some u
+unfolding readFields
+rest-no-fields s map u = refl
+
+-- a chain goes on where something is left, and ends where nothing is
+pub chain-some : {A B : Type 0} (o : Option A) (a : A) (f : A → Option B) → o ≡ some a → chain o f ≡ f a
+chain-some o a f e = ap (λ (x : Option _). chain x f) e
+
+pub chain-none : {A B : Type 0} (o : Option A) (f : A → Option B) → o ≡ none → chain o f ≡ none
+chain-none o f e = ap (λ (x : Option _). chain x f) e
+
+module _ (s : Measures) (t : List ℕ) (at map : ℕ) where
+  pub broken-written : after s (pointers 1) (map % 2) (drop at t) ≡ none → rest (readFields s (fields s) map (drop at t)) ≡ none
+  broken-written e = rest-fields s (pointers 1) _ map (drop at t) ∙ chain-none _ _ e
+
+  pub broken-frozen : (a : ℕ) → after s (pointers 1) (map % 2) (drop at t) ≡ some (drop a t) → after s (pointers (s .m)) (map / 2 % 2) (drop a t) ≡ none
+      → rest (readFields s (fields s) map (drop at t)) ≡ none
+  broken-frozen a d e =
+      rest-fields s (pointers 1) _ map (drop at t) ∙ chain-some _ _ _ d ∙ rest-fields s (pointers (s .m)) _ (map / 2) (drop a t) ∙ chain-none _ _ e
+
+  pub broken-indices : (a b : ℕ) → after s (pointers 1) (map % 2) (drop at t) ≡ some (drop a t)
+      → after s (pointers (s .m)) (map / 2 % 2) (drop a t) ≡ some (drop b t)
+      → after s (indices (s .m)) (map / 2 / 2 % 2) (drop b t) ≡ none
+      → rest (readFields s (fields s) map (drop at t)) ≡ none
+  broken-indices a b d e f =
+      rest-fields s (pointers 1) _ map (drop at t) ∙ chain-some _ _ _ d ∙ rest-fields s (pointers (s .m)) _ (map / 2) (drop a t) ∙ chain-some _ _ _ e
+      ∙ rest-fields s (indices (s .m)) _ (map / 2 / 2) (drop b t) ∙ chain-none _ _ f
+
+  pub broken-index : (a b c : ℕ) → after s (pointers 1) (map % 2) (drop at t) ≡ some (drop a t)
+      → after s (pointers (s .m)) (map / 2 % 2) (drop a t) ≡ some (drop b t)
+      → after s (indices (s .m)) (map / 2 / 2 % 2) (drop b t) ≡ some (drop c t)
+      → after s (indices 1) (map / 2 / 2 / 2 % 2) (drop c t) ≡ none
+      → rest (readFields s (fields s) map (drop at t)) ≡ none
+  broken-index a b c d e f g =
+      rest-fields s (pointers 1) _ map (drop at t) ∙ chain-some _ _ _ d ∙ rest-fields s (pointers (s .m)) _ (map / 2) (drop a t) ∙ chain-some _ _ _ e
+      ∙ rest-fields s (indices (s .m)) _ (map / 2 / 2) (drop b t) ∙ chain-some _ _ _ f
+      ∙ rest-fields s (indices 1) _ (map / 2 / 2 / 2) (drop c t) ∙ chain-none _ _ g
+
+  pub ended-left : (e : Ends) → Ended s t at map e → rest (readFields s (fields s) map (drop at t)) ≡ some (drop (e .index) t)
+  ended-left e h =
+      rest-fields s (pointers 1) _ map (drop at t) ∙ chain-some _ _ _ (h .written)
+      ∙ rest-fields s (pointers (s .m)) _ (map / 2) (drop (e .written) t) ∙ chain-some _ _ _ (h .frozen)
+      ∙ rest-fields s (indices (s .m)) _ (map / 2 / 2) (drop (e .frozen) t) ∙ chain-some _ _ _ (h .indices)
+      ∙ rest-fields s (indices 1) _ (map / 2 / 2 / 2) (drop (e .indices) t) ∙ chain-some _ _ _ (h .index)
+      ∙ rest-no-fields s (map / 2 / 2 / 2 / 2) (drop (e .index) t)
+
+-- ---- records and rows
+
+pub rest-record : (s : Measures) (b : ℕ) (v : List ℕ) → rest (readRecord s (b ∷ v)) ≡ cond (ltb b 16) (rest (readFields s (fields s) b v)) none
+unfolding readRecord
+rest-record s b v = rw (number-one b v) (go (ltb b 16))
+  where
+    go : (c : Bool)
+        → rest (bind (check c b v) (λ map t. bind (readFields s (fields s) map t) (λ l u. some (record { value = l; rest = u }))))
+        ≡ cond c (rest (readFields s (fields s) b v)) none
+    go true = rest-make (λ l. l) (readFields s (fields s) b v)
+    go false = refl
+
+-- the first byte of a record that reads is its map
+record-map : (s : Measures) (b : ℕ) (v : List ℕ) (r : Read (List (Option Content))) → Bytes (b ∷ v) → readRecord s (b ∷ v) ≡ some r → mapOf (r .value) ≡ b
+unfolding writeRecord writeNumber
+record-map s b v r h e =
+    let x = format-record s .only (b ∷ v) r h e in
+    let l : mapOf (r .value) < 16 = ltb-true (mapOf (r .value)) 16 (x .0 .0 .1) in
+    let y : b ≡ mapOf (r .value) % 256 = ap (λ (z : List ℕ). getD z 0 0) (x .1) in omega arith
+
+abbrev readFront : Measures → Reader Row
+readFront s = mapped asRow (given (λ l. eqb (mapOf l) 0x0F) (readRecord s))
+
+module _ (s : Measures) (b : ℕ) (v : List ℕ) (h : Bytes (b ∷ v)) where
+  front : (c : Bool) → eqb b 15 ≡ c → (o : Option (Read (List (Option Content)))) → readRecord s (b ∷ v) ≡ o
+      → rest (bind (bind o (λ a t. check (eqb (mapOf a) 0x0F) a t)) (λ a t. some (record { value = asRow a; rest = t }))) ≡ cond c (rest o) none
+  front true d none e = refl
+  front false d none e = refl
+  front true d (some r) e = rw (record-map s b v r h e) (rw d refl)
+  front false d (some r) e = rw (record-map s b v r h e) (rw d refl)
+
+  rest-front : rest (readFront s (b ∷ v)) ≡ cond (eqb b 15) (rest (readRecord s (b ∷ v))) none
+  rest-front = front (eqb b 15) refl (readRecord s (b ∷ v)) refl
+
+-- a row at a place of the table
+module _ (s : Measures) (t : List ℕ) (h : Bytes t) (at : ℕ) (room : at + rowSize s ≤ length t) where
+  row-cons : drop at t ≡ getD t at 0 ∷ drop (at + 1) t
+  row-cons = let e : at + 1 ≡ suc at = omega arith in rw e (drop-cons t at 0 (omega arith))
+
+  row-front : rest (readFront s (drop at t)) ≡ cond (eqb (getD t at 0) 15) (rest (readRecord s (getD t at 0 ∷ drop (at + 1) t))) none
+  row-front = rw row-cons (rest-front s (getD t at 0) (drop (at + 1) t) (rw row-cons at (bytes-drop at t h)))
+
+  pub row-other : (getD t at 0 ≡ 15 → ⊥) → rest (readRow s (drop at t)) ≡ none
+  unfolding readRow
+  row-other d =
+      none-area (rowSize s) (readFront s) writeRow (GoodRow s) (format-row-fields s) (row-fits s) (drop at t) (bytes-drop at t h)
+      (row-front ∙ simp (ne-eqb (getD t at 0) 15 d))
+
+  row-fields : getD t at 0 ≡ 15 → rest (readFront s (drop at t)) ≡ rest (readFields s (fields s) 15 (drop (at + 1) t))
+  row-fields d =
+      row-front ∙ simp (eq-eqb (getD t at 0) 15 d)
+      (rw d (rest-record s 15 (drop (at + 1) t)))
+
+  pub row-broken : getD t at 0 ≡ 15 → rest (readFields s (fields s) 15 (drop (at + 1) t)) ≡ none → rest (readRow s (drop at t)) ≡ none
+  unfolding readRow
+  row-broken d e =
+      none-area (rowSize s) (readFront s) writeRow (GoodRow s) (format-row-fields s) (row-fits s) (drop at t) (bytes-drop at t h) (row-fields d ∙ e)
+
+  module _ (e : Ends) (d : getD t at 0 ≡ 15) (p : Ended s t (at + 1) 15 e) where
+    row-read : (x : Read Row) × (readFront s (drop at t) ≡ some x) × (x .rest ≡ drop (e .index) t)
+    row-read = left-read (readFront s (drop at t)) (drop (e .index) t) (row-fields d ∙ ended-left s t (at + 1) 15 e p)
+
+    -- the fields end within the row
+    pub row-ends : e .index ≤ at + rowSize s
+    row-ends =
+        let x = row-read in
+        let o = format-row-fields s .only (drop at t) (x .0) (bytes-drop at t h) (x .1) in
+        omega (
+          arith,
+          row-fits s (x .0 .value) (o .0),
+          ap length (o .1),
+          length-append (writeRow (x .0 .value)) (x .0 .rest),
+          ap length (x .2),
+          length-drop at t,
+          length-drop (e .index) t,
+          p .ordered,
+        )
+
+    pub row-left : rest (readRow s (drop at t))
+        ≡ cond (all (λ b. eqb b 0) (take (at + rowSize s - e .index) (drop (e .index) t))) (some (drop (at + rowSize s) t)) none
+    unfolding readRow
+    row-left =
+        let l : rowSize s - (length (drop at t) - length (drop (e .index) t)) ≡ at + rowSize s - e .index =
+        omega (arith, length-drop at t, length-drop (e .index) t, row-ends, p .ordered)
+        in
+        let f : at + rowSize s - e .index ≤ length (drop (e .index) t) = omega (arith, length-drop (e .index) t, row-ends) in
+        let g : e .index + (at + rowSize s - e .index) ≡ at + rowSize s = omega (arith, row-ends) in
+        rest-area (rowSize s) (readFront s) writeRow (GoodRow s) (format-row-fields s) (row-fits s) (drop at t) (bytes-drop at t h) (drop (e .index) t)
+        (row-fields d ∙ ended-left s t (at + 1) 15 e p)
+        ∙ ap (λ (k : ℕ). rest (readZeros k (drop (e .index) t))) l
+        ∙ rest-zeros (at + rowSize s - e .index) (drop (e .index) t) f
+        ∙ ap (λ (z : List ℕ). cond (all (λ b. eqb b 0) (take (at + rowSize s - e .index) (drop (e .index) t))) (some z) none)
+        (drop-drop (at + rowSize s - e .index) (e .index) t ∙ ap (λ (k : ℕ). drop k t) g)
+
+-- ---- a record that is all of the bytes
+
+module _ (s : Measures) (t : List ℕ) (at map : ℕ) (r : Parts) (p : Parted s t at map r) where
+  pub parted-sound : (e : Ends) → r ≡ Parts.Sound e → Ended s t at map e
+  parted-sound e q = subst (Parted s t at map) q p
+
+  pub parted-broken : r ≡ Parts.Broken → rest (readFields s (fields s) map (drop at t)) ≡ none
+  parted-broken q = subst (Parted s t at map) q p
+
+whole-none : {A : Type 0} (r : Reader A) (u : List ℕ) → rest (r u) ≡ none → whole r u ≡ none
+whole-none r u e = rw (none-read (r u) e) refl
+
+whole-long : {A : Type 0} (r : Reader A) (u v : List ℕ) → rest (r u) ≡ some v → 0 < length v → whole r u ≡ none
+whole-long r u v e h =
+    let x = left-read (r u) v e in
+    let n : length (x .0 .rest) ≡ 0 → ⊥ = λ z. omega (arith, ap length (x .2)) in rw (x .1) (simp (ne-eqb (length (x .0 .rest)) 0 n))
+
+pub record-none : (s : Measures) (t : List ℕ) → length t < 1 → whole (readRecord s) t ≡ none
+unfolding readRecord readNumber
+record-none s [] h = refl
+record-none s (b ∷ v) h = absurd (omega arith)
+
+module _ (s : Measures) where
+  pub record-high : (t : List ℕ) → 1 ≤ length t → 16 ≤ getD t 0 0 → whole (readRecord s) t ≡ none
+  record-high [] l h = absurd (omega arith)
+  record-high (b ∷ v) l h = whole-none (readRecord s) (b ∷ v) (rest-record s b v ∙ simp (le-ltb b 16 h))
+
+  record-fields : (t : List ℕ) → 1 ≤ length t → getD t 0 0 < 16 → rest (readRecord s t) ≡ rest (readFields s (fields s) (getD t 0 0) (drop 1 t))
+  record-fields [] l h = absurd (omega arith)
+  record-fields (b ∷ v) l h = rest-record s b v ∙ simp (lt-ltb b 16 h)
+
+  module _ (t : List ℕ) (l : 1 ≤ length t) (h : getD t 0 0 < 16) where
+    pub record-broken : rest (readFields s (fields s) (getD t 0 0) (drop 1 t)) ≡ none → whole (readRecord s) t ≡ none
+    record-broken e = whole-none (readRecord s) t (record-fields t l h ∙ e)
+
+    pub record-long : (e : Ends) → Ended s t 1 (getD t 0 0) e → e .index < length t → whole (readRecord s) t ≡ none
+    record-long e p d =
+        whole-long (readRecord s) t (drop (e .index) t) (record-fields t l h ∙ ended-left s t 1 (getD t 0 0) e p) (omega (arith, length-drop (e .index) t))

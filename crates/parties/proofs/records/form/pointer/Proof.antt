@@ -1,0 +1,112 @@
+use borrow.Author.Needs.{needs}
+use mathlib.Core.Path.{_≡_, sym, ap, _∙_}
+use mathlib.Core.Option.{some}
+use Prim.Native.Nat.{ℕ, _+_, _*_, _≤_}
+use native.Mathlib.Omega.{arith}
+use borrow.Author.Tests.{not-true, not-false}
+use lib.ListN.{drop, length-drop}
+use Rattle.coding.proofs.NodesLaws.{nodes-few}
+use Rattle.parties.specs.protocol.Nodes.{count}
+use Rattle.parties.proofs.records.RecordLaws.{bytes-drop, pointer-short, pointer-improper, pointer-long, pointer-sound}
+use Rattle.parties.proofs.records.form.pointer.Statement.{statement}
+use Rattle.parties.proofs.records.form.pointer.Tie as tie
+
+sub-left : tie.Need-sub-left
+sub-left c = search needs
+
+returns : tie.Need-returns
+returns c =
+    let a = c .before .before .args in
+    record {
+      told = sym (pointer-short (a .s) (drop (a .at) (a .t .now)) (bytes-drop (a .at) (a .t .now) (λ i. c .before .shared-slice-known .given i .fits)) (omega (arith, length-drop (a .at) (a .t .now))));
+      within = tt;
+    }
+
+u32-at-requires : tie.Need-u32-at-requires
+u32-at-requires c κs = search needs
+
+add-c : tie.Need-add-c
+add-c c = search needs
+
+shared-slice-read-c : tie.Need-shared-slice-read-c
+shared-slice-read-c c = search needs
+
+add-u16-at : tie.Need-add-u16-at
+add-u16-at c = search needs
+
+u16-at-requires : tie.Need-u16-at-requires
+u16-at-requires c κs = search needs
+
+count-requires : tie.Need-count-requires
+count-requires c κs = search needs
+
+few : (c : tie.After-count) → c .count .result ≤ 16
+few c = omega (arith, c .count .ensures, nodes-few (c .before .u16-at .result) 16)
+
+mul-size : tie.Need-mul-size
+mul-size c = omega (arith, few c)
+
+add-size : tie.Need-add-size
+add-size c = omega (arith, few c)
+
+proper-requires : tie.Need-proper-requires
+proper-requires c κs = search needs
+
+returns-2 : tie.Need-returns-2
+returns-2 c =
+    let a = c .before .before .before .before .before .before .before .before .args in
+    let p = c .before .proper in
+    record {
+      told = sym (pointer-improper (a .s) (a .t .now) (a .at) (c .before .before .before .before .before .u32-at .result) (c .before .before .before .u16-at .result)
+          (c .before .before .before .before .before .before .if1 .left) (c .before .before .before .before .before .u32-at .ensures) (c .before .before .before .u16-at .ensures)
+          (sym (p .ensures) ∙ not-true (p .result) (c .if2 .taken)));
+      within = tt;
+    }
+
+returns-3 : tie.Need-returns-3
+returns-3 c =
+    let a = c .before .before .before .before .before .before .before .before .before .args in
+    let p = c .before .before .proper in
+    let e : c .before .before .before .count .result ≡ count (c .before .before .before .before .u16-at .result) = c .before .before .before .count .ensures in
+    record {
+      told = sym (pointer-long (a .s) (a .t .now) (a .at) (c .before .before .before .before .before .before .u32-at .result) (c .before .before .before .before .u16-at .result)
+          (c .before .before .before .before .before .before .before .if1 .left) (c .before .before .before .before .before .before .u32-at .ensures) (c .before .before .before .before .u16-at .ensures)
+          (sym (p .ensures) ∙ not-false (p .result) (c .before .if2 .left)) (omega arith));
+      within = tt;
+    }
+
+add-t10 : tie.Need-add-t10
+add-t10 c = search needs
+
+returns-4 : tie.Need-returns-4
+returns-4 c =
+    let a = c .before .before .before .before .before .before .before .before .before .args in
+    let p = c .before .before .proper in
+    let e : c .before .before .before .count .result ≡ count (c .before .before .before .before .u16-at .result) = c .before .before .before .count .ensures in
+    record {
+      told = ap (λ (k : ℕ). some (drop (a .at + (7 + 32 * k)) (a .t .now))) e
+          ∙ sym (pointer-sound (a .s) (a .t .now) (a .at) (c .before .before .before .before .before .before .u32-at .result) (c .before .before .before .before .u16-at .result)
+          (c .before .before .before .before .before .before .before .if1 .left) (c .before .before .before .before .before .before .u32-at .ensures) (c .before .before .before .before .u16-at .ensures)
+          (sym (p .ensures) ∙ not-false (p .result) (c .before .if2 .left)) (omega arith));
+      within = (omega arith, omega arith);
+    }
+
+pub pointer-spec : {M : Type 1} → statement M
+pointer-spec =
+    tie.close
+    (tie.spec
+    sub-left
+    returns
+    u32-at-requires
+    add-c
+    shared-slice-read-c
+    add-u16-at
+    u16-at-requires
+    count-requires
+    mul-size
+    add-size
+    proper-requires
+    returns-2
+    returns-3
+    add-t10
+    returns-4)

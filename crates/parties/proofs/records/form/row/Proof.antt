@@ -1,0 +1,79 @@
+use borrow.Author.Needs.{needs}
+use mathlib.Core.Path.{_≡_, sym, ap, _∙_}
+use mathlib.Core.Bool.{Bool, cond}
+use mathlib.Core.Option.{some, none}
+use Prim.Native.Nat.{ℕ, _+_, _-_}
+use native.Mathlib.Omega.{arith}
+use lib.Dec.{eqb}
+use lib.ListN.{take, drop}
+use Rattle.coding.specs.Nodes.{all}
+use Rattle.parties.specs.protocol.Measures.{rowSize}
+use Rattle.parties.specs.records.Form.{Ended}
+use Rattle.parties.proofs.records.RecordLaws.{row-other, row-broken, row-ends, row-left, parted-sound, parted-broken}
+use Rattle.parties.proofs.records.form.row.Statement.{statement}
+use Rattle.parties.proofs.records.form.row.Tie as tie
+
+shared-slice-read-if1 : tie.Need-shared-slice-read-if1
+shared-slice-read-if1 c = search needs
+
+returns : tie.Need-returns
+returns c =
+    let a = c .before .before .before .args in
+    row-other (a .s) (a .t .now) (λ i. c .before .before .shared-slice-known .given i .fits) (a .at) (c .before .before .before .pre .2) (c .if1 .taken)
+
+add-field-ends : tie.Need-add-field-ends
+add-field-ends c = search needs
+
+field-ends-requires : tie.Need-field-ends-requires
+field-ends-requires c κs = search needs
+
+enum-known-e : tie.Need-enum-known-e
+enum-known-e c = search needs
+
+enum-told : tie.Need-enum-told
+enum-told c = search needs
+
+returns-2 : tie.Need-returns-2
+returns-2 c =
+    let a = c .before .before .before .before .before .before .args in
+    row-broken (a .s) (a .t .now) (λ i. c .before .before .before .before .before .shared-slice-known .given i .fits) (a .at) (c .before .before .before .before .before .before .pre .2) (c .before .before .before .if1 .left)
+    (parted-broken (a .s) (a .t .now) (a .at + 1) 15 (c .before .before .field-ends .result) (c .before .before .field-ends .ensures) (c .enum-told .given .1))
+
+add-zero-run : tie.Need-add-zero-run
+add-zero-run c = search needs
+
+ended : (c : tie.After-known-told) → let a = c .before .before .before .before .before .before .before .args in Ended (a .s) (a .t .now) (a .at + 1) 15 (c .before .e .given .0 .0)
+ended c =
+    let a = c .before .before .before .before .before .before .before .args in parted-sound (a .s) (a .t .now) (a .at + 1) 15 (c .before .before .before .field-ends .result) (c .before .before .before .field-ends .ensures) (c .before .e .given .0 .0) (c .before .e .given .1)
+
+zero-run-requires : tie.Need-zero-run-requires
+zero-run-requires c κs =
+    let a = c .before .before .before .before .before .before .before .args in
+    let z : a .size ≡ rowSize (a .s) = c .before .before .before .before .before .before .before .pre .1 in
+    let w = row-ends (a .s) (a .t .now) (λ i. c .before .before .before .before .before .before .shared-slice-known .given i .fits) (a .at) (c .before .before .before .before .before .before .before .pre .2) (c .before .e .given .0 .0) (c .before .before .before .before .if1 .left) (ended c) in
+    (omega (arith, w), omega arith)
+
+returns-3 : tie.Need-returns-3
+returns-3 c =
+    let a = c .before .before .before .before .before .before .before .before .args in
+    let t = a .t .now in
+    let from = c .before .before .e .given .0 .0 .index in
+    let z : rowSize (a .s) ≡ a .size = sym (c .before .before .before .before .before .before .before .before .pre .1) in
+    row-left (a .s) t (λ i. c .before .before .before .before .before .before .before .shared-slice-known .given i .fits) (a .at) (c .before .before .before .before .before .before .before .before .pre .2) (c .before .before .e .given .0 .0) (c .before .before .before .before .before .if1 .left) (ended (c .before))
+    ∙ ap (λ (x : Bool). cond x (some (drop (a .at + rowSize (a .s)) t)) none)
+    (ap (λ (k : ℕ). all (λ b. eqb b 0) (take (a .at + k - from) (drop from t))) z ∙ sym (c .zero-run .ensures))
+
+pub row-spec : {M : Type 1} → statement M
+row-spec =
+    tie.close
+    (tie.spec
+    shared-slice-read-if1
+    returns
+    add-field-ends
+    field-ends-requires
+    enum-known-e
+    enum-told
+    returns-2
+    add-zero-run
+    zero-run-requires
+    returns-3)

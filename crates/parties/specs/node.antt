@@ -1,0 +1,2 @@
+pub mod ToNode
+pub mod NodeCode

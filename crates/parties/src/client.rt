@@ -1,0 +1,18 @@
+mod acknowledge;
+mod choose;
+mod draw;
+pub mod event;
+pub(crate) mod form;
+mod free;
+mod freeze;
+pub(crate) mod gate;
+mod notice;
+mod phase;
+pub mod pick;
+mod publish;
+mod receive;
+pub mod record;
+mod reply;
+mod scan;
+mod tell;
+pub mod turn;

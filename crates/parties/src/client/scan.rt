@@ -1,0 +1,98 @@
+// The rows of a scan, by the step that waits for them.
+use crate::ClientAnswer;
+use crate::Measures;
+use crate::NextSequence;
+use crate::Phase;
+use crate::Refusal;
+use crate::Turned;
+use crate::client::choose::fetch;
+use crate::client::draw::draw;
+use crate::client::draw::highest;
+use crate::client::form::work_at;
+use crate::client::form::work_size;
+use crate::client::freeze::freeze;
+use crate::records::bytes::clear;
+ghost use mathlib.Core.Path.{_≡_};
+ghost use mathlib.Core.Bool.{true};
+ghost use Prim.Native.Nat.{_*_, _<_, _≤_};
+ghost use lib.ListN.{length};
+ghost use Rattle.parties.specs.protocol.Measures.{passes, rowSize};
+ghost use Rattle.parties.specs.protocol.Directory.{readDirectory};
+ghost use Rattle.parties.specs.protocol.Client.{readClient};
+ghost use Rattle.parties.specs.protocol.ClientEvents.{roomSize};
+ghost use Rattle.parties.specs.client.Answer.{answered};
+ghost use Rattle.parties.specs.client.Record.{recordOf, isSome};
+ghost use Rattle.parties.specs.client.Scan.{scannedEnd, spentEnd};
+
+// A deposit that has no sequence ends: its page is cleared.
+fn give_up(s: Measures, p: Phase, area: &mut [u8], room: &[u8]) -> Turned
+    requires { ⌜ (passes s ≡ true) × (isSome (readClient s (recordOf p (now area))) ≡ true) ⌝ }
+    ensures { λ r. ⌜ (answered (r .answer) ≡ spentEnd s (recordOf p (now (area .entry))) (now (room .entry)) .answer)
+        × (recordOf (r .phase) (now (area .exit)) ≡ spentEnd s (recordOf p (now (area .entry))) (now (room .entry)) .client)
+        × (now (room .entry) ≡ spentEnd s (recordOf p (now (area .entry))) (now (room .entry)) .room) ⌝ }
+{
+    let at = work_at(s);
+    let size = work_size(s);
+    clear(area, at, at + size);
+    let reading = p.reading;
+    Turned {
+        phase: Phase {
+            step: 0,
+            reading: reading,
+        },
+        answer: ClientAnswer::Spent,
+    }
+}
+
+// A deposit's first scan: it draws the sequence after the highest.
+fn first_scan(
+    s: Measures,
+    own: usize,
+    p: Phase,
+    area: &mut [u8],
+    rows: &[u8],
+    room: &mut [u8],
+) -> Turned
+    requires { ⌜ (passes s ≡ true) × (own < s .m) × (p .step ≡ 1) × (isSome (readClient s (recordOf p (now area))) ≡ true)
+        × (isSome (readDirectory s (now rows)) ≡ true) × (roomSize s ≤ length (now room)) ⌝ }
+    ensures { λ r. ⌜ (answered (r .answer) ≡ scannedEnd s own (recordOf p (now (area .entry))) (now (rows .entry)) (now (room .entry)) .answer)
+        × (recordOf (r .phase) (now (area .exit)) ≡ scannedEnd s own (recordOf p (now (area .entry))) (now (rows .entry)) (now (room .entry)) .client)
+        × (now (room .exit) ≡ scannedEnd s own (recordOf p (now (area .entry))) (now (rows .entry)) (now (room .entry)) .room) ⌝ }
+{
+    let top = highest(s, rows);
+    let next = top.next();
+    let NextSequence::Drawn(q) = next else {
+        return give_up(s, p, area, room);
+    };
+    draw(s, own, p, area, room, q)
+}
+
+// A deposit draws or freezes, a reading picks.
+pub fn after_scan(
+    s: Measures,
+    own: usize,
+    p: Phase,
+    area: &mut [u8],
+    rows: &[u8],
+    room: &mut [u8],
+) -> Turned
+    requires { ⌜ (passes s ≡ true) × (own < s .m) × (isSome (readClient s (recordOf p (now area))) ≡ true)
+        × (s .m * rowSize s ≤ length (now rows)) × (isSome (readDirectory s (now rows)) ≡ true) × (roomSize s ≤ length (now room)) ⌝ }
+    ensures { λ r. ⌜ (answered (r .answer) ≡ scannedEnd s own (recordOf p (now (area .entry))) (now (rows .entry)) (now (room .entry)) .answer)
+        × (recordOf (r .phase) (now (area .exit)) ≡ scannedEnd s own (recordOf p (now (area .entry))) (now (rows .entry)) (now (room .entry)) .client)
+        × (now (room .exit) ≡ scannedEnd s own (recordOf p (now (area .entry))) (now (rows .entry)) (now (room .entry)) .room) ⌝ }
+{
+    if p.step == 1 {
+        return first_scan(s, own, p, area, rows, room);
+    }
+    if p.step == 4 {
+        return freeze(s, own, p, area, rows, room);
+    }
+    if p.step == 6 {
+        return fetch(s, own, p, area, rows, room);
+    }
+    Turned {
+        phase: p,
+        answer: ClientAnswer::Refused(Refusal::Turn),
+    }
+}

@@ -1,0 +1,21 @@
+// Document 01's number of a refusal.
+use crate::Refusal;
+ghost use mathlib.Core.Path.{_≡_};
+ghost use Rattle.parties.specs.records.Answer.{number as numberOf};
+
+impl Refusal {
+    pub fn number(self) -> usize
+        ensures { λ x. ⌜ x ≡ numberOf self ⌝ }
+    {
+        match self {
+            Refusal::Measures => 1,
+            Refusal::Short => 2,
+            Refusal::Number => 3,
+            Refusal::Form => 4,
+            Refusal::Turn => 5,
+            Refusal::TooLong => 6,
+            Refusal::Spent => 7,
+            Refusal::Full => 8,
+        }
+    }
+}

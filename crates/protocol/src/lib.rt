@@ -1,2 +1,0 @@
-pub mod measures;
-pub mod version;

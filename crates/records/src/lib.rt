@@ -1,5 +1,0 @@
-pub mod answer;
-pub mod bytes;
-pub mod form;
-pub mod nodes;
-pub mod version;
