@@ -1,11 +1,11 @@
 #!/usr/bin/env python3
-"""An independent account of document 01's pieces, split and join, and the lines that `pieces_vectors` is held to.
+"""An independent account of document 01's pieces, split and join, the cases that `pieces_vectors` executes and the lines that it is held to.
 
-    pieces.py FOLDER    writes FOLDER/stdout, a line for each case
+    pieces.py FOLDER    writes FOLDER/stdin, the cases, and FOLDER/stdout, their lines
 
 Written from document 01 and, for what it leaves open, docs/DECISIONS.md (1, 3, 5, 6, 8): products by shifts and reduction modulo hex 11D, joining by
-Lagrange's form, no tables of powers and no grid. Its author had read the program `pieces_vectors`, for its cases and the form of its lines, and
-not the code or the definitions that it calls. What the lines mean stands at the top of that program. A room or an output is at first `poison`; an
+Lagrange's form, no tables of powers and no grid. Its author had read the program `pieces_vectors`, for the form of its input and its lines, and
+not the code or the definitions that it calls. What they mean stands at the top of that program. A room or an output is at first `poison`; an
 absent piece has a length that no piece may have."""
 import sys
 
@@ -155,68 +155,72 @@ def lengths_of(nodes, length):
     return [length if nodes >> i & 1 else 65535 for i in range(16)]
 
 
-class Lines:
-    def __init__(self):
-        self.lines = []
+class Calls:
+    """Calls as commands, and what they must print. Numbers and bytes that stand already are not given again."""
 
-    def split(self, n, k, f, page, size):
+    def __init__(self):
+        self.commands, self.text, self.sum = bytearray(), '', 0
+        self.numbers, self.given = {}, bytes(65536)
+
+    def command(self, what, number):
+        self.commands += bytes([what]) + number.to_bytes(8, 'big')
+
+    def number(self, what, number):
+        if self.numbers.get(what, 0) != number:
+            self.numbers[what] = number
+            self.command(what, number)
+
+    def give(self, data):
+        other = [at for at, b in enumerate(data) if b != self.given[at]]
+        while other:
+            end = next((i for i in range(1, len(other)) if other[i] - other[i - 1] > 9), len(other))
+            part = data[other[0]:other[end - 1] + 1]
+            self.command(8, other[0] << 32 | len(part))
+            self.commands += part
+            other = other[end:]
+        self.given = data + self.given[len(data):]
+
+    def called(self, what, n, k, f, number, length, given, written, ends):
+        """A line ends with a call of which all is printed; of those before it there is a digit."""
+        self.command(what if ends else what + 2, k)
+        for data in given, written:
+            self.sum = (self.sum * 31 + checksum(data)) % 2 ** 32
+        if not ends:
+            self.text += '%d ' % number
+            return
+        arguments = n, k, f, self.numbers.get(3, 0), len(given), self.numbers.get(6, 0), len(written)
+        few = ''.join(' ' + data.hex() for data in (given, written) if len(data) <= 20)
+        self.text += 'split' if what == 10 else 'join'
+        self.text += ' %d %d %d %04x %d %d %d: ' % arguments
+        self.text += '%d %d%s sum %d\n' % (number, 0 if number else length, few, self.sum)
+        self.sum = 0
+
+    def split(self, n, k, f, page, size, ends=True):
+        for what, x in zip((1, 2, 4, 5), (n, f, len(page), size)):
+            self.number(what, x)
+        self.give(page)
         number, length, room = split(n, k, f, page, poison(size))
-        line = 'split %d %d %d %d %d:' % (n, k, f, len(page), size)
-        if number:
-            line += ' refused %d' % number
-        else:
-            line += ' pieces %d' % length
-            if len(page) < 18:
-                for at in range(0, size, f):
-                    line += ' ' + room[at:at + f][:length].hex()
-        self.lines.append(line + ' sum %d' % checksum(room))
+        self.called(10, n, k, f, number, length, page, room, ends)
         return room
 
-    def join(self, n, k, f, nodes, room, lengths, size):
+    def join(self, n, k, f, nodes, room, lengths, size, ends=True):
+        for what, x in zip((1, 2, 3, 4, 5, 6), (n, f, nodes, len(room), size, len(lengths))):
+            self.number(what, x)
+        for i, length in enumerate(lengths):
+            self.number(16 + i, length)
+        self.give(room)
         number, length, out = join(n, k, f, nodes, room, lengths, poison(size))
-        line = 'join %d %d %d %04x %d %d %d:' % (n, k, f, nodes, len(room), len(lengths), size)
-        if number:
-            line += ' refused %d' % number
-        else:
-            line += ' page %d' % length
-            if length < 18:
-                line += ' ' + out[:length].hex()
-        self.lines.append(line + ' %d sum %d' % (checksum(room), checksum(out)))
-        return out
+        self.called(11, n, k, f, number, length, room, out, ends)
 
     def rejoin(self, n, k, length, nodes):
         """Of the pieces of a page only those stay whole that are to be used."""
         _, size, room = split(n, k, 40, some_page(length), poison(n * 40))
         self.join(n, k, 40, nodes, spoiled(n, k, 40, nodes, room), lengths_of(nodes, size)[:n], k * 40 - 4)
 
-
-class Digits:
-    """A line that has a digit for each call, and one sum over what was lent in all of them."""
-
-    def __init__(self, head):
-        self.text, self.sum = head, 0
-
-    def put(self, number, data):
-        self.text += str(number)
-        self.sum = (self.sum * 31 + checksum(data)) % 2 ** 32
-
-    def split(self, n, k, f, length, size):
-        number, _, room = split(n, k, f, some_page(length), poison(size))
-        self.put(number, room)
-
-    def join(self, n, k, f, nodes, room, lengths, size):
-        number, _, out = join(n, k, f, nodes, room, lengths, poison(size))
-        self.put(number, out)
-
-    def joins(self, n, k, f, nodes, length, lengths, size, out):
-        """The pieces of a page; room, lengths and output as long as is needed, and each of them one shorter."""
-        self.text += ' '
-        _, _, room = split(n, k, f, some_page(length), poison(4100))
+    def joins(self, n, k, f, nodes, room, lengths):
+        """Room, lengths and output as long as is needed, and each of them one shorter: a line."""
         for i in range(8):
-            self.join(n, k, f, nodes, room[:less(size, i % 2)], lengths[:less(n, i // 2 % 2)], less(out, i // 4))
-
-    def line(self):
-        return '%s sum %d' % (self.text, self.sum)
+            self.join(n, k, f, nodes, room[:less(n * f, i % 2)], lengths[:less(n, i // 2 % 2)], less(k * f - 4, i // 4), i == 7)
 
 
 def less(x, yes):
@@ -235,6 +239,10 @@ def highest(n, k):
     return 2 ** n - 2 ** (n - k)
 
 
+# Whose pieces are joined with a byte changed: n, k, F, the page's length, the map.
+CHANGED = [(4, 2, 5, 5, 0x0005), (5, 3, 4, 7, 0x001C)]
+
+
 def splits(v):
     # document 01's edges
     for k, page in [(2, '030a1118'), (2, '030a11181f'), (2, ''), (2, '41'), (3, '4142')]:
@@ -245,6 +253,11 @@ def splits(v):
         v.split(n, k, 5, some_page(k * 5 - 4), n * 5)
         v.split(n, k, 5, some_page(k * 5 - 3), n * 5)
         v.split(n, k, 7, some_page(3), n * 7 + 5)
+    for n in range(1, 17):
+        for k in range(1, n + 1):
+            v.split(n, k, 40, some_page(29), n * 40)
+    for n, k, f, length, _ in CHANGED:
+        v.split(n, k, f, some_page(length), 20)
 
 
 def joins(v):
@@ -266,46 +279,42 @@ def joins(v):
             v.rejoin(n, k, 29, highest(n, k))
     # each byte of a room is changed in turn
     for at in range(20):
-        for n, k, f, length, nodes in [(4, 2, 5, 5, 0x0005), (5, 3, 4, 7, 0x001C)]:
+        for n, k, f, length, nodes in CHANGED:
             _, size, room = split(n, k, f, some_page(length), poison(20))
             v.join(n, k, f, nodes, room[:at] + bytes([room[at] ^ 0x5A]) + room[at + 1:], [size] * 16, 20)
 
 
 def measures(v):
+    """A line has every k."""
     counts = [0, 1, 2, 3, 4, 15, 16, 17, 2 ** 32, 2 ** 63, 2 ** 64 - 1]
     widths = [0, 1, 2, 3, 4, 8, 4096, 4097, 2 ** 62, 2 ** 63, 2 ** 64 - 1]
-    for n in counts:
-        for f in widths:
-            d = Digits('measures %d %d:' % (n, f))
-            for k in counts:
-                d.text += ' '
-                d.split(n, k, f, 200, 0)
-                d.split(n, k, f, 200, 128)
-                d.split(n, k, f, 0, 128)
-                d.join(n, k, f, 0xFFFF, bytes(128), [], 0)
-                d.join(n, k, f, 0xFFFF, bytes(128), [0] * 16, 128)
-                d.join(n, k, f, 0, bytes(128), [0] * 16, 128)
-            v.lines.append(d.line())
+    every = [(n, k, f) for n in counts for f in widths for k in counts]
+    # a room too short for a page too long, a page too long, neither
+    for length, size in [(200, 0), (200, 128), (0, 128)]:
+        for n, k, f in every:
+            v.split(n, k, f, some_page(length), size, k == counts[-1])
+    # slices too short for a wrong map, a wrong map, no piece
+    for nodes, count, size in [(0xFFFF, 0, 0), (0xFFFF, 16, 128), (0, 16, 128)]:
+        for n, k, f in every:
+            v.join(n, k, f, nodes, bytes(128), [0] * count, size, k == counts[-1])
 
 
 def refusals(v):
     # the fullest page and one byte more, in a room of the needed length and in one byte less; then it is joined
     for n, k, f, nodes in [(1, 1, 4, 0x0001), (2, 2, 2, 0x0003), (16, 16, 1, 0xFFFF), (16, 1, 9, 0x8000), (4, 2, 8, 0x000F), (5, 3, 3, 0x0015),
                            (1, 1, 4096, 0x0001)]:
-        d, size, full = Digits('fit %d %d %d: ' % (n, k, f)), n * f, k * f - 4
         for i in range(4):
-            d.split(n, k, f, full + i % 2, less(size, i // 2))
-        d.joins(n, k, f, nodes, full, [f] * 16, size, full)
-        v.lines.append(d.line())
+            v.split(n, k, f, some_page(k * f - 4 + i % 2), less(n * f, i // 2), False)
+        room = v.split(n, k, f, some_page(k * f - 4), 4100, False)
+        v.joins(n, k, f, nodes, room, [f] * 16)
     # every order of the causes of a join's refusal, at pieces of 3 bytes: all lengths another, then one of them
     wrong = [[length] * 16 for length in (3, 0, 1, 2, 4, 8, 9, 65535)]
     for i in range(4):
         wrong += [[3] * i + [length] + [3] * (15 - i) for length in (0, 2, 4, 8, 9)]
+    room = v.split(4, 3, 8, some_page(4), 4100, False)
     for nodes in (0x0007, 0x000E, 0x000F, 0x0000, 0x0001, 0x000A, 0x0010, 0x0013, 0x0017, 0x8007):
-        d = Digits('order %04x:' % nodes)
         for lengths in wrong:
-            d.joins(4, 3, 8, nodes, 4, lengths, 32, 20)
-        v.lines.append(d.line())
+            v.joins(4, 3, 8, nodes, room, lengths)
 
 
 # Frames that no split makes, each with the k that its length in bytes is a multiple of.
@@ -336,21 +345,18 @@ def frames(v):
 
 def large(v):
     """The largest areas: 16 nodes and pieces of 4,096 bytes."""
-    for k, maps in [(8, [0xFF00, 0xFFFF, 0xB5A6]), (16, [0xFFFF])]:
-        page = some_page(k * 4096 - 4)
-        room = v.split(16, k, 4096, page, 65536)
-        for nodes in maps:
-            if nodes == 0xB5A6:
-                room = spoiled(16, k, 4096, nodes, room)
-            out = v.join(16, k, 4096, nodes, room, [4096] * 16, 65532)
-            v.lines.append('equal' if out[:len(page)] == page else 'different')
+    rooms = {k: v.split(16, k, 4096, some_page(k * 4096 - 4), 65536) for k in (16, 8)}
+    for k, nodes in [(16, 0xFFFF), (8, 0xFF00), (8, 0xFFFF), (8, 0xB5A6)]:
+        room = spoiled(16, k, 4096, nodes, rooms[k]) if nodes == 0xB5A6 else rooms[k]
+        v.join(16, k, 4096, nodes, room, [4096] * 16, 65532)
 
 
 def main(folder):
-    v = Lines()
+    v = Calls()
     for part in (splits, joins, measures, refusals, frames, large):
         part(v)
-    open(folder + '/stdout', 'w').write('\n'.join(v.lines) + '\n')
+    open(folder + '/stdin', 'wb').write(v.commands)
+    open(folder + '/stdout', 'w').write(v.text)
 
 
 if __name__ == '__main__':
