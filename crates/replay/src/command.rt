@@ -38,50 +38,32 @@ fn number(x: u64) -> bool {
 }
 
 // One number. The names are packed words: `carry`, `hand`, `liar`, `show`.
-fn one(name: u64, x: u64) -> Command {
-    if !number(x) {
-        return Command::Other;
-    }
-    let a = x as usize;
+fn one(name: u64, x: usize) -> Command {
     match name {
-        1526348280441 => Command::Event(Event::Carry(a)),
-        6046183012 => Command::Event(Event::Hand(a)),
-        6113812850 => Command::Liar(a),
-        6231191415 => Command::Show(a),
+        1526348280441 => Command::Event(Event::Carry(x)),
+        6046183012 => Command::Event(Event::Hand(x)),
+        6113812850 => Command::Liar(x),
+        6231191415 => Command::Show(x),
         _ => Command::Other,
     }
 }
 
 // Two numbers: `bring`, `deliver`.
-fn two(name: u64, x: u64, y: u64) -> Command {
-    if !number(x) {
-        return Command::Other;
-    }
-    if !number(y) {
-        return Command::Other;
-    }
-    let a = x as usize;
-    let b = y as usize;
+fn two(name: u64, x: usize, y: usize) -> Command {
     match name {
-        1522337934951 => Command::Event(Event::Bring(a, b)),
-        100316608009233778 => Command::Event(Event::Deliver(a, b)),
+        1522337934951 => Command::Event(Event::Bring(x, y)),
+        100316608009233778 => Command::Event(Event::Deliver(x, y)),
         _ => Command::Other,
     }
 }
 
 // Two numbers and bytes: `lie`.
-fn three(name: u64, x: u64, y: u64, p: Page) -> Command {
+fn three(name: u64, x: usize, y: usize, p: Page) -> Command {
     if name != 23882085 {
         return Command::Other;
     }
-    if !number(x) {
-        return Command::Other;
-    }
-    if !number(y) {
-        return Command::Other;
-    }
     match p {
-        Page::Bytes(n) => Command::Event(Event::Lie(x as usize, y as usize, n)),
+        Page::Bytes(n) => Command::Event(Event::Lie(x, y, n)),
         Page::Nothing => Command::Other,
     }
 }
@@ -90,13 +72,24 @@ fn three(name: u64, x: u64, y: u64, p: Page) -> Command {
 fn other(l: Line) -> Command {
     let v = l.numbers;
     let p = l.page;
-    let words = l.words;
-    match words {
-        2 => one(l.name, v[0]),
-        3 => two(l.name, v[0], v[1]),
-        4 => three(l.name, v[0], v[1], p),
-        _ => Command::Other,
+    let x = v[0];
+    let y = v[1];
+    if !number(x) {
+        return Command::Other;
     }
+    if l.words == 2 {
+        return one(l.name, x as usize);
+    }
+    if !number(y) {
+        return Command::Other;
+    }
+    if l.words == 3 {
+        return two(l.name, x as usize, y as usize);
+    }
+    if l.words == 4 {
+        return three(l.name, x as usize, y as usize, p);
+    }
+    Command::Other
 }
 
 // `#`, or an only word of no bytes.

@@ -2,6 +2,7 @@
 use crate::run::Run;
 use crate::run::line;
 use crate::run::start;
+use crate::space::Input;
 use crate::space::Memory;
 use crate::space::Page;
 use crate::space::Post;
@@ -10,8 +11,7 @@ use lines::read::Reading;
 use lines::read::begin;
 use lines::read::ended;
 use lines::read::next;
-ghost use Prim.Native.Nat.{_<_, _≤_};
-ghost use lib.ListN.{length};
+use runs::least::least;
 
 mod command;
 mod report;
@@ -21,8 +21,6 @@ mod space;
 // A run, and what was read of the next line.
 struct Script {
     run: Run,
-    // The line has a byte.
-    open: bool,
     reading: Reading,
 }
 
@@ -30,94 +28,69 @@ struct Script {
 fn feed(x: Script, b: u8, memory: &mut Memory, post: &mut Post, page: &mut Page) -> Script {
     let r = x.reading;
     let y = x.run;
-    if b == 10 {
-        let run = line(y, ended(r), memory, post, page);
-        return Script {
-            run,
-            open: false,
-            reading: begin(),
-        };
+    if b != 10 {
+        let reading = next(r, b, page);
+        return Script { run: y, reading };
     }
-    let reading = next(r, b, page);
+    let run = line(y, ended(r), memory, post, page);
     Script {
-        run: y,
-        open: true,
-        reading,
+        run,
+        reading: begin(),
     }
 }
 
+// The first so many bytes of the input.
 fn feed_all(
     x: Script,
-    input: &[u8],
+    input: &Input,
+    n: usize,
     memory: &mut Memory,
     post: &mut Post,
     page: &mut Page,
 ) -> Script {
     let mut y = x;
-    let mut i = 0;
-    while i < input.len() {
-        let b = input[i];
-        i += 1;
-        y = feed(y, b, memory, post, page);
+    let end = least(n, input.len());
+    for i in 0..end {
+        y = feed(y, input[i], memory, post, page);
     }
     y
 }
 
 // The input's next bytes.
-fn more(input: &mut [u8]) -> usize
-    ensures { λ r. ⌜ r ≤ length (now (input .exit)) ⌝ }
-{
+fn more(input: &mut Input) -> usize {
     let got = libc::read(STDIN_FILENO, input);
     io::count(got, input)
-}
-
-// The turns that are left; none, where the input has ended.
-fn fewer(turns: u64, n: usize) -> u64
-    requires { ⌜ 0 < turns ⌝ }
-    ensures { λ r. ⌜ r < turns ⌝ }
-{
-    if n == 0 {
-        return 0;
-    }
-    turns - 1
 }
 
 // All of the script; the turns are more than any input has.
 fn feed_input(
     x: Script,
-    input: &mut [u8],
+    input: &mut Input,
     memory: &mut Memory,
     post: &mut Post,
     page: &mut Page,
 ) -> Script {
     let mut y = x;
-    let mut left = u64::MAX;
-    while 0 < left {
+    for turn in 0..u64::MAX {
         let n = more(input);
-        left = fewer(left, n);
-        y = feed_all(y, &input[0..n], memory, post, page);
+        if n == 0 {
+            return y;
+        }
+        y = feed_all(y, input, n, memory, post, page);
     }
     y
 }
 
-// The end of the script: a last line may lack its line feed.
-fn close(x: Script, memory: &mut Memory, post: &mut Post, page: &mut Page) {
-    if x.open {
-        feed(x, 10, memory, post, page);
-    }
-}
-
 fn main() {
-    let mut memory = [0u8; 40960];
-    let mut post = [0u8; 262144];
-    let mut page = [0u8; 1100];
-    let mut space = io::buffer();
-    let input: &mut [u8] = &mut space;
+    let mut memory: Memory = [0; 40960];
+    let mut post: Post = [0; 262144];
+    let mut page: Page = [0; 1100];
+    let mut input: Input = [0; 4096];
     let x = Script {
         run: start(),
-        open: false,
         reading: begin(),
     };
-    let y = feed_input(x, input, &mut memory, &mut post, &mut page);
-    close(y, &mut memory, &mut post, &mut page);
+    let y = feed_input(x, &mut input, &mut memory, &mut post, &mut page);
+    // a last line may lack its line feed, and an empty one asks for nothing
+    feed(y, 10, &mut memory, &mut post, &mut page);
 }

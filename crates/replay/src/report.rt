@@ -8,6 +8,7 @@ use lines::text::decimal;
 use lines::text::hex;
 use parties::ClientAnswer;
 use parties::Measures;
+use parties::Refusal;
 use parties::Service;
 use parties::Version;
 use parties::records::nodes::has_node;
@@ -26,7 +27,7 @@ fn say_first(b: &[u8], n: usize) {
     }
 }
 
-// A byte of words: the number in place of a `%`.
+// A byte of words, or the number in place of a `%`.
 fn put(text: &mut [u8], at: usize, b: u8, x: usize) -> usize {
     if b == b'%' {
         return decimal(text, at, x as u64);
@@ -34,7 +35,7 @@ fn put(text: &mut [u8], at: usize, b: u8, x: usize) -> usize {
     byte(text, at, b)
 }
 
-// The number in place of the next `%`.
+// Which number is in place of the next `%`.
 fn after(b: u8, next: usize) -> usize
     requires { ⌜ next < 5 ⌝ }
     ensures { λ r. ⌜ r < 5 ⌝ }
@@ -59,7 +60,7 @@ fn put_all(text: &mut [u8], words: &[u8], numbers: [usize; 5]) -> usize {
     to
 }
 
-// Words with a number in place of each `%`, in one write.
+// Words with a number in place of each `%`; with their numbers none come to 256 bytes.
 fn say_all(words: &[u8], numbers: [usize; 5]) {
     let mut text = [0u8; 256];
     let n = put_all(&mut text, words, numbers);
@@ -115,14 +116,12 @@ fn say_hex(b: &[u8]) {
 
 // Bytes from a place on, so many at most, or `empty`.
 fn shown(b: &[u8], from: usize, n: usize) {
-    if b.len() < from {
-        return;
-    }
-    let to = from + least(n, b.len() - from);
-    if to <= from {
+    let at = least(from, b.len());
+    let to = at + least(n, b.len() - at);
+    if to <= at {
         return say(b"empty");
     }
-    say_hex(&b[from..to])
+    say_hex(&b[at..to])
 }
 
 // A node, where it stands in the bit map.
@@ -159,8 +158,8 @@ fn freed(room: &[u8], len: usize) {
     versions(room, count)
 }
 
-fn refused(x: usize) {
-    say_one(b"refused %", x)
+fn refused(r: Refusal) {
+    say_one(b"refused %", r.number())
 }
 
 fn drawn(s: Measures, v: Version, len: usize) {
@@ -196,7 +195,7 @@ fn ends(x: usize) {
 
 fn by_client(s: Measures, a: ClientAnswer, room: &Room, out: &Page) {
     match a {
-        ClientAnswer::Refused(r) => refused(r.number()),
+        ClientAnswer::Refused(r) => refused(r),
         ClientAnswer::Waits => say(b"waits"),
         ClientAnswer::Scan => say(b"calls scan"),
         ClientAnswer::Update(n) => updates(n),
@@ -238,7 +237,7 @@ fn rows(len: usize) {
 
 fn by_server(e: Event, a: Service, room: &Room) {
     match a {
-        Service::Refused(r) => refused(r.number()),
+        Service::Refused(r) => refused(r),
         Service::Served(n) => match e {
             Event::Bring(_, _) => message(room, n),
             _ => rows(n),
@@ -246,10 +245,9 @@ fn by_server(e: Event, a: Service, room: &Room) {
     }
 }
 
-// What an event answered.
-pub fn happened(s: Measures, e: Event, what: Happened, room: &Room, out: &Page) {
+fn happened(s: Measures, e: Event, what: Happened, room: &Room, out: &Page) {
     match what {
-        Happened::Refused(r) => refused(r.number()),
+        Happened::Refused(r) => refused(r),
         Happened::Nothing => say(b"nothing under way"),
         Happened::Taken => say(b"taken by a liar"),
         Happened::ByClient(a) => by_client(s, a, room, out),
@@ -257,8 +255,8 @@ pub fn happened(s: Measures, e: Event, what: Happened, room: &Room, out: &Page) 
     }
 }
 
-// The front of its line.
-pub fn event(e: Event) {
+// The front of an event's line.
+fn front(e: Event) {
     match e {
         Event::Deposit(c, _) => say_one(b"deposit %: ", c),
         Event::Read(c) => say_one(b"read %: ", c),
@@ -270,12 +268,18 @@ pub fn event(e: Event) {
     }
 }
 
+pub fn event(s: Measures, e: Event, what: Happened, room: &Room, out: &Page) {
+    front(e);
+    happened(s, e, what, room, out);
+    say(b"\n")
+}
+
 // The measures, in front of a run's other lines.
 pub fn header(s: Measures) {
     say_all(b"AWE % % % % %\n", [s.m, s.n, s.k, s.t, s.f])
 }
 
-// The length and the piece at a place of a node's table, after the version.
+// The piece at a place of a node's table, after version and length.
 fn held(table: &[u8], from: usize)
     requires { ⌜ from ≤ 900000 ⌝ }
 {

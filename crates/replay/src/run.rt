@@ -46,22 +46,25 @@ pub fn start() -> Run {
     }
 }
 
-// Whether the program has memory for such measures.
-fn small(s: Measures) -> bool {
-    if 3 < s.m {
-        return false;
+// 0 for measures that pass, 2 where only the program has no memory for them.
+fn refusal(s: Measures) -> usize {
+    if !s.pass() {
+        return 1;
     }
-    s.f <= 64
+    if 3 < s.m {
+        return 2;
+    }
+    if 64 < s.f {
+        return 2;
+    }
+    0
 }
 
 // A run begins anew with each `config`.
 fn config(s: Measures, memory: &mut Memory) -> Run {
-    if !s.pass() {
-        say(b"config: refused 1\n");
-        return start();
-    }
-    if !small(s) {
-        say(b"config: refused 2\n");
+    let r = refusal(s);
+    if 0 < r {
+        say_one(b"config: refused %\n", r);
         return start();
     }
     fresh(s, memory);
@@ -114,24 +117,26 @@ fn show(s: Measures, i: usize, memory: &[u8]) {
     table(s, i, memory)
 }
 
-// Whether the event is none, and says why: only a liar lies, and the page has to have all bytes.
-fn wrong(liars: u16, e: Event, most: usize) -> bool {
+// Only a liar lies, and the page has to have all of the bytes.
+fn fits(liars: u16, e: Event, most: usize) -> bool {
     let Event::Lie(i, _, n) = e else {
-        return false;
+        return true;
     };
     if !has_node(liars, i) {
         say_one(b"error: node % is no liar\n", i);
-        return true;
+        return false;
     }
     if most <= n {
         say(b"error: too many bytes\n");
-        return true;
+        return false;
     }
-    false
+    true
 }
 
 fn happens(
-    x: Run,
+    s: Measures,
+    liars: u16,
+    used: usize,
     e: Event,
     memory: &mut Memory,
     room: &mut Room,
@@ -139,48 +144,44 @@ fn happens(
     post: &mut Post,
     page: &[u8],
 ) -> Turn {
-    let s = x.measures;
     match e {
         Event::Deposit(c, len) => {
             let n = least(len, page.len());
-            event::deposit(s, c, memory, &page[0..n], post, x.used)
+            event::deposit(s, c, memory, &page[0..n], post, used)
         }
-        Event::Read(c) => event::reading(s, c, memory, room, post, x.used),
-        Event::Carry(c) => event::carry(s, c, memory, room, post, x.used),
-        Event::Hand(c) => event::hand(s, c, memory, room, post, x.used),
-        Event::Bring(c, i) => event::bring(s, x.liars, c, i, memory, room, post, x.used),
-        Event::Deliver(i, c) => event::deliver(s, i, c, memory, room, out, post, x.used),
+        Event::Read(c) => event::reading(s, c, memory, room, post, used),
+        Event::Carry(c) => event::carry(s, c, memory, room, post, used),
+        Event::Hand(c) => event::hand(s, c, memory, room, post, used),
+        Event::Bring(c, i) => event::bring(s, liars, c, i, memory, room, post, used),
+        Event::Deliver(i, c) => event::deliver(s, i, c, memory, room, out, post, used),
         Event::Lie(i, c, len) => {
             let n = least(len, page.len());
-            event::lie(
-                s,
-                x.liars,
-                i,
-                c,
-                &page[0..n],
-                memory,
-                room,
-                out,
-                post,
-                x.used,
-            )
+            event::lie(s, liars, i, c, &page[0..n], memory, room, out, post, used)
         }
     }
 }
 
-// An event that does not fit is not carried out.
+// What the room and the page out hold is shown at once, so each event has its own.
 fn act(x: Run, e: Event, memory: &mut Memory, post: &mut Post, page: &Page) -> Run {
     let s = x.measures;
-    if wrong(x.liars, e, page.len()) {
+    if !fits(x.liars, e, page.len()) {
         return x;
     }
-    let mut room = [0u8; 6400];
-    let mut out = [0u8; 1100];
-    let t = happens(x, e, memory, &mut room, &mut out, post, page);
+    let mut room: Room = [0; 6400];
+    let mut out: Page = [0; 1100];
+    let t = happens(
+        s,
+        x.liars,
+        x.used,
+        e,
+        memory,
+        &mut room,
+        &mut out,
+        post,
+        page,
+    );
     let what = t.what;
-    report::event(e);
-    report::happened(s, e, what, &room, &out);
-    say(b"\n");
+    report::event(s, e, what, &room, &out);
     Run {
         stage: 2,
         measures: s,
@@ -189,33 +190,36 @@ fn act(x: Run, e: Event, memory: &mut Memory, post: &mut Post, page: &Page) -> R
     }
 }
 
-// A line of a run.
-fn later(x: Run, what: Command, memory: &mut Memory, post: &mut Post, page: &Page) -> Run {
-    let s = x.measures;
-    if x.stage == 0 {
-        say(b"error: config comes first\n");
-        return x;
-    }
+// Whether a run has to have begun.
+fn of_run(what: Command) -> bool {
     match what {
-        Command::Liar(i) => liar(x, i),
-        Command::Show(i) => {
-            show(s, i, memory);
-            x
-        }
-        Command::Event(e) => act(x, e, memory, post, page),
-        _ => x,
+        Command::Liar(_) => true,
+        Command::Show(_) => true,
+        Command::Event(_) => true,
+        _ => false,
     }
 }
 
+// A line of a script.
 pub fn line(x: Run, l: Line, memory: &mut Memory, post: &mut Post, page: &Page) -> Run {
+    let s = x.measures;
     let what = asked(l);
+    if x.stage == 0 && of_run(what) {
+        say(b"error: config comes first\n");
+        return x;
+    }
     match what {
         Command::Nothing => x,
         Command::Other => {
             say(b"error: not a line of a script\n");
             x
         }
-        Command::Config(s) => config(s, memory),
-        _ => later(x, what, memory, post, page),
+        Command::Config(new) => config(new, memory),
+        Command::Liar(i) => liar(x, i),
+        Command::Show(i) => {
+            show(s, i, memory);
+            x
+        }
+        Command::Event(e) => act(x, e, memory, post, page),
     }
 }

@@ -11,3 +11,6 @@ pub type Post = [u8; 262144];
 
 // A page has at most 1,020 bytes; a longer one must be told from it.
 pub type Page = [u8; 1100];
+
+// The bytes of a script that were read last.
+pub type Input = [u8; 4096];

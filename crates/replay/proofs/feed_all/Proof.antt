@@ -1,27 +1,29 @@
--- i stays within the input.
+-- No byte is past the input.
 use Prim.Native.Nat.{_-_, _≤_}
 use borrow.Author.Needs.{needs}
-use lib.ListN.{length}
 use Rattle.replay.proofs.feed_all.Statement.{statement}
 use Rattle.replay.proofs.feed_all.Tie as tie
 
 abbrev Inv-loop : tie.InvT-loop
-Inv-loop input memory₀ post₀ page₀ y₀ i₀ memory post page y i = i ≤ length input
+Inv-loop input n memory₀ post₀ page₀ y₀ end i₀ memory post page y i = end ≤ 4096
 
 abbrev μ-loop : tie.MeasureT-loop
-μ-loop input memory₀ post₀ page₀ y₀ i₀ memory post page y i = length input - i
+μ-loop input n memory₀ post₀ page₀ y₀ end i₀ memory post page y i = end - i
+
+least-requires : tie.Need-least-requires Inv-loop μ-loop
+least-requires c κs = search needs
 
 loop-holds : tie.Need-loop-holds Inv-loop μ-loop
 loop-holds c = search needs
 
-shared-slice-read-b : tie.Need-shared-slice-read-b Inv-loop μ-loop
-shared-slice-read-b c = search needs
-
-add-i : tie.Need-add-i Inv-loop μ-loop
-add-i c = search needs
+element-copy-out-feed : tie.Need-element-copy-out-feed Inv-loop μ-loop
+element-copy-out-feed c = search needs
 
 feed-requires : tie.Need-feed-requires Inv-loop μ-loop
 feed-requires c κs = search needs
+
+add-i : tie.Need-add-i Inv-loop μ-loop
+add-i c = search needs
 
 loop-less : tie.Need-loop-less Inv-loop μ-loop
 loop-less c = search needs
@@ -38,10 +40,11 @@ feed-all-spec =
     (tie.spec
     Inv-loop
     μ-loop
+    least-requires
     loop-holds
-    shared-slice-read-b
-    add-i
+    element-copy-out-feed
     feed-requires
+    add-i
     loop-less
     loop-again
     returns)
