@@ -4,9 +4,9 @@
     pieces.py FOLDER    writes FOLDER/stdin, the cases, and FOLDER/stdout, their lines
 
 Written from document 01 and, for what it leaves open, docs/DECISIONS.md (1, 3, 5, 6, 8): products by shifts and reduction modulo hex 11D, joining by
-Lagrange's form, no tables of powers and no grid. Its author had read the program `pieces_vectors`, for the form of its input and its lines, and
-not the code or the definitions that it calls. What they mean stands at the top of that program. A room or an output is at first `poison`; an
-absent piece has a length that no piece may have."""
+Lagrange's form, no tables of powers and no grid. The author of the account (the field, frames, `split`, `join`) had not read the code or the
+definitions of split and join; those who later wrote the cases as input, and the form of the lines, had. What input and lines mean stands at the
+top of `pieces_vectors`. A room or an output is at first `poison`; an absent piece has a length that no piece may have."""
 import sys
 
 
