@@ -7,7 +7,7 @@ use crate::records::version::version_at;
 ghost use mathlib.Core.Path.{_≡_};
 ghost use Prim.Native.Nat.{_+_, _*_, _≤_};
 ghost use lib.ListN.{length};
-ghost use Rattle.parties.specs.protocol.Version.{none};
+ghost use Rattle.parties.specs.protocol.Version.{noVersion};
 ghost use Rattle.parties.specs.node.ToNode.{listedFrom, storeSound, freeSound};
 
 // A version, then a piece of 1 to F bytes.
@@ -27,7 +27,7 @@ pub fn store_sound(s: Measures, b: &[u8]) -> bool
 // Versions, each above the one before.
 fn list_sound(s: Measures, b: &[u8], count: usize) -> bool
     requires { ⌜ 1 + count * 5 ≤ length (now b) ⌝ }
-    ensures { λ r. ⌜ r ≡ listedFrom s (now (b .entry)) none 1 count ⌝ }
+    ensures { λ r. ⌜ r ≡ listedFrom s (now (b .entry)) noVersion 1 count ⌝ }
 {
     let mut previous = Version {
         sequence: Sequence(0),

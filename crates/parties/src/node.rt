@@ -21,7 +21,7 @@ ghost use mathlib.Core.List.{_∷_};
 ghost use Prim.Native.Nat.{_+_, _-_, _*_, _/_, _<_, _≤_};
 ghost use lib.ListN.{length, getD, take, drop};
 ghost use Rattle.parties.specs.protocol.Measures.{passes, places, placeSize};
-ghost use Rattle.parties.specs.protocol.Version.{none};
+ghost use Rattle.parties.specs.protocol.Version.{noVersion};
 ghost use Rattle.parties.specs.protocol.NodeEvents.{nodeFresh, nodeMessage, tableSize};
 ghost use Rattle.parties.specs.Answer.{served};
 ghost use Rattle.parties.specs.records.Places.{numberAt, soundAt, soundFrom, soundTable, rank, standsAt, splice, placeOf, versionAlone};
@@ -62,7 +62,7 @@ fn place_sound(s: Measures, t: &[u8], at: usize) -> bool
 // The filled places, each with a version above the one before.
 fn places_sound(s: Measures, t: &[u8], count: usize) -> bool
     requires { ⌜ 2 + count * placeSize s ≤ length (now t) ⌝ }
-    ensures { λ r. ⌜ r ≡ soundFrom s (now (t .entry)) none 2 count ⌝ }
+    ensures { λ r. ⌜ r ≡ soundFrom s (now (t .entry)) noVersion 2 count ⌝ }
 {
     let mut previous = Version {
         sequence: Sequence(0),

@@ -14,7 +14,7 @@ use Rattle.parties.specs.declared.Measures.{Measures}
 use Rattle.parties.specs.declared.ReadingIndex.{ReadingIndex}
 use Rattle.parties.specs.protocol.Format.{Read, readNumber, writeNumber, writeMany, writeArea}
 use Rattle.parties.specs.protocol.Measures.{passes, pointerSize}
-use Rattle.parties.specs.protocol.Version.{none as noVersion}
+use Rattle.parties.specs.protocol.Version.{noVersion}
 use Rattle.parties.specs.protocol.Pointer.{Pointer, nonePointer, writePointer, writeVersion}
 use Rattle.parties.specs.protocol.Directory.{writeIndex}
 use Rattle.parties.specs.protocol.Client.{Phase as Work, step as stepOf, Client, writeWork, workSize, writeRetained, retained, readClient, writeClient, Retained}

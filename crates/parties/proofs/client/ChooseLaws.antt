@@ -255,13 +255,13 @@ either false true r P h f g = g refl
 either false false r P h f g = absurd (omega (arith, ap (λ (x : Bool). cond {A = ℕ} x 1 0) h))
 
 -- none is below all others
-none-lowest : (s : Measures) (p : Pointer) → GoodPointer s p → version.below (p .version) version.none ≡ false
+none-lowest : (s : Measures) (p : Pointer) → GoodPointer s p → version.below (p .version) version.noVersion ≡ false
 unfolding properPointer
 none-lowest s p g =
     let q = p .version .sequence .0 in
     let c = p .version .client in
     either (isNone p) (leb 1 q) (ltb c (s .m) && (eqb (length (nodesIn (p .named .nodes))) (s .t + s .k) && ltb (p .named .nodes) (2 ^ s .n)))
-    (version.below (p .version) version.none ≡ false) (g .1)
+    (version.below (p .version) version.noVersion ≡ false) (g .1)
     (λ e.
     let x = and-true (eqb q 0) (eqb c 255 && eqb (p .named .nodes) 0) e in
     let y = and-true (eqb c 255) (eqb (p .named .nodes) 0) (x .1) in

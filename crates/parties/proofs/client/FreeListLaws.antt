@@ -18,7 +18,7 @@ use Rattle.parties.specs.declared.Measures.{Measures}
 use Rattle.parties.specs.declared.Version.{Version}
 use Rattle.parties.specs.protocol.Format.{writeMany, writeArea}
 use Rattle.parties.specs.protocol.Measures.{passes, pointerSize}
-use Rattle.parties.specs.protocol.Version.{below, none}
+use Rattle.parties.specs.protocol.Version.{below, noVersion}
 use Rattle.parties.specs.protocol.Nodes.{stands}
 use Rattle.parties.specs.protocol.Pointer.{Pointer, nonePointer, writeVersion, writeNamed, writePointer}
 use Rattle.parties.specs.protocol.Node.{listed}
@@ -76,17 +76,17 @@ module _ (s : Measures) (area : List ℕ) (b : Bytes area) (h : Holds s area) wh
     frozen-good : GoodPointer s (getD (held .frozen) q nonePointer)
     frozen-good = each-at (GoodPointer s) nonePointer (held .frozen) (there .good .frozen .0) q (omega (arith, there .good .frozen .1))
 
-    reserved-good : GoodVersion (getD (held .reserved) q none)
-    reserved-good = each-at (GoodReserved s) none (held .reserved) (there .good .reserved .0) q (omega (arith, there .good .reserved .1)) .0
+    reserved-good : GoodVersion (getD (held .reserved) q noVersion)
+    reserved-good = each-at (GoodReserved s) noVersion (held .reserved) (there .good .reserved .0) q (omega (arith, there .good .reserved .1)) .0
 
     pub frozen-there : (at : ℕ) → at ≡ (q + 1) * pointerSize s → (at + 5 ≤ length area) × (versionAt area at ≡ getD (held .frozen) q nonePointer .version)
     frozen-there at e =
         pointer-there s area at (getD (held .frozen) q nonePointer) frozen-good
         (ap (λ (k : ℕ). take (pointerSize s) (drop k area)) e ∙ frozen-part s area (keeper held) (drop (workAt s) area) there q l)
 
-    pub reserved-there : (at : ℕ) → at ≡ (s .m + 1) * pointerSize s + 5 * q → (at + 5 ≤ length area) × (versionAt area at ≡ getD (held .reserved) q none)
+    pub reserved-there : (at : ℕ) → at ≡ (s .m + 1) * pointerSize s + 5 * q → (at + 5 ≤ length area) × (versionAt area at ≡ getD (held .reserved) q noVersion)
     reserved-there at e =
-        version-there area at (getD (held .reserved) q none) (drop 5 (drop at area)) reserved-good
+        version-there area at (getD (held .reserved) q noVersion) (drop 5 (drop at area)) reserved-good
         (sym (take-append-drop 5 (drop at area))
         ∙ ap (λ (x : List ℕ). x ++ drop 5 (drop at area))
         (ap (λ (k : ℕ). take 5 (drop k area)) e ∙ reserved-part s area (keeper held) (drop (workAt s) area) there q l))
@@ -98,7 +98,7 @@ module _ (s : Measures) (area : List ℕ) (b : Bytes area) (h : Holds s area) wh
   replaced-good map (suc q) l = go (stands map (q + 1)) (replaced-good map q (omega arith))
     where
       go : (c : Bool) → Each GoodVersion (replacedBy map held q)
-          → Each GoodVersion (cond c (getD (held .frozen) q nonePointer .version ∷ getD (held .reserved) q none ∷ replacedBy map held q) (replacedBy map held q))
+          → Each GoodVersion (cond c (getD (held .frozen) q nonePointer .version ∷ getD (held .reserved) q noVersion ∷ replacedBy map held q) (replacedBy map held q))
       go true e = (frozen-good q (omega arith) .0 .0, (reserved-good q (omega arith), e))
       go false e = e
 
@@ -127,15 +127,15 @@ module _ (v : Version) where
 
   -- of the first q clients none keeps v
   pub record Clear (f g : ℕ → Version) (q : ℕ) : Type 0 where
-    pub other : listed v (none ∷ []) ≡ false
+    pub other : listed v (noVersion ∷ []) ≡ false
     pub frozen : listed v (tabulate q f) ≡ false
     pub reserved : listed v (tabulate q g) ≡ false
 
-  pub clear-none : (f g : ℕ → Version) → sameVersion v none ≡ false → Clear f g 0
+  pub clear-none : (f g : ℕ → Version) → sameVersion v noVersion ≡ false → Clear f g 0
   unfolding listed
   clear-none f g e =
       record {
-        other = sym (same-listed v none) ∙ e;
+        other = sym (same-listed v noVersion) ∙ e;
         frozen = ap (listed v) (tabulate-none f);
         reserved = ap (listed v) (tabulate-none g);
       }
@@ -156,18 +156,18 @@ module _ (v : Version) where
 
   module _ (s : Measures) (map : ℕ) (x : Retained) (new : Version) where
     abbrev stayed : Bool
-    stayed = listed v (none ∷ keptVersions s map x new)
+    stayed = listed v (noVersion ∷ keptVersions s map x new)
 
-    parts : stayed ≡ (listed v (none ∷ []) || (listed v (tabulate (s .m) (frozenNow map x new)) || listed v (tabulate (s .m) (reservedNow map x))))
+    parts : stayed ≡ (listed v (noVersion ∷ []) || (listed v (tabulate (s .m) (frozenNow map x new)) || listed v (tabulate (s .m) (reservedNow map x))))
     unfolding keptVersions
     parts =
-        listed-append v (none ∷ []) (keptVersions s map x new)
-        ∙ ap (λ (b : Bool). listed v (none ∷ []) || b) (listed-append v (tabulate (s .m) (frozenNow map x new)) (tabulate (s .m) (reservedNow map x)))
+        listed-append v (noVersion ∷ []) (keptVersions s map x new)
+        ∙ ap (λ (b : Bool). listed v (noVersion ∷ []) || b) (listed-append v (tabulate (s .m) (frozenNow map x new)) (tabulate (s .m) (reservedNow map x)))
 
-    pub stays-none : sameVersion v none ≡ true → true ≡ stayed
+    pub stays-none : sameVersion v noVersion ≡ true → true ≡ stayed
     stays-none e =
         sym (parts ∙ ap (λ (b : Bool). b || (listed v (tabulate (s .m) (frozenNow map x new)) || listed v (tabulate (s .m) (reservedNow map x))))
-        (sym (same-listed v none) ∙ e))
+        (sym (same-listed v noVersion) ∙ e))
 
     pub stays-found : (q : ℕ) → q < s .m → Clear (frozenNow map x new) (reservedNow map x) q
         → (listed v (frozenNow map x new q ∷ []) || listed v (reservedNow map x q ∷ [])) ≡ true → true ≡ stayed
@@ -212,7 +212,7 @@ insert-good g v (w ∷ l) h e = go (below v w) (below w v) (insert-good g v l h 
 free-good : (g : Version → Type 0) (k l : List Version) → Each g l → Each g (freeList k l)
 unfolding freeList
 free-good g k [] e = tt
-free-good g k (v ∷ l) e = go (listed v (none ∷ k)) (free-good g k l (e .1))
+free-good g k (v ∷ l) e = go (listed v (noVersion ∷ k)) (free-good g k l (e .1))
   where
     go : (a : Bool) → Each g (freeList k l) → Each g (cond a (freeList k l) (insert v (freeList k l)))
     go true i = i
@@ -416,9 +416,9 @@ listing-more first l n room v r u g h x a =
     }
 
 listing-step : (first : List ℕ) (kept l : List Version) (n : ℕ) (room : List ℕ) (v : Version) (r : ℕ) (u : List ℕ) → Each GoodVersion l → GoodVersion v
-    → Listing first (freeList kept l) n room → Adds (listed v (none ∷ kept)) v n room r u → Listing first (freeList kept (v ∷ l)) r u
+    → Listing first (freeList kept l) n room → Adds (listed v (noVersion ∷ kept)) v n room r u → Listing first (freeList kept (v ∷ l)) r u
 unfolding freeList
-listing-step first kept l n room v r u g h x a = go (listed v (none ∷ kept)) a
+listing-step first kept l n room v r u g h x a = go (listed v (noVersion ∷ kept)) a
   where
     go : (b : Bool) → Adds b v n room r u → Listing first (cond b (freeList kept l) (insert v (freeList kept l))) r u
     go true c = subst (λ (k : ℕ). Listing first (freeList kept l) k u) (sym (c .0)) (subst (Listing first (freeList kept l) n) (sym (c .1)) x)
@@ -432,15 +432,15 @@ module _ (s : Measures) (area : List ℕ) (b : Bytes area) (h : Holds s area) (m
   kepts = keptVersions s map mine new
 
   pub started : (room : List ℕ) → 6 ≤ length room → (r : ℕ) (u : List ℕ) (v : Version) → v ≡ mine .written .version
-      → Adds (listed v (none ∷ kepts)) v 0 (set room 0 3) r u → Listing room (freedUpTo s map mine new 0) r u
+      → Adds (listed v (noVersion ∷ kepts)) v 0 (set room 0 3) r u → Listing room (freedUpTo s map mine new 0) r u
   unfolding replacedBy freeList
   started room l r u v e a =
       listing-step room kepts [] 0 (set room 0 3) (mine .written .version) r u tt (replaced-good s area b h map 0 (omega arith) .0) (listing-none room l)
-      (subst (λ (w : Version). Adds (listed w (none ∷ kepts)) w 0 (set room 0 3) r u) e a)
+      (subst (λ (w : Version). Adds (listed w (noVersion ∷ kepts)) w 0 (set room 0 3) r u) e a)
 
   module _ (q : ℕ) (l : q < s .m) where
     next : replacedBy map mine (q + 1)
-        ≡ cond (stands map (q + 1)) (getD (mine .frozen) q nonePointer .version ∷ getD (mine .reserved) q none ∷ replacedBy map mine q) (replacedBy map mine q)
+        ≡ cond (stands map (q + 1)) (getD (mine .frozen) q nonePointer .version ∷ getD (mine .reserved) q noVersion ∷ replacedBy map mine q) (replacedBy map mine q)
     unfolding replacedBy
     next = let e : q + 1 ≡ suc q = omega arith in ap (replacedBy map mine) e
 
@@ -448,23 +448,23 @@ module _ (s : Measures) (area : List ℕ) (b : Bytes area) (h : Holds s area) (m
         → Listing first (freedUpTo s map mine new q) n t → Listing first (freedUpTo s map mine new (q + 1)) n t
     skipped e first n t x =
         subst (λ (k : List Version). Listing first (freeList kepts k) n t)
-        (sym (next ∙ ap (λ (c : Bool). cond c (getD (mine .frozen) q nonePointer .version ∷ getD (mine .reserved) q none ∷ replacedBy map mine q) (replacedBy map mine q)) e)) x
+        (sym (next ∙ ap (λ (c : Bool). cond c (getD (mine .frozen) q nonePointer .version ∷ getD (mine .reserved) q noVersion ∷ replacedBy map mine q) (replacedBy map mine q)) e)) x
 
     pub client-freed : stands map (q + 1) ≡ true → (first : List ℕ) (n : ℕ) (t : List ℕ) (m : ℕ) (t1 : List ℕ) (r : ℕ) (u : List ℕ) (v w : Version)
-        → v ≡ getD (mine .reserved) q none → w ≡ getD (mine .frozen) q nonePointer .version
-        → Adds (listed v (none ∷ kepts)) v n t m t1 → Adds (listed w (none ∷ kepts)) w m t1 r u
+        → v ≡ getD (mine .reserved) q noVersion → w ≡ getD (mine .frozen) q nonePointer .version
+        → Adds (listed v (noVersion ∷ kepts)) v n t m t1 → Adds (listed w (noVersion ∷ kepts)) w m t1 r u
         → Listing first (freedUpTo s map mine new q) n t → Listing first (freedUpTo s map mine new (q + 1)) r u
     client-freed e first n t m t1 r u v w ev ew a c x =
         let k = replacedBy map mine q in
-        let v' = getD (mine .reserved) q none in
+        let v' = getD (mine .reserved) q noVersion in
         let w' = getD (mine .frozen) q nonePointer .version in
         let g = replaced-good s area b h map q (omega arith) in
         let gv = reserved-good s area b h q l in
-        let y = listing-step first kepts k n t v' m t1 g gv x (subst (λ (z : Version). Adds (listed z (none ∷ kepts)) z n t m t1) ev a) in
+        let y = listing-step first kepts k n t v' m t1 g gv x (subst (λ (z : Version). Adds (listed z (noVersion ∷ kepts)) z n t m t1) ev a) in
         subst (λ (i : List Version). Listing first (freeList kepts i) r u)
         (sym (next ∙ ap (λ (d : Bool). cond d (w' ∷ v' ∷ k) k) e))
         (listing-step first kepts (v' ∷ k) m t1 w' r u (gv, g) (frozen-good s area b h q l .0 .0) y
-        (subst (λ (z : Version). Adds (listed z (none ∷ kepts)) z m t1 r u) ew c))
+        (subst (λ (z : Version). Adds (listed z (noVersion ∷ kepts)) z m t1 r u) ew c))
 
 -- ---- sizes
 
@@ -474,7 +474,7 @@ replaced-few map x zero = omega arith
 replaced-few map x (suc q) = go (stands map (q + 1)) (replaced-few map x q)
   where
     go : (c : Bool) → length (replacedBy map x q) ≤ 2 * q + 1
-        → length (cond c (getD (x .frozen) q nonePointer .version ∷ getD (x .reserved) q none ∷ replacedBy map x q) (replacedBy map x q)) ≤ 2 * suc q + 1
+        → length (cond c (getD (x .frozen) q nonePointer .version ∷ getD (x .reserved) q noVersion ∷ replacedBy map x q) (replacedBy map x q)) ≤ 2 * suc q + 1
     go true e = omega arith
     go false e = omega arith
 

@@ -13,7 +13,7 @@ use Rattle.parties.specs.declared.Version.{Version}
 use Rattle.parties.specs.protocol.Format.{Read}
 use Rattle.parties.specs.protocol.Measures.{passes}
 use Rattle.parties.specs.protocol.Nodes.{stands}
-use Rattle.parties.specs.protocol.Version.{none as noVersion}
+use Rattle.parties.specs.protocol.Version.{noVersion}
 use Rattle.parties.specs.protocol.Pointer.{Pointer, nonePointer, isNone, writeVersion, writeNamed, writePointer}
 use Rattle.parties.specs.protocol.Directory.{Row, noRow, readDirectory}
 use Rattle.parties.specs.protocol.Message.{ToNode, writeToNode}

@@ -11,7 +11,7 @@ use lib.Seq.{take-all, paste}
 use Rattle.parties.specs.declared.Measures.{Measures}
 use Rattle.parties.specs.protocol.Format.{writeNumber, writeMany, writeArea}
 use Rattle.parties.specs.protocol.Measures.{passes, pointerSize}
-use Rattle.parties.specs.protocol.Version.{none}
+use Rattle.parties.specs.protocol.Version.{noVersion}
 use Rattle.parties.specs.protocol.Pointer.{nonePointer, writeVersion, writeNamed, writePointer}
 use Rattle.parties.specs.protocol.Directory.{writeIndex}
 use Rattle.parties.specs.protocol.Answer.{refused, waits}
@@ -101,7 +101,7 @@ unfolding writeArea writePointer writeVersion writeNamed writeNumber writeMany
 none-area s =
     let e : pointerSize s - 5 ≡ suc (suc (pointerSize s - 7)) = omega arith in ap (λ (n : ℕ). 0 ∷ 0 ∷ 0 ∷ 0 ∷ 255 ∷ replicate n 0) (sym e)
 
-none-version : writeVersion none ≡ block 5
+none-version : writeVersion noVersion ≡ block 5
 unfolding writeVersion writeNumber
 none-version = refl
 
@@ -168,7 +168,7 @@ module _ (s : Measures) (p : Phase) (area : List ℕ) where
         let e : suc (s .m) ≡ s .m + 1 = omega arith in
         (λ i. none-area s i
         ++ (many-same (writeArea (pointerSize s) writePointer) nonePointer (block (pointerSize s)) (none-area s) (s .m) i
-        ++ (many-same writeVersion none (block 5) none-version (s .m) i ++ many-zeros writeIndex (record { 0 = 0 }) 4 index-bytes (s .m) i)))
+        ++ (many-same writeVersion noVersion (block 5) none-version (s .m) i ++ many-zeros writeIndex (record { 0 = 0 }) 4 index-bytes (s .m) i)))
         ∙ sym (append-assoc (block (pointerSize s)) (blocks (pointerSize s) (s .m)) (blocks 5 (s .m) ++ replicate (s .m * 4) 0))
         ∙ ap (λ (n : ℕ). blocks (pointerSize s) n ++ (blocks 5 (s .m) ++ replicate (s .m * 4) 0)) e
 

@@ -14,7 +14,7 @@ use Rattle.parties.specs.declared.ReadingIndex.{ReadingIndex}
 use Rattle.parties.specs.declared.Version.{Version}
 use Rattle.parties.specs.protocol.Format.{writeNumber, writeMany, writeArea}
 use Rattle.parties.specs.protocol.Measures.{passes, pointerSize}
-use Rattle.parties.specs.protocol.Version.{none as noVersion}
+use Rattle.parties.specs.protocol.Version.{noVersion}
 use Rattle.parties.specs.protocol.Nodes.{stands}
 use Rattle.parties.specs.protocol.Pointer.{Pointer, nonePointer, writePointer, writeVersion}
 use Rattle.parties.specs.protocol.Directory.{Row, noRow, writeIndex}

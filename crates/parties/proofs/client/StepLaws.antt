@@ -4,7 +4,7 @@ use mathlib.Core.Bool.{false, cond}
 use mathlib.Core.List.{[]}
 use Prim.Native.Nat.{ℕ}
 use lib.Dec.{eqb}
-use Rattle.parties.specs.protocol.Version.{none}
+use Rattle.parties.specs.protocol.Version.{noVersion}
 use Rattle.parties.specs.protocol.Pointer.{nonePointer}
 use Rattle.parties.specs.protocol.Client.{Phase as Work, step as stepOf, Stores, Fetches}
 use Rattle.parties.specs.protocol.ClientEvents.{isIdle}
@@ -13,7 +13,7 @@ use Rattle.parties.specs.client.Freeze.{newPointer}
 
 -- what a deposit stores
 abbrev noStores : Stores
-noStores = record { version = none; acknowledged = 0; digests = [] }
+noStores = record { version = noVersion; acknowledged = 0; digests = [] }
 
 abbrev pub storesOf : Work → Stores
 storesOf Work.idle = noStores

@@ -80,9 +80,9 @@ module _ (s : Measures) (t : List ℕ) (h : 2 + places s * placeSize s ≤ lengt
   unfolding soundTable
   table-few = leb-true (numberAt t 0) (places s) (and-true (leb (numberAt t 0) (places s)) _ q .0)
 
-  table-from : soundFrom s t version.none 2 (numberAt t 0) ≡ true
+  table-from : soundFrom s t version.noVersion 2 (numberAt t 0) ≡ true
   unfolding soundTable
-  table-from = and-true (soundFrom s t version.none 2 (numberAt t 0)) _ (and-true (leb (numberAt t 0) (places s)) _ q .1) .0
+  table-from = and-true (soundFrom s t version.noVersion 2 (numberAt t 0)) _ (and-true (leb (numberAt t 0) (places s)) _ q .1) .0
 
   pub table-each : every (soundAt s t) (placeSize s) 2 (numberAt t 0) ≡ true
   table-each = and-true (every (soundAt s t) (placeSize s) 2 (numberAt t 0)) _ (sym (sound-ordered s t 2 (numberAt t 0)) ∙ table-from) .0

@@ -28,7 +28,7 @@ module _ (s : Measures) (t : List ℕ) where
   unfolding soundAt
   sound-sequence at e = leb-true 1 (versionAt t at .sequence .0) (and-true (leb 1 (versionAt t at .sequence .0)) _ (and-true _ _ e .0) .0)
 
-  pub sound-ordered : (at n : ℕ) → soundFrom s t version.none at n ≡ (every (soundAt s t) (placeSize s) at n && inOrder (heldFrom (placeSize s) t at n))
+  pub sound-ordered : (at n : ℕ) → soundFrom s t version.noVersion at n ≡ (every (soundAt s t) (placeSize s) at n && inOrder (heldFrom (placeSize s) t at n))
   sound-ordered at n =
       ordered-all (soundAt s t) (versionAt t) (placeSize s) sound-sequence at n
       ∙ ap (λ (l : List Version). every (soundAt s t) (placeSize s) at n && ascending l) (sym (from-map (λ h. h .version) (heldAt t) (placeSize s) at n))
@@ -36,11 +36,11 @@ module _ (s : Measures) (t : List ℕ) where
   -- the filled places
   pub places-read : (n : ℕ) → 2 + n * placeSize s ≤ length t
       → readPlaces s n (drop 2 t)
-      ≡ cond (soundFrom s t version.none 2 n) (some (record { value = heldFrom (placeSize s) t 2 n; rest = drop (2 + n * placeSize s) t })) none
+      ≡ cond (soundFrom s t version.noVersion 2 n) (some (record { value = heldFrom (placeSize s) t 2 n; rest = drop (2 + n * placeSize s) t })) none
   unfolding readPlaces
   places-read n h =
       given-read (readArea (placeSize s) (readHeld s) writeHeld) t (placeSize s) (soundAt s t) (heldAt t) (place-read s t) inOrder 2 n h
-      (soundFrom s t version.none 2 n) (sound-ordered 2 n)
+      (soundFrom s t version.noVersion 2 n) (sound-ordered 2 n)
 
   count-read : 2 + places s * placeSize s ≤ length t → readNumber 2 t ≡ some (record { value = numberAt t 0; rest = drop 2 t })
   count-read h = read-number t 0 (omega arith)
@@ -82,7 +82,7 @@ module _ (s : Measures) (t : List ℕ) where
           → bind (check (leb n (places s)) n (drop 2 t))
           (λ k u. bind (bind (readPlaces s k u) (λ x v. bind (readZeros ((places s - k) * placeSize s) v) (λ y w. some (record { value = x; rest = w }))))
           (λ x v. some (record { value = x; rest = v })))
-          ≡ cond (leb n (places s) && (soundFrom s t version.none 2 n && z)) (some (record { value = l; rest = drop (2 + places s * placeSize s) t })) none
+          ≡ cond (leb n (places s) && (soundFrom s t version.noVersion 2 n && z)) (some (record { value = l; rest = drop (2 + places s * placeSize s) t })) none
       go (no q) = rw (lt-leb n (places s) (omega arith)) refl
       go (yes q) =
           let a : places s * placeSize s ≡ n * placeSize s + (places s - n) * placeSize s =
@@ -93,7 +93,7 @@ module _ (s : Measures) (t : List ℕ) where
           (filled
           (zeros-read t (2 + n * placeSize s) ((places s - n) * placeSize s) (omega arith)
           ∙ ap (λ (k : ℕ). cond z (some (record { value = tt {0}; rest = drop k t })) none) e)
-          (soundFrom s t version.none 2 n))
+          (soundFrom s t version.noVersion 2 n))
 
 -- the ways out of a table's test
 module _ (s : Measures) (t : List ℕ) (n : ℕ) (e : n ≡ numberAt t 0) where
@@ -101,11 +101,11 @@ module _ (s : Measures) (t : List ℕ) (n : ℕ) (e : n ≡ numberAt t 0) where
   unfolding soundTable
   table-many h = rw (← e) (sym (simp (lt-leb n (places s) h)))
 
-  pub table-broken : n ≤ places s → soundFrom s t version.none 2 n ≡ false → false ≡ soundTable s t
+  pub table-broken : n ≤ places s → soundFrom s t version.noVersion 2 n ≡ false → false ≡ soundTable s t
   unfolding soundTable
   table-broken h a = rw (← e) (sym (simp (le-leb n (places s) h, a)))
 
-  pub table-rest : n ≤ places s → soundFrom s t version.none 2 n ≡ true
+  pub table-rest : n ≤ places s → soundFrom s t version.noVersion 2 n ≡ true
       → (r : Bool) → r ≡ zeroRun t (2 + n * placeSize s) (2 + places s * placeSize s - (2 + n * placeSize s)) → r ≡ soundTable s t
   unfolding soundTable
   table-rest h a r z =

@@ -176,10 +176,10 @@ module _ (s : Measures) where
           rw (
             count,
             given-read (readProper s) b 5 (properAt s b) (versionAt b) (proper-read s b) ascending 1 n (omega arith)
-                (listedFrom s b version.none 1 n) (ordered-all (properAt s b) (versionAt b) 5 (proper-sequence s b) 1 n),
+                (listedFrom s b version.noVersion 1 n) (ordered-all (properAt s b) (versionAt b) 5 (proper-sequence s b) 1 n),
             left,
           )
-          (whole-of (listedFrom s b version.none 1 n) (versionsFrom b 1 n) (drop (1 + n * 5) b) ToNode.free)
+          (whole-of (listedFrom s b version.noVersion 1 n) (versionsFrom b 1 n) (drop (1 + n * 5) b) ToNode.free)
 
   pub tag-other : (b : List ℕ) → 1 ≤ length b → (getD b 0 0 ≡ 1 → ⊥) → (getD b 0 0 ≡ 2 → ⊥) → (getD b 0 0 ≡ 3 → ⊥) → readToNode s b ≡ none
   unfolding readToNode
@@ -210,7 +210,7 @@ module _ (s : Measures) (b : List ℕ) where
   unfolding freeSound
   free-length h = sym (simp (ne-eqb ((length b - 1) % 5) 0 h))
 
-  pub free-versions : (length b - 1) % 5 ≡ 0 → listedFrom s b version.none 1 ((length b - 1) / 5) ≡ freeSound s b
+  pub free-versions : (length b - 1) % 5 ≡ 0 → listedFrom s b version.noVersion 1 ((length b - 1) / 5) ≡ freeSound s b
   unfolding freeSound
   free-versions h = sym (simp (eq-eqb ((length b - 1) % 5) 0 h))
 

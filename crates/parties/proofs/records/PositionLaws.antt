@@ -124,10 +124,10 @@ module _ (test : ℕ → Bool) (v : ℕ → Version) (z : ℕ) where
 
   -- below the first stands none
   pub ordered-all : ((at : ℕ) → test at ≡ true → 1 ≤ v at .sequence .0) → (at n : ℕ)
-      → ordered test v z version.none at n ≡ (every test z at n && ascending (from v z at n))
+      → ordered test v z version.noVersion at n ≡ (every test z at n && ascending (from v z at n))
   unfolding every from ascending
-  ordered-all h at zero = ordered-passes version.none at zero
-  ordered-all h at (suc n) = ordered-passes version.none at (suc n) ∙ go (test at) refl
+  ordered-all h at zero = ordered-passes version.noVersion at zero
+  ordered-all h at (suc n) = ordered-passes version.noVersion at (suc n) ∙ go (test at) refl
     where
       rest : Bool
       rest = every test z (at + z) n
@@ -135,7 +135,7 @@ module _ (test : ℕ → Bool) (v : ℕ → Version) (z : ℕ) where
       order : Bool
       order = ascending (v at ∷ from v z (at + z) n)
 
-      go : (b : Bool) → test at ≡ b → ((b && rest) && (below version.none (v at) && order)) ≡ ((b && rest) && order)
+      go : (b : Bool) → test at ≡ b → ((b && rest) && (below version.noVersion (v at) && order)) ≡ ((b && rest) && order)
       go false e = refl
       go true e = ap (λ (b : Bool). rest && (b && order)) (none-below (v at) (h at e))
 

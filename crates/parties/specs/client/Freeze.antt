@@ -7,7 +7,7 @@ use lib.ListN.{getD}
 use Rattle.coding.specs.Bytes.{tabulate}
 use Rattle.parties.specs.declared.Measures.{Measures}
 use Rattle.parties.specs.declared.Version.{Version}
-use Rattle.parties.specs.protocol.Version.{none}
+use Rattle.parties.specs.protocol.Version.{noVersion}
 use Rattle.parties.specs.protocol.Nodes.{stands}
 use Rattle.parties.specs.protocol.Pointer.{Pointer, nonePointer}
 use Rattle.parties.specs.protocol.Directory.{Row, noRow, readDirectory}
@@ -25,7 +25,7 @@ abbrev pub frozenNow : ℕ → Retained → Version → ℕ → Version
 frozenNow map x v q = cond (stands map (q + 1)) v (getD (x .frozen) q nonePointer .version)
 
 abbrev pub reservedNow : ℕ → Retained → ℕ → Version
-reservedNow map x q = cond (stands map (q + 1)) (x .written .version) (getD (x .reserved) q none)
+reservedNow map x q = cond (stands map (q + 1)) (x .written .version) (getD (x .reserved) q noVersion)
 
 -- what is retained after it: with the new pointer, and the indices that the rows show
 unfoldable pub retainedAfter : Measures → ℕ → Retained → List Row → Pointer → Retained
@@ -45,7 +45,7 @@ keptVersions s map x v = tabulate (s .m) (frozenNow map x v) ++ tabulate (s .m) 
 unfoldable pub replacedBy : ℕ → Retained → ℕ → List Version
 replacedBy map x zero = x .written .version ∷ []
 replacedBy map x (suc q) =
-    cond (stands map (q + 1)) (getD (x .frozen) q nonePointer .version ∷ getD (x .reserved) q none ∷ replacedBy map x q) (replacedBy map x q)
+    cond (stands map (q + 1)) (getD (x .frozen) q nonePointer .version ∷ getD (x .reserved) q noVersion ∷ replacedBy map x q) (replacedBy map x q)
 
 abbrev pub freedBy : Measures → ℕ → Retained → Version → List Version
 freedBy s map x v = freeList (keptVersions s map x v) (replacedBy map x (s .m))

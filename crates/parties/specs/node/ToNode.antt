@@ -6,7 +6,7 @@ use lib.Dec.{leb, eqb}
 use lib.ListN.{length}
 use Rattle.parties.specs.declared.Measures.{Measures}
 use Rattle.parties.specs.declared.Version.{Version}
-use Rattle.parties.specs.protocol.Version.{none}
+use Rattle.parties.specs.protocol.Version.{noVersion}
 use Rattle.parties.specs.records.Places.{versionAt, properAt, from, ordered}
 
 -- the versions listed at n positions, and their form
@@ -21,4 +21,4 @@ unfoldable pub storeSound : Measures → List ℕ → Bool
 storeSound s b = (leb 7 (length b) && leb (length b) (6 + s .f)) && properAt s b 1
 
 unfoldable pub freeSound : Measures → List ℕ → Bool
-freeSound s b = eqb ((length b - 1) % 5) 0 && listedFrom s b none 1 ((length b - 1) / 5)
+freeSound s b = eqb ((length b - 1) % 5) 0 && listedFrom s b noVersion 1 ((length b - 1) / 5)

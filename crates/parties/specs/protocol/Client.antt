@@ -9,7 +9,7 @@ use Rattle.parties.specs.declared.ReadingIndex.{ReadingIndex}
 use Rattle.parties.specs.declared.Version.{Version}
 use Rattle.parties.specs.protocol.Format.{Reader, both, given, mapped, readNothing, readNumber, writeNumber, readBytes, readMany, writeMany, readEach, readArea, writeArea, readNone}
 use Rattle.parties.specs.protocol.Measures.{pointerSize}
-use Rattle.parties.specs.protocol.Version.{none}
+use Rattle.parties.specs.protocol.Version.{noVersion}
 use Rattle.parties.specs.protocol.Nodes.{count}
 use Rattle.parties.specs.protocol.Pointer.{Pointer, nonePointer, isNone, readPointer, writePointer, readVersion, writeVersion}
 use Rattle.parties.specs.protocol.Directory.{readIndex, writeIndex}
@@ -197,6 +197,6 @@ freshClient s =
       readingIndex = record { 0 = 0 };
       written = nonePointer;
       frozen = replicate (s .m) nonePointer;
-      reserved = replicate (s .m) none;
+      reserved = replicate (s .m) noVersion;
       frozenIndices = replicate (s .m) (record { 0 = 0 });
     }

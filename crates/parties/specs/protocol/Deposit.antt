@@ -1,7 +1,7 @@
 -- A deposit's steps (Algorithm 1) on a client's record.
 use mathlib.Core.Bool.{Bool, cond, not, _&&_}
 use mathlib.Core.List.{List, [], _∷_, _++_, map}
-use mathlib.Core.Option.{Option, some, none as nothing}
+use mathlib.Core.Option.{Option, some, none}
 use Prim.Native.Nat.{ℕ, zero, suc, _+_, _-_}
 use lib.Dec.{ltb, eqb}
 use lib.ListN.{getD}
@@ -11,7 +11,7 @@ use Rattle.coding.specs.Digest.{pieceDigest}
 use Rattle.parties.specs.declared.Measures.{Measures}
 use Rattle.parties.specs.declared.Sequence.{Sequence}
 use Rattle.parties.specs.declared.Version.{Version}
-use Rattle.parties.specs.protocol.Version.{below, none}
+use Rattle.parties.specs.protocol.Version.{below, noVersion}
 use Rattle.parties.specs.protocol.Nodes.{nodesIn}
 use Rattle.parties.specs.protocol.Pointer.{Pointer, nonePointer, writeVersion}
 use Rattle.parties.specs.protocol.Directory.{Content, pointersOf, indicesOf, Row, noRow}
@@ -34,7 +34,7 @@ pointerOf v acknowledged digests =
 
 -- dir-Update | c, (writeptr, frozenptrlist, frozenindex, *): bits 0 to 2, frozen as before this deposit's second scan
 abbrev pub depositFields : Client → Pointer → List (Option Content)
-depositFields c p = some (pointersOf (p ∷ [])) ∷ some (pointersOf (c .frozen)) ∷ some (indicesOf (c .frozenIndices)) ∷ nothing ∷ []
+depositFields c p = some (pointersOf (p ∷ [])) ∷ some (pointersOf (c .frozen)) ∷ some (indicesOf (c .frozenIndices)) ∷ none ∷ []
 
 -- index > frozenindex[p], for p ∈ C \ {c}: the row shows a reading that is not kept yet
 unfoldable pub noticed : ℕ → Client → List Row → ℕ → Bool
@@ -49,7 +49,7 @@ frozenAfter s own c rows p =
       readingIndex = c .readingIndex;
       written = p;
       frozen = tabulate (s .m) (λ q. cond (noticed own c rows q) p (getD (c .frozen) q nonePointer));
-      reserved = tabulate (s .m) (λ q. cond (noticed own c rows q) (c .written .version) (getD (c .reserved) q none));
+      reserved = tabulate (s .m) (λ q. cond (noticed own c rows q) (c .written .version) (getD (c .reserved) q noVersion));
       frozenIndices = tabulate (s .m) (λ q. cond (noticed own c rows q) (getD rows q noRow .readingIndex) (getD (c .frozenIndices) q (record { 0 = 0 })));
     }
 
@@ -59,7 +59,7 @@ unfolding noticed
 replaced own c rows zero = c .written .version ∷ []
 replaced own c rows (suc q) =
     cond (noticed own c rows q)
-    (getD (c .frozen) q nonePointer .version ∷ getD (c .reserved) q none ∷ replaced own c rows q)
+    (getD (c .frozen) q nonePointer .version ∷ getD (c .reserved) q noVersion ∷ replaced own c rows q)
     (replaced own c rows q)
 
 -- a version in its place, ascending, once
@@ -74,7 +74,7 @@ stillRetained c = map (λ p. p .version) (c .frozen) ++ c .reserved
 -- the free list: ascending, without repeats; versions still frozen or reserved leave it, so does none
 unfoldable pub freeList : List Version → List Version → List Version
 freeList kept [] = []
-freeList kept (v ∷ l) = cond (listed v (none ∷ kept)) (freeList kept l) (insert v (freeList kept l))
+freeList kept (v ∷ l) = cond (listed v (noVersion ∷ kept)) (freeList kept l) (insert v (freeList kept l))
 
 abbrev pub freed : Measures → ℕ → Client → List Row → Pointer → List Version
 freed s own c rows p = freeList (stillRetained (frozenAfter s own c rows p)) (replaced own c rows (s .m))

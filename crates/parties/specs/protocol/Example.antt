@@ -11,7 +11,7 @@ use lib.ListN.{replicate}
 use Rattle.coding.specs.Digest.{pieceDigest}
 use Rattle.parties.specs.declared.Measures.{Measures}
 use Rattle.parties.specs.declared.Version.{Version}
-use Rattle.parties.specs.protocol.Version.{none as noVersion}
+use Rattle.parties.specs.protocol.Version.{noVersion}
 use Rattle.parties.specs.protocol.Format.{Read}
 use Rattle.parties.specs.protocol.Pointer.{Pointer, writeVersion}
 use Rattle.parties.specs.protocol.NodeTable.{Held}

@@ -7,7 +7,7 @@ use lib.ListN.{length}
 use Rattle.parties.specs.declared.Measures.{Measures}
 use Rattle.parties.specs.declared.Version.{Version}
 use Rattle.parties.specs.protocol.Format.{Reader, both, given, readNumber, writeNumber, readBytes, readMany, writeMany}
-use Rattle.parties.specs.protocol.Version.{none}
+use Rattle.parties.specs.protocol.Version.{noVersion}
 use Rattle.parties.specs.protocol.Nodes.{nodesIn}
 
 -- a version in 5 bytes: the sequence in 4, the client in 1
@@ -28,7 +28,7 @@ pub record Pointer : Type 0 where
 
 -- none: sequence 0, client 255, empty map
 abbrev pub nonePointer : Pointer
-nonePointer = record { version = none; named = record { nodes = 0; digests = [] } }
+nonePointer = record { version = noVersion; named = record { nodes = 0; digests = [] } }
 
 abbrev pub isNone : Pointer → Bool
 isNone p = eqb (p .version .sequence .0) 0 && (eqb (p .version .client) 255 && eqb (p .named .nodes) 0)

@@ -13,9 +13,9 @@ use Rattle.parties.specs.declared.NextIndex.{NextIndex}
 abbrev pub below : Version → Version → Bool
 below a b = ltb (a .sequence .0) (b .sequence .0) || (eqb (a .sequence .0) (b .sequence .0) && ltb (a .client) (b .client))
 
--- "none" is (0, 255) and is below all others
-abbrev pub none : Version
-none = record { sequence = record { 0 = 0 }; client = 255 }
+-- "none" is (0, 255) and is below all others that a pointer may have: those with a sequence of at least 1
+abbrev pub noVersion : Version
+noVersion = record { sequence = record { 0 = 0 }; client = 255 }
 
 -- one above, where numbers are 32 bits wide
 abbrev pub nextSequence : Sequence → NextSequence

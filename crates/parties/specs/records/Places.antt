@@ -8,7 +8,7 @@ use Rattle.coding.specs.Nodes.{all}
 use Rattle.parties.specs.declared.Measures.{Measures}
 use Rattle.parties.specs.declared.Version.{Version}
 use Rattle.parties.specs.protocol.Measures.{places, placeSize}
-use Rattle.parties.specs.protocol.Version.{below, none}
+use Rattle.parties.specs.protocol.Version.{below, noVersion}
 use Rattle.parties.specs.protocol.Format.{writeArea}
 use Rattle.parties.specs.protocol.Message.{properVersion}
 use Rattle.parties.specs.protocol.NodeTable.{Held, writeHeld}
@@ -79,7 +79,7 @@ soundFrom s t previous at n = ordered (soundAt s t) (versionAt t) (placeSize s) 
 unfoldable pub soundTable : Measures → List ℕ → Bool
 soundTable s t =
     leb (numberAt t 0) (places s)
-    && (soundFrom s t none 2 (numberAt t 0) && zeroRun t (2 + numberAt t 0 * placeSize s) ((places s - numberAt t 0) * placeSize s))
+    && (soundFrom s t noVersion 2 (numberAt t 0) && zeroRun t (2 + numberAt t 0 * placeSize s) ((places s - numberAt t 0) * placeSize s))
 
 -- the number of places whose version is below a version
 unfoldable pub rank : ℕ → List ℕ → Version → ℕ → ℕ → ℕ

@@ -15,7 +15,7 @@ ghost use Prim.Native.Nat.{_+_, _-_, _*_, _<_, _≤_};
 ghost use lib.Dec.{ltb};
 ghost use lib.ListN.{length, getD, take, drop};
 ghost use Rattle.parties.specs.protocol.Measures.{passes};
-ghost use Rattle.parties.specs.protocol.Version.{below, none};
+ghost use Rattle.parties.specs.protocol.Version.{below, noVersion};
 ghost use Rattle.parties.specs.protocol.Pointer.{nonePointer, writeVersion};
 ghost use Rattle.parties.specs.protocol.Node.{listed};
 ghost use Rattle.parties.specs.protocol.Message.{ToNode, writeToNode};
@@ -45,7 +45,7 @@ fn frozen_version(s: Measures, area: &[u8], q: usize) -> Version
 
 fn reserved_for(s: Measures, area: &[u8], q: usize) -> Version
     requires { ⌜ Holds s (now area) × (q < s .m) ⌝ }
-    ensures { λ r. ⌜ r ≡ getD (retainedIn s (now (area .entry)) .reserved) q none ⌝ }
+    ensures { λ r. ⌜ r ≡ getD (retainedIn s (now (area .entry)) .reserved) q noVersion ⌝ }
 {
     let size = pointer_size(s);
     version_at(area, (s.m + 1) * size + 5 * q)
@@ -88,7 +88,7 @@ fn kept_for(s: Measures, map: u16, new: Version, area: &[u8], q: usize, v: Versi
 // Whether v is none, or still frozen or reserved for any client.
 fn stays(s: Measures, map: u16, new: Version, area: &[u8], v: Version) -> bool
     requires { ⌜ Holds s (now area) ⌝ }
-    ensures { λ r. ⌜ r ≡ listed v (none ∷ keptVersions s map (retainedIn s (now (area .entry))) new) ⌝ }
+    ensures { λ r. ⌜ r ≡ listed v (noVersion ∷ keptVersions s map (retainedIn s (now (area .entry))) new) ⌝ }
 {
     let nothing = Version {
         sequence: Sequence(0),
@@ -170,7 +170,7 @@ fn free_version(
     v: Version,
 ) -> usize
     requires { ⌜ Holds s (now area) × (6 + count * 5 ≤ length (now room)) ⌝ }
-    ensures { λ r. ⌜ Adds (listed v (none ∷ keptVersions s map (retainedIn s (now (area .entry))) new)) v count (now (room .entry)) r (now (room .exit))
+    ensures { λ r. ⌜ Adds (listed v (noVersion ∷ keptVersions s map (retainedIn s (now (area .entry))) new)) v count (now (room .entry)) r (now (room .exit))
         × (r ≤ count + 1) ⌝ }
 {
     if stays(s, map, new, area, v) {

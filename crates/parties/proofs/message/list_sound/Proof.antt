@@ -4,7 +4,7 @@ use Prim.Native.Nat.{_+_, _*_, _≤_}
 use native.Mathlib.Omega.{arith}
 use borrow.Author.Tests.{not-true, not-false}
 use lib.ListN.{length}
-use Rattle.parties.specs.protocol.Version.{none}
+use Rattle.parties.specs.protocol.Version.{noVersion}
 use Rattle.parties.specs.records.Places.{versionAt, properAt}
 use Rattle.parties.specs.node.ToNode.{listedFrom}
 use Rattle.parties.proofs.records.PositionLaws.{ordered-end, ordered-broken, ordered-not, ordered-next}
@@ -13,7 +13,7 @@ use Rattle.parties.proofs.message.list_sound.Tie as tie
 
 abbrev Inv-loop : tie.InvT-loop
 Inv-loop s b count previous₀ at₀ left₀ previous at left =
-    (at + left * 5 ≤ length b) × (listedFrom s b none 1 count ≡ listedFrom s b previous at left)
+    (at + left * 5 ≤ length b) × (listedFrom s b noVersion 1 count ≡ listedFrom s b previous at left)
 
 abbrev μ-loop : tie.MeasureT-loop
 μ-loop s b count previous₀ at₀ left₀ previous at left =

@@ -5,7 +5,7 @@ use native.Mathlib.Omega.{arith}
 use borrow.Author.Tests.{not-true, not-false}
 use lib.ListN.{length}
 use Rattle.parties.specs.protocol.Measures.{placeSize}
-use Rattle.parties.specs.protocol.Version.{none}
+use Rattle.parties.specs.protocol.Version.{noVersion}
 use Rattle.parties.specs.records.Places.{soundFrom, soundAt, versionAt}
 use Rattle.parties.proofs.records.PositionLaws.{one-less, ordered-end, ordered-broken, ordered-not, ordered-next}
 use Rattle.parties.proofs.node.places_sound.Statement.{statement}
@@ -13,7 +13,7 @@ use Rattle.parties.proofs.node.places_sound.Tie as tie
 
 abbrev Inv-loop : tie.InvT-loop
 Inv-loop s t count previous₀ at₀ left₀ previous at left =
-    (at + left * placeSize s ≤ length t) × (soundFrom s t none 2 count ≡ soundFrom s t previous at left)
+    (at + left * placeSize s ≤ length t) × (soundFrom s t noVersion 2 count ≡ soundFrom s t previous at left)
 
 abbrev μ-loop : tie.MeasureT-loop
 μ-loop s t count previous₀ at₀ left₀ previous at left =

@@ -3,7 +3,7 @@ use mathlib.Core.Path.{_≡_, refl, sym, ap, subst, _∙_}
 use mathlib.Core.Bool.{Bool, true}
 use mathlib.Core.Logic.{_⊎_, inl, inr}
 use mathlib.Core.List.{List, [], _∷_, append-nil}
-use mathlib.Core.Option.{Option, some, none as nothing}
+use mathlib.Core.Option.{Option, some, none}
 use Prim.Native.Nat.{ℕ, _%_, _≤_, _<_}
 use native.Mathlib.Omega.{arith}
 use native.Mathlib.Decide.{ℕ-discrete}
@@ -72,7 +72,7 @@ module _ (z : Measures) (honest : ℕ → Bool) (ok : passes z ≡ true) (s : Mo
     where
       go : (q : Option (List ℕ)) → s .h .operation o .page ≡ q → Borne o u
       go (some bytes) e = drew bytes e (v .recording .draws o bytes u (b .0) e (b .1))
-      go nothing e = let r = v .recording .reads o u (b .0) e (b .1) in read (r .0) e (r .1) (r .2) (r .3)
+      go none e = let r = v .recording .reads o u (b .0) e (b .1) in read (r .0) e (r .1) (r .2) (r .3)
 
   -- a version that is borne is that of its number
   borne-unnum : (o : ℕ) (u : Version) → Borne o u → u ≡ unnum (num u)
@@ -145,7 +145,7 @@ module _ (z : Measures) (honest : ℕ → Bool) (ok : passes z ≡ true) (s : Mo
       r = v .ordering .before e o u t (b .0) (c .0) (b .1) en lt
 
       go : (q : Option (List ℕ)) → s .h .operation o .page ≡ q → (num u ≤ num w) × ((bytes : List ℕ) → IsDeposit (s .h) o bytes → num u < num w)
-      go nothing q = (
+      go none q = (
         (let f = v .ordering .read o w (c .0) (c .1) q (r .0) (r .1) in omega (arith, f, r .2)),
         λ bytes d. absurd (none≢some (sym q ∙ d)),
       )

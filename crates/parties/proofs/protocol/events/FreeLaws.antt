@@ -15,7 +15,7 @@ use Rattle.coding.proofs.BytesLaws.{tabulate-none, tabulate-more, getD-tabulate
 use Rattle.parties.specs.declared.Measures.{Measures}
 use Rattle.parties.specs.declared.ReadingIndex.{ReadingIndex}
 use Rattle.parties.specs.declared.Version.{Version}
-use Rattle.parties.specs.protocol.Version.{below, none, ascending}
+use Rattle.parties.specs.protocol.Version.{below, noVersion, ascending}
 use Rattle.parties.specs.protocol.Pointer.{Pointer, nonePointer}
 use Rattle.parties.specs.protocol.Directory.{Row, noRow}
 use Rattle.parties.specs.protocol.NodeTable.{Held}
@@ -141,7 +141,7 @@ module _ (kept : List Version) where
   pub free-ascending : (l : List Version) → ascending (freeList kept l) ≡ true
   unfolding freeList ascending
   free-ascending [] = refl
-  free-ascending (v ∷ l) = go (listed v (none ∷ kept)) (free-ascending l)
+  free-ascending (v ∷ l) = go (listed v (noVersion ∷ kept)) (free-ascending l)
     where
       go : (b : Bool) → ascending (freeList kept l) ≡ true → ascending (cond b (freeList kept l) (insert v (freeList kept l))) ≡ true
       go true ih = ih
@@ -150,22 +150,22 @@ module _ (kept : List Version) where
   pub free-length : (l : List Version) → length (freeList kept l) ≤ length l
   unfolding freeList
   free-length [] = omega arith
-  free-length (v ∷ l) = go (listed v (none ∷ kept)) (free-length l)
+  free-length (v ∷ l) = go (listed v (noVersion ∷ kept)) (free-length l)
     where
       go : (b : Bool) → length (freeList kept l) ≤ length l → length (cond b (freeList kept l) (insert v (freeList kept l))) ≤ suc (length l)
       go true ih = omega arith
       go false ih = omega (arith, insert-length v (freeList kept l))
 
-  pub free-listed : (u : Version) (l : List Version) → listed u (freeList kept l) ≡ (listed u l && not (listed u (none ∷ kept)))
+  pub free-listed : (u : Version) (l : List Version) → listed u (freeList kept l) ≡ (listed u l && not (listed u (noVersion ∷ kept)))
   unfolding freeList listed
   free-listed u [] = refl
-  free-listed u (v ∷ l) = go (listed v (none ∷ kept)) refl (apart u v) refl (free-listed u l)
+  free-listed u (v ∷ l) = go (listed v (noVersion ∷ kept)) refl (apart u v) refl (free-listed u l)
     where
-      own : apart u v ≡ false → listed u (none ∷ kept) ≡ listed v (none ∷ kept)
-      own q = ap (λ (t : Version). listed t (none ∷ kept)) (together u v q)
+      own : apart u v ≡ false → listed u (noVersion ∷ kept) ≡ listed v (noVersion ∷ kept)
+      own q = ap (λ (t : Version). listed t (noVersion ∷ kept)) (together u v q)
 
-      go : (b : Bool) → listed v (none ∷ kept) ≡ b → (c : Bool) → apart u v ≡ c → listed u (freeList kept l) ≡ (listed u l && not (listed u (none ∷ kept)))
-          → listed u (cond b (freeList kept l) (insert v (freeList kept l))) ≡ (cond c (listed u l) true && not (listed u (none ∷ kept)))
+      go : (b : Bool) → listed v (noVersion ∷ kept) ≡ b → (c : Bool) → apart u v ≡ c → listed u (freeList kept l) ≡ (listed u l && not (listed u (noVersion ∷ kept)))
+          → listed u (cond b (freeList kept l) (insert v (freeList kept l))) ≡ (cond c (listed u l) true && not (listed u (noVersion ∷ kept)))
       go true p true q ih = ih
       go true p false q ih = ih ∙ rw (own q ∙ p) (and-false (listed u l))
       go false p true q ih = insert-listed u v (freeList kept l) ∙ rw q ih
@@ -178,7 +178,7 @@ replaced-length own c rows zero = omega arith
 replaced-length own c rows (suc q) = go (noticed own c rows q) (replaced-length own c rows q)
   where
     go : (b : Bool) → length (replaced own c rows q) ≤ 2 * q + 1
-        → length (cond b (getD (c .frozen) q nonePointer .version ∷ getD (c .reserved) q none ∷ replaced own c rows q) (replaced own c rows q)) ≤ 2 * suc q + 1
+        → length (cond b (getD (c .frozen) q nonePointer .version ∷ getD (c .reserved) q noVersion ∷ replaced own c rows q) (replaced own c rows q)) ≤ 2 * suc q + 1
     go true ih = omega arith
     go false ih = omega arith
 
@@ -212,8 +212,8 @@ module _ (z : Measures) (k : Clients) (a : Rows) (c : ℕ) (x : Pointer) where
   frozen-at : (q : ℕ) → q < z .m → getD (clientAt z k c .frozen) q nonePointer ≡ k .frozen c q
   frozen-at q l = getD-tabulate (z .m) (k .frozen c) q nonePointer l
 
-  reserved-at : (q : ℕ) → q < z .m → getD (clientAt z k c .reserved) q none ≡ k .reserved c q
-  reserved-at q l = getD-tabulate (z .m) (k .reserved c) q none l
+  reserved-at : (q : ℕ) → q < z .m → getD (clientAt z k c .reserved) q noVersion ≡ k .reserved c q
+  reserved-at q l = getD-tabulate (z .m) (k .reserved c) q noVersion l
 
   index-at : (q : ℕ) → q < z .m → getD (clientAt z k c .frozenIndices) q (record { 0 = 0 }) ≡ record { 0 = k .indices c q }
   index-at q l = getD-tabulate {A = ReadingIndex} (z .m) (λ q. record { 0 = k .indices c q }) q (record { 0 = 0 }) l
@@ -331,27 +331,27 @@ module _ (z : Measures) (k : Clients) (a : Rows) (c : ℕ) (x : Pointer) where
   abbrev kept : List Version
   kept = stillRetained (clientAt z (frozenBy k c x a) c)
 
-  freed-listed : (u : Version) → listed u (freed z c (clientAt z k c) (rowsAt z a) x) ≡ (listed u (gone z k a c x (z .m)) && not (listed u (none ∷ kept)))
+  freed-listed : (u : Version) → listed u (freed z c (clientAt z k c) (rowsAt z a) x) ≡ (listed u (gone z k a c x (z .m)) && not (listed u (noVersion ∷ kept)))
   freed-listed u = rw (frozen-after z k a c x) (free-listed kept u (gone z k a c x (z .m)))
 
   pub frees : Frees z k a c x (freed z c (clientAt z k c) (rowsAt z a) x)
   frees =
       record {
         replaced = λ v e. gone-from z k a c x v (z .m) (omega arith) (parts v e .0);
-        left = λ v e r. true≢false (sym (listed-there v none kept (retained-to z (frozenBy k c x a) c v r)) ∙ parts v e .1);
-        proper = λ v e n. true≢false (sym (listed-here v none kept (sym n)) ∙ parts v e .1);
-        all = λ v r nr nn. freed-listed v ∙ rw (gone-to z k a c x v r) (ap not (is-false (listed v (none ∷ kept)) (unkept v nr nn)));
+        left = λ v e r. true≢false (sym (listed-there v noVersion kept (retained-to z (frozenBy k c x a) c v r)) ∙ parts v e .1);
+        proper = λ v e n. true≢false (sym (listed-here v noVersion kept (sym n)) ∙ parts v e .1);
+        all = λ v r nr nn. freed-listed v ∙ rw (gone-to z k a c x v r) (ap not (is-false (listed v (noVersion ∷ kept)) (unkept v nr nn)));
       }
     where
       parts : (v : Version) → listed v (freed z c (clientAt z k c) (rowsAt z a) x) ≡ true
-          → (listed v (gone z k a c x (z .m)) ≡ true) × (listed v (none ∷ kept) ≡ false)
+          → (listed v (gone z k a c x (z .m)) ≡ true) × (listed v (noVersion ∷ kept) ≡ false)
       parts v e =
-          let y = and-true (listed v (gone z k a c x (z .m))) (not (listed v (none ∷ kept))) (sym (freed-listed v) ∙ e) in
-          (y .0, not-true (listed v (none ∷ kept)) (y .1))
+          let y = and-true (listed v (gone z k a c x (z .m))) (not (listed v (noVersion ∷ kept))) (sym (freed-listed v) ∙ e) in
+          (y .0, not-true (listed v (noVersion ∷ kept)) (y .1))
 
-      unkept : (v : Version) → (Retains z (frozenBy k c x a) c v → ⊥) → (v ≡ none → ⊥) → listed v (none ∷ kept) ≡ true → ⊥
-      unkept v nr nn e = go (listed-split v none kept e)
+      unkept : (v : Version) → (Retains z (frozenBy k c x a) c v → ⊥) → (v ≡ noVersion → ⊥) → listed v (noVersion ∷ kept) ≡ true → ⊥
+      unkept v nr nn e = go (listed-split v noVersion kept e)
         where
-          go : (none ≡ v) ⊎ (listed v kept ≡ true) → ⊥
+          go : (noVersion ≡ v) ⊎ (listed v kept ≡ true) → ⊥
           go (inl h) = nn (sym h)
           go (inr h) = nr (retained-from z (frozenBy k c x a) c v h)

@@ -12,7 +12,7 @@ use lib.ListN.{length, getD, drop}
 use lib.Seq.{take-at}
 use Rattle.parties.specs.declared.Measures.{Measures}
 use Rattle.parties.specs.declared.Version.{Version}
-use Rattle.parties.specs.protocol.Version.{none, ascending}
+use Rattle.parties.specs.protocol.Version.{noVersion, ascending}
 use Rattle.parties.specs.protocol.Pointer.{Pointer, nonePointer}
 use Rattle.parties.specs.protocol.Directory.{Row, noRow}
 use Rattle.parties.specs.protocol.Message.{ToNode, writeToNode}
@@ -34,7 +34,7 @@ replaced-few own c rows zero h = absurd (omega arith)
 replaced-few own c rows (suc q) h = go (ℕ-discrete own q) (replaced-few own c rows q)
   where
     two : Bool → List Version
-    two b = cond b (getD (c .frozen) q nonePointer .version ∷ getD (c .reserved) q none ∷ replaced own c rows q) (replaced own c rows q)
+    two b = cond b (getD (c .frozen) q nonePointer .version ∷ getD (c .reserved) q noVersion ∷ replaced own c rows q) (replaced own c rows q)
 
     more : (b : Bool) → length (two b) ≤ length (replaced own c rows q) + 2
     more true = omega arith

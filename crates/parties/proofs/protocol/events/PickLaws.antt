@@ -10,7 +10,7 @@ use lib.ListN.{length, getD}
 use Rattle.coding.proofs.BytesLaws.{length-tabulate, getD-tabulate}
 use Rattle.parties.specs.declared.Measures.{Measures}
 use Rattle.parties.specs.declared.ReadingIndex.{ReadingIndex}
-use Rattle.parties.specs.protocol.Version.{below, none}
+use Rattle.parties.specs.protocol.Version.{below, noVersion}
 use Rattle.parties.specs.protocol.Pointer.{Pointer, nonePointer}
 use Rattle.parties.specs.protocol.Directory.{Row, noRow}
 use Rattle.parties.specs.protocol.Reading.{candidate, pick}
@@ -71,7 +71,7 @@ module _ (c : ℕ) (i : ReadingIndex) where
   alone : (r : Row) → Told (candidate c i r) → pick c i (r ∷ []) ≡ candidate c i r
   unfolding pick
   alone r t =
-      rw (below-num (candidate c i r .version) none (t .0) (omega arith))
+      rw (below-num (candidate c i r .version) noVersion (t .0) (omega arith))
       (rw (le-ltb (ver (candidate c i r)) (ver nonePointer) (t .1)))
 
   pick-row : (l : List Row) → AllTold l → 1 ≤ length l → (j : ℕ) × (j < length l) × (candidate c i (getD l j noRow) ≡ pick c i l)

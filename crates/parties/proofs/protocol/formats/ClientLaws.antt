@@ -21,7 +21,7 @@ use Rattle.parties.specs.declared.Version.{Version}
 use Rattle.parties.specs.protocol.Format.{Read, Reader, both, mapped, readNothing, readNumber, writeNumber, readBytes}
 use Rattle.parties.specs.protocol.Format.{readMany, writeMany, readEach, readArea, writeArea}
 use Rattle.parties.specs.protocol.Measures.{passes, pointerSize}
-use Rattle.parties.specs.protocol.Version.{none as noVersion}
+use Rattle.parties.specs.protocol.Version.{noVersion}
 use Rattle.parties.specs.protocol.Nodes.{count}
 use Rattle.parties.specs.protocol.Pointer.{Pointer, nonePointer, isNone, readPointer, writePointer, readVersion, writeVersion}
 use Rattle.parties.specs.protocol.Directory.{readIndex, writeIndex}

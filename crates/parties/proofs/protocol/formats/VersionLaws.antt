@@ -7,7 +7,7 @@ use native.Mathlib.Omega.{arith}
 use borrow.Author.Tests.{not-true, lt-ltb, le-ltb, ltb-true, ltb-false, eq-eqb, ne-eqb}
 use lib.Dec.{ltb}
 use Rattle.parties.specs.declared.Version.{Version}
-use Rattle.parties.specs.protocol.Version.{below, none}
+use Rattle.parties.specs.protocol.Version.{below, noVersion}
 use Rattle.parties.specs.protocol.Reading.{sameVersion}
 use Rattle.parties.proofs.protocol.model.Cells.{is-false}
 
@@ -22,8 +22,8 @@ module _ (a b : Version) where
   below-same h = simp (le-ltb (a .sequence .0) (b .sequence .0) (omega arith), eq-eqb (a .sequence .0) (b .sequence .0) h)
 
 -- none is below every version that a deposit draws
-pub none-below : (v : Version) → 1 ≤ v .sequence .0 → below none v ≡ true
-none-below v h = below-less none v h
+pub none-below : (v : Version) → 1 ≤ v .sequence .0 → below noVersion v ≡ true
+none-below v h = below-less noVersion v h
 
 -- the order as a fact
 pub data Below (a b : Version) : Type 0 where

@@ -3,7 +3,7 @@ use mathlib.Core.Path.{_≡_}
 use mathlib.Core.Bool.{true}
 use mathlib.Core.Logic.{_⊎_}
 use mathlib.Core.List.{List}
-use mathlib.Core.Option.{some, none as nothing}
+use mathlib.Core.Option.{some, none}
 use Prim.Native.Nat.{ℕ, _/_, _≤_, _<_}
 use Rattle.parties.specs.declared.Measures.{Measures}
 use Rattle.parties.specs.declared.Version.{Version}
@@ -17,7 +17,7 @@ use Rattle.parties.proofs.protocol.invariants.Invariants.{Member, unnum
 -- an open deposit of client c with these bytes, before and after its version is drawn
 pub record Undrawn (h : History) (c : ℕ) (bytes : List ℕ) : Type 0 where
   pub page : h .operation (h .latest c) .page ≡ some bytes
-  pub version : h .operation (h .latest c) .version ≡ nothing
+  pub version : h .operation (h .latest c) .version ≡ none
 
 pub record Drawn (h : History) (p : Past) (c : ℕ) (v : Version) : Type 0 where
   pub page : h .operation (h .latest c) .page ≡ some (p .pages (num v))
@@ -26,11 +26,11 @@ pub record Drawn (h : History) (p : Past) (c : ℕ) (v : Version) : Type 0 where
 
 -- an open reading of client c, before and after it picked a pointer
 pub record Unpicked (h : History) (c : ℕ) : Type 0 where
-  pub page : h .operation (h .latest c) .page ≡ nothing
-  pub version : h .operation (h .latest c) .version ≡ nothing
+  pub page : h .operation (h .latest c) .page ≡ none
+  pub version : h .operation (h .latest c) .version ≡ none
 
 pub record Picked (h : History) (c : ℕ) (x : Pointer) : Type 0 where
-  pub page : h .operation (h .latest c) .page ≡ nothing
+  pub page : h .operation (h .latest c) .page ≡ none
   pub version : h .operation (h .latest c) .version ≡ some (x .version)
   pub pointer : h .operation (h .latest c) .pointer ≡ some x
 
@@ -38,8 +38,8 @@ pub record Picked (h : History) (c : ℕ) (x : Pointer) : Type 0 where
 pub record Current (h : History) (c : ℕ) : Type 0 where
   pub begun : h .latest c < h .begun
   pub client : h .operation (h .latest c) .client ≡ c
-  pub unended : h .operation (h .latest c) .ended ≡ nothing
-  pub given : h .operation (h .latest c) .given ≡ nothing
+  pub unended : h .operation (h .latest c) .ended ≡ none
+  pub given : h .operation (h .latest c) .given ≡ none
 
 abbrev pub Doing : History → Past → ℕ → Turn → Type 0
 Doing h p c Turn.idle = Unit {0}
@@ -97,18 +97,18 @@ pub record Draws (p : Past) (o : ℕ) (bytes : List ℕ) (v : Version) : Type 0 
 pub record Recording (z : Measures) (s : Model) : Type 0 where
   pub doing : (c : ℕ) → c < z .m → Doing (s .h) (s .p) c (s .c .turn c)
   -- an open operation is its client's last, and its client is at it
-  pub busy : (o : ℕ) → o < s .h .begun → s .h .operation o .ended ≡ nothing
+  pub busy : (o : ℕ) → o < s .h .begun → s .h .operation o .ended ≡ none
       → (s .h .operation o .client < z .m) × (s .h .latest (s .h .operation o .client) ≡ o) × Busy (s .c .turn (s .h .operation o .client))
   pub deposited : (v : ℕ) → s .p .drawn v ≡ true → Deposited (s .h) (s .p) v
   pub draws : (o : ℕ) (bytes : List ℕ) (v : Version) → o < s .h .begun → s .h .operation o .page ≡ some bytes → s .h .operation o .version ≡ some v
       → Draws (s .p) o bytes v
-  pub reads : (o : ℕ) (v : Version) → o < s .h .begun → s .h .operation o .page ≡ nothing → s .h .operation o .version ≡ some v
+  pub reads : (o : ℕ) (v : Version) → o < s .h .begun → s .h .operation o .page ≡ none → s .h .operation o .version ≡ some v
       → (x : Pointer) × (s .h .operation o .pointer ≡ some x) × (x .version ≡ v) × Shown (s .h) (s .p) x
   -- a pointer is a reading's, and borne with its version
   pub pointer : (o : ℕ) (x : Pointer) → o < s .h .begun → s .h .operation o .pointer ≡ some x
-      → (s .h .operation o .page ≡ nothing) × (s .h .operation o .version ≡ some (x .version))
+      → (s .h .operation o .page ≡ none) × (s .h .operation o .version ≡ some (x .version))
   pub gives : (o : ℕ) (b : List ℕ) → o < s .h .begun → s .h .operation o .given ≡ some b
-      → (x : Pointer) × (s .h .operation o .page ≡ nothing) × (s .h .operation o .pointer ≡ some x) × (256 ≤ ver x) × (b ≡ s .p .pages (ver x))
+      → (x : Pointer) × (s .h .operation o .page ≡ none) × (s .h .operation o .pointer ≡ some x) × (256 ≤ ver x) × (b ≡ s .p .pages (ver x))
 
 -- ---- pointers put in
 
@@ -182,13 +182,13 @@ pub record Ordering (z : Measures) (s : Model) : Type 0 where
   -- what an ended operation bears, and what a reading bears, some row shows or has passed
   pub ended : (o : ℕ) (v : Version) (t : ℕ) → o < s .h .begun → s .h .operation o .version ≡ some v → s .h .operation o .ended ≡ some t
       → Below z (λ w. ver (shownWritten (s .c) w)) (num v)
-  pub reads : (o : ℕ) (v : Version) → o < s .h .begun → s .h .operation o .version ≡ some v → s .h .operation o .page ≡ nothing
+  pub reads : (o : ℕ) (v : Version) → o < s .h .begun → s .h .operation o .version ≡ some v → s .h .operation o .page ≡ none
       → Below z (λ w. ver (shownWritten (s .c) w)) (num v)
   -- an operation that ended before another began: what it bears, some row showed then
   pub before : (e o : ℕ) (v : Version) (t : ℕ) → e < s .h .begun → o < s .h .begun → s .h .operation e .version ≡ some v
       → s .h .operation e .ended ≡ some t → t < s .h .operation o .began → Below z (s .p .shown o) (num v)
   -- what an operation bears is above what the rows showed when it began
-  pub read : (o : ℕ) (v : Version) → o < s .h .begun → s .h .operation o .version ≡ some v → s .h .operation o .page ≡ nothing
+  pub read : (o : ℕ) (v : Version) → o < s .h .begun → s .h .operation o .version ≡ some v → s .h .operation o .page ≡ none
       → (w : ℕ) → w < z .m → s .p .shown o w ≤ num v
   pub drew : (o : ℕ) (v : Version) (bytes : List ℕ) → o < s .h .begun → s .h .operation o .version ≡ some v → s .h .operation o .page ≡ some bytes
       → (w : ℕ) → w < z .m → s .p .shown o w / 256 < v .sequence .0

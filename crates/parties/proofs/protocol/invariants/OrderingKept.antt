@@ -3,7 +3,7 @@ use mathlib.Core.Path.{_≡_, refl, sym, ap, _∙_}
 use mathlib.Core.Bool.{Bool, true, false}
 use mathlib.Core.Logic.{_⊎_, inl, inr}
 use mathlib.Core.List.{List, []}
-use mathlib.Core.Option.{Option, some, none as nothing}
+use mathlib.Core.Option.{Option, some, none}
 use Prim.Native.Nat.{ℕ, _+_, _-_, _/_, _≤_, _<_}
 use native.Mathlib.Omega.{arith}
 use borrow.Author.Tests.{ltb-false, eq-eqb, ne-eqb}
@@ -143,8 +143,8 @@ data Begins (s t : Model) (j : ℕ) : Type 0 where
 record Fits (z : Measures) (k : Clients) (time : ℕ) (shown : ℕ → ℕ) (y : Operation) : Type 0 where
   ends : (e : ℕ) → y .ended ≡ some e → e ≡ time
   ended : (v : Version) (e : ℕ) → y .version ≡ some v → y .ended ≡ some e → Below z (shows k) (num v)
-  reads : (v : Version) → y .version ≡ some v → y .page ≡ nothing → Below z (shows k) (num v)
-  read : (v : Version) → y .version ≡ some v → y .page ≡ nothing → (w : ℕ) → w < z .m → shown w ≤ num v
+  reads : (v : Version) → y .version ≡ some v → y .page ≡ none → Below z (shows k) (num v)
+  read : (v : Version) → y .version ≡ some v → y .page ≡ none → (w : ℕ) → w < z .m → shown w ≤ num v
   drew : (v : Version) (bytes : List ℕ) → y .version ≡ some v → y .page ≡ some bytes → (w : ℕ) → w < z .m → shown w / 256 < v .sequence .0
 
 data Bears (z : Measures) (s t : Model) (j : ℕ) : Type 0 where
@@ -169,7 +169,7 @@ module _ (z : Measures) (s t : Model) (g : Grown z (s .c) (t .c)) (o : Ordering 
   ended-kept j v e (Bears.same l a b) p q = below-grown z (s .c) (t .c) (num v) g (o .ended j v e l (rw b at p) (rw b at q))
   ended-kept j v e (Bears.marked f) p q = f .ended v e p q
 
-  reads-kept : (j : ℕ) (v : Version) → Bears z s t j → t .h .operation j .version ≡ some v → t .h .operation j .page ≡ nothing
+  reads-kept : (j : ℕ) (v : Version) → Bears z s t j → t .h .operation j .version ≡ some v → t .h .operation j .page ≡ none
       → Below z (shows (t .c)) (num v)
   reads-kept j v (Bears.same l a b) p q = below-grown z (s .c) (t .c) (num v) g (o .reads j v l (rw b at p) (rw b at q))
   reads-kept j v (Bears.marked f) p q = f .reads v p q
@@ -181,7 +181,7 @@ module _ (z : Measures) (s t : Model) (g : Grown z (s .c) (t .c)) (o : Ordering 
   before-kept e j v i (Bears.same l a b) (Begins.new x y) p q m = rw x (o .ended e v i l (rw b at p) (rw b at q))
   before-kept e j v i (Bears.marked f) n p q m = absurd (omega (arith, m, begins-kept j n, f .ends i q))
 
-  read-kept : (j : ℕ) (v : Version) → Bears z s t j → t .h .operation j .version ≡ some v → t .h .operation j .page ≡ nothing
+  read-kept : (j : ℕ) (v : Version) → Bears z s t j → t .h .operation j .version ≡ some v → t .h .operation j .page ≡ none
       → (w : ℕ) → w < z .m → t .p .shown j w ≤ num v
   read-kept j v (Bears.same l a b) p q w h = rw a (o .read j v l (rw b at p) (rw b at q) w h)
   read-kept j v (Bears.marked f) p q w h = f .read v p q w h
@@ -235,7 +235,7 @@ module _ (z : Measures) (s t : Model) (a : t .p .shown ≡ s .p .shown) where
       i
 
 -- an operation that bears nothing and has not ended
-unborne-fits : (z : Measures) (k : Clients) (time : ℕ) (f : ℕ → ℕ) (y : Operation) → y .version ≡ nothing → y .ended ≡ nothing → Fits z k time f y
+unborne-fits : (z : Measures) (k : Clients) (time : ℕ) (f : ℕ → ℕ) (y : Operation) → y .version ≡ none → y .ended ≡ none → Fits z k time f y
 unborne-fits z k time f y a b =
     record {
       ends = λ e q. absurd (none≢some (sym b ∙ q));
@@ -247,7 +247,7 @@ unborne-fits z k time f y a b =
 
 -- a deposit that draws a version
 bearing-fits : (z : Measures) (k : Clients) (time : ℕ) (f : ℕ → ℕ) (y : Operation) (v : Version) (bytes : List ℕ) → y .version ≡ some v
-    → y .page ≡ some bytes → y .ended ≡ nothing → ((w : ℕ) → w < z .m → f w / 256 < v .sequence .0) → Fits z k time f y
+    → y .page ≡ some bytes → y .ended ≡ none → ((w : ℕ) → w < z .m → f w / 256 < v .sequence .0) → Fits z k time f y
 bearing-fits z k time f y v bytes a b c d =
     record {
       ends = λ e q. absurd (none≢some (sym c ∙ q));
@@ -259,7 +259,7 @@ bearing-fits z k time f y v bytes a b c d =
 
 -- a reading that picks a pointer: some row shows it or has passed it, and it is above all that the rows showed
 picking-fits : (z : Measures) (s : Model) (k : Clients) (c : ℕ) (a : Rows) (x : Pointer) (y : Operation) → y .version ≡ some (x .version)
-    → y .page ≡ nothing → ((e : ℕ) → y .ended ≡ some e → e ≡ s .h .time) → Grown z (s .c) k → Since z s c (Turn.picked a)
+    → y .page ≡ none → ((e : ℕ) → y .ended ≡ some e → e ≡ s .h .time) → Grown z (s .c) k → Since z s c (Turn.picked a)
     → Picks z a c (s .c .reading c) x → Fits z k (s .h .time) (s .p .shown (s .h .latest c)) y
 picking-fits z s k c a x y e p n g i q =
     record {
@@ -433,7 +433,7 @@ ordering-kept z honest ok s t (Next.deposit c b h q l e bb n) w d g r o =
     rw q (begun-kept z s c (some b) (Turn.scanning b) (s .c .reading) (rw e (omega arith)) (λ j x. refl) tt r o)
 ordering-kept z honest ok s t (Next.reading c h q l e) w d g r o =
     rw q
-    (begun-kept z s c nothing Turn.raising (upd (s .c .reading) c (s .c .reading c + 1)) (rw e (omega arith)) (λ j x. rw (ne-eqb j c x))
+    (begun-kept z s c none Turn.raising (upd (s .c .reading) c (s .c .reading c + 1)) (rw e (omega arith)) (λ j x. rw (ne-eqb j c x))
     (λ i j x. absurd (omega (arith, rw (eq-eqb c c refl) at x, rw e at (g .index i c j l)))) r o)
 ordering-kept z honest ok s t (Next.publish c x h q l e) w d g r o =
     turned-quiet z s c l (Turn.updating x) (Turn.updated x) e (omega (arith, (rw e at (w .own c l)) .newer)) _ _ _ h refl r o _ q tt (λ y i. tt)

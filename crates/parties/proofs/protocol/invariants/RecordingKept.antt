@@ -3,7 +3,7 @@ use mathlib.Core.Path.{_≡_, refl, sym, _∙_, ap}
 use mathlib.Core.Bool.{Bool, true}
 use mathlib.Core.Logic.{_⊎_, inl, inr}
 use mathlib.Core.List.{List, []}
-use mathlib.Core.Option.{Option, some, none as nothing}
+use mathlib.Core.Option.{Option, some, none}
 use Prim.Native.Nat.{ℕ, _+_, _<_}
 use native.Mathlib.Omega.{arith}
 use borrow.Author.Tests.{eq-eqb, ne-eqb}
@@ -68,7 +68,7 @@ module _ (z : Measures) (s : Model) (r : Recording z s) where
 module _ (z : Measures) (s : Model) (r : Recording z s) (c : ℕ) (a : Operation) (l : c < z .m) (cu : Current (s .h) c)
     (ma : Marking (s .h .operation (s .h .latest c)) a) (u : Turn) (k : Clients) (turn : (j : ℕ) → k .turn j ≡ upd (s .c .turn) c u j) where
   -- another open operation is another client's
-  marked-busy : (a .ended ≡ nothing → Busy u) → (o : ℕ) → o < s .h .begun → upd (s .h .operation) (s .h .latest c) a o .ended ≡ nothing
+  marked-busy : (a .ended ≡ none → Busy u) → (o : ℕ) → o < s .h .begun → upd (s .h .operation) (s .h .latest c) a o .ended ≡ none
       → (upd (s .h .operation) (s .h .latest c) a o .client < z .m) × (s .h .latest (upd (s .h .operation) (s .h .latest c) a o .client) ≡ o)
       × Busy (k .turn (upd (s .h .operation) (s .h .latest c) a o .client))
   marked-busy bu o i e = by-eq o (s .h .latest c)
@@ -79,7 +79,7 @@ module _ (z : Measures) (s : Model) (r : Recording z s) (c : ℕ) (a : Operation
       rw f (b .0, b .1, rw (turn (s .h .operation o .client), y) (b .2)))
 
   marked : (d : Shown) (n : Nodes) (p : Past) (h : History) → Marks (s .h) h (upd (s .h .operation) (s .h .latest c) a) (s .h .puts)
-      → Grown (s .p) p → (a .ended ≡ nothing → Busy u) → Doing (markedAt (s .h) c a (h .replied)) p c u
+      → Grown (s .p) p → (a .ended ≡ none → Busy u) → Doing (markedAt (s .h) c a (h .replied)) p c u
       → ((v : ℕ) → p .drawn v ≡ true → (s .p .drawn v ≡ true) ⊎ Deposited (markedAt (s .h) c a (h .replied)) p v)
       → Fair (s .h) p (s .h .latest c) a
       → Recording z (record { c = k; d = d; n = n; p = p; h = h })
@@ -108,7 +108,7 @@ module _ (z : Measures) (s : Model) (r : Recording z s) (c : ℕ) (a : Operation
 module _ (z : Measures) (s : Model) (r : Recording z s) (c : ℕ) (page : Option (List ℕ)) (l : c < z .m) (idle : s .c .turn c ≡ Turn.idle)
     (u : Turn) (k : Clients) (turn : (j : ℕ) → k .turn j ≡ upd (s .c .turn) c u j) where
   -- no open operation was this client's
-  begun-busy : Busy u → (o : ℕ) → o < s .h .begun + 1 → begin c page (s .h) .operation o .ended ≡ nothing
+  begun-busy : Busy u → (o : ℕ) → o < s .h .begun + 1 → begin c page (s .h) .operation o .ended ≡ none
       → (begin c page (s .h) .operation o .client < z .m) × (begin c page (s .h) .latest (begin c page (s .h) .operation o .client) ≡ o)
       × Busy (k .turn (begin c page (s .h) .operation o .client))
   begun-busy bu o i e = by-eq o (s .h .begun)
@@ -223,9 +223,9 @@ recording-kept z honest ok s t (Next.deposit c b h q l e bb n) ow dr pu r =
     begins z s r c (some b) l e (Turn.scanning b) (turned (s .c) c (Turn.scanning b)) (λ j. refl) _ h q tt
     (begun-current (s .h) c (some b), record { page = ap (λ o. o .page) y; version = ap (λ o. o .version) y })
 recording-kept z honest ok s t (Next.reading c h q l e) ow dr pu r =
-    let y = begun-last (s .h) c nothing in
-    begins z s r c nothing l e Turn.raising (raisedBy (s .c) c) (λ j. refl) _ h q tt
-    (begun-current (s .h) c nothing, record { page = ap (λ o. o .page) y; version = ap (λ o. o .version) y })
+    let y = begun-last (s .h) c none in
+    begins z s r c none l e Turn.raising (raisedBy (s .c) c) (λ j. refl) _ h q tt
+    (begun-current (s .h) c none, record { page = ap (λ o. o .page) y; version = ap (λ o. o .version) y })
 recording-kept z honest ok s t (Next.publish c x h q l e) ow dr pu r =
     still z s r (turned (s .c) c (Turn.updated x)) (published s c) (s .n) (s .p) h _ q (λ y i. (i .0, member-left _ _ _ (i .1)))
     (grown-same (s .p) (s .p .shown)) (λ v d. d) (turned-doing z s r c (Turn.updated x) (rw e at (r .doing c l))) (turned-busy z s r c (Turn.updated x) tt)

@@ -3,7 +3,7 @@ use mathlib.Core.Path.{_≡_, sym, _∙_, ap}
 use mathlib.Core.Bool.{true}
 use mathlib.Core.Logic.{_⊎_, inl, inr}
 use mathlib.Core.List.{List}
-use mathlib.Core.Option.{some, none as nothing}
+use mathlib.Core.Option.{some, none}
 use Prim.Native.Nat.{ℕ, _≤_, _<_}
 use native.Mathlib.Omega.{arith}
 use Rattle.coding.proofs.PageLaws.{some-eq}
@@ -21,10 +21,10 @@ use Rattle.parties.proofs.protocol.model.Growth.{Grown}
 -- what an operation with number o tells: a deposit of what it drew, a reading of its pointer and of what it gave
 pub record Fair (h : History) (p : Past) (o : ℕ) (a : Operation) : Type 0 where
   pub draws : (bytes : List ℕ) (v : Version) → a .page ≡ some bytes → a .version ≡ some v → Draws p o bytes v
-  pub reads : (v : Version) → a .page ≡ nothing → a .version ≡ some v → (x : Pointer) × (a .pointer ≡ some x) × (x .version ≡ v) × Shown h p x
-  pub pointer : (x : Pointer) → a .pointer ≡ some x → (a .page ≡ nothing) × (a .version ≡ some (x .version))
+  pub reads : (v : Version) → a .page ≡ none → a .version ≡ some v → (x : Pointer) × (a .pointer ≡ some x) × (x .version ≡ v) × Shown h p x
+  pub pointer : (x : Pointer) → a .pointer ≡ some x → (a .page ≡ none) × (a .version ≡ some (x .version))
   pub gives : (b : List ℕ) → a .given ≡ some b
-      → (x : Pointer) × (a .page ≡ nothing) × (a .pointer ≡ some x) × (256 ≤ ver x) × (b ≡ p .pages (ver x))
+      → (x : Pointer) × (a .page ≡ none) × (a .pointer ≡ some x) × (256 ≤ ver x) × (b ≡ p .pages (ver x))
 
 pub fair-of : (z : Measures) (s : Model) → Recording z s → (o : ℕ) → o < s .h .begun → Fair (s .h) (s .p) o (s .h .operation o)
 fair-of z s r o l =
@@ -168,7 +168,7 @@ drew z s r c v a b = r .draws (s .h .latest c) (s .p .pages (num v)) v (a .begun
 
 module _ (z : Measures) (s t : Model) (g : Onward (s .h) (t .h) (s .p) (t .p)) (r : Recording z s) where
   pub recorded : ((c : ℕ) → c < z .m → Doing (t .h) (t .p) c (t .c .turn c))
-      → ((o : ℕ) → o < t .h .begun → t .h .operation o .ended ≡ nothing
+      → ((o : ℕ) → o < t .h .begun → t .h .operation o .ended ≡ none
       → (t .h .operation o .client < z .m) × (t .h .latest (t .h .operation o .client) ≡ o) × Busy (t .c .turn (t .h .operation o .client)))
       → ((v : ℕ) → t .p .drawn v ≡ true → (s .p .drawn v ≡ true) ⊎ Deposited (t .h) (t .p) v)
       → ((o : ℕ) → o < t .h .begun → Unmarked (s .h) (t .h) o ⊎ Fair (t .h) (t .p) o (t .h .operation o))

@@ -1,7 +1,7 @@
 -- Histories after a step, written out: what a mark leaves is a record whose fields compute.
 use mathlib.Core.Path.{_≡_, refl}
 use mathlib.Core.List.{List}
-use mathlib.Core.Option.{Option, none as nothing}
+use mathlib.Core.Option.{Option, none}
 use Prim.Native.Nat.{ℕ, _+_}
 use borrow.Author.Tests.{eq-eqb}
 use Rattle.parties.specs.protocol.Run.{History, Operation, Put, begin, upd}
@@ -32,7 +32,7 @@ marked-last h c a replied = rw (eq-eqb (h .latest c) (h .latest c) refl) refl
 
 -- an operation that begins
 abbrev pub opening : ℕ → Option (List ℕ) → ℕ → Operation
-opening c page time = record { client = c; page = page; began = time; ended = nothing; version = nothing; pointer = nothing; given = nothing }
+opening c page time = record { client = c; page = page; began = time; ended = none; version = none; pointer = none; given = none }
 
 pub begun-last : (h : History) (c : ℕ) (page : Option (List ℕ)) → begin c page h .operation (begin c page h .latest c) ≡ opening c page (h .time)
 begun-last h c page = rw (eq-eqb c c refl) (rw (eq-eqb (h .begun) (h .begun) refl) refl)

@@ -2,7 +2,7 @@
 use mathlib.Core.Path.{_≡_, refl, sym, _∙_, ap}
 use mathlib.Core.Bool.{false}
 use mathlib.Core.List.{List}
-use mathlib.Core.Option.{Option, some, none as nothing}
+use mathlib.Core.Option.{Option, some, none}
 use Prim.Native.Nat.{ℕ, _≤_, _<_}
 use native.Mathlib.Omega.{arith}
 use borrow.Author.Tests.{eq-eqb, ne-eqb}
@@ -27,7 +27,7 @@ pub record Marking (b a : Operation) : Type 0 where
   pub version : (v : Version) → b .version ≡ some v → a .version ≡ some v
 
 -- it bears its version since the mark
-pub unborne : (b : Operation) (w : Option Version) → b .version ≡ nothing → (v : Version) → b .version ≡ some v → w ≡ some v
+pub unborne : (b : Operation) (w : Option Version) → b .version ≡ none → (v : Version) → b .version ≡ some v → w ≡ some v
 unborne b w n v e = absurd (none≢some (sym n ∙ e))
 
 module _ (h : History) (c : ℕ) (a : Operation) (b : Current h c) (replied : List (List ℕ)) where
@@ -40,7 +40,7 @@ module _ (h : History) (c : ℕ) (a : Operation) (b : Current h c) (replied : Li
         operation = rw (ne-eqb (h .latest j) (h .latest c) (λ q. e (sym (i .client) ∙ ap (λ o. h .operation o .client) q ∙ b .client))) refl;
       }
 
-  pub marked-current : Marking (h .operation (h .latest c)) a → a .ended ≡ nothing → a .given ≡ nothing → Current (markedAt h c a replied) c
+  pub marked-current : Marking (h .operation (h .latest c)) a → a .ended ≡ none → a .given ≡ none → Current (markedAt h c a replied) c
   marked-current m e n =
       let y = marked-last h c a replied in record { begun = b .begun; client = rw y (m .client ∙ b .client); unended = rw y e; given = rw y n }
 

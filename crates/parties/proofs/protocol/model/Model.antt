@@ -3,7 +3,7 @@
 use mathlib.Core.Path.{_≡_}
 use mathlib.Core.Bool.{Bool, true, false, cond, not, _&&_}
 use mathlib.Core.List.{List, [], _∷_, _++_}
-use mathlib.Core.Option.{some, none as nothing}
+use mathlib.Core.Option.{some, none}
 use Prim.Native.Nat.{ℕ, _+_, _-_, _*_, _^_, _≤_, _<_}
 use lib.Dec.{eqb, ltb}
 use lib.ListN.{length, replicate, set}
@@ -11,7 +11,7 @@ use Rattle.coding.specs.Bytes.{Bytes}
 use Rattle.coding.specs.Pieces.{piece}
 use Rattle.parties.specs.declared.Measures.{Measures}
 use Rattle.parties.specs.declared.Version.{Version}
-use Rattle.parties.specs.protocol.Version.{none as noVersion}
+use Rattle.parties.specs.protocol.Version.{noVersion}
 use Rattle.parties.specs.protocol.Nodes.{count, stands, withNode}
 use Rattle.parties.specs.protocol.Pointer.{Pointer, nonePointer}
 use Rattle.parties.specs.protocol.NodeTable.{Held}
@@ -305,7 +305,7 @@ pub data Next (z : Measures) (honest : ℕ → Bool) (s : Model) : Model → Typ
       → c < z .m → s .c .turn c ≡ idle → Bytes bytes → length bytes ≤ z .k * z .f - 4
       → Next z honest s
       (record { c = turned (s .c) c (scanning bytes); d = s .d; n = s .n; p = begunBy (s .p) (s .h .begun) (λ w. ver (shownWritten (s .c) w)); h = h })
-  reading : (c : ℕ) (h : History) → h ≡ begin c nothing (s .h)
+  reading : (c : ℕ) (h : History) → h ≡ begin c none (s .h)
       → c < z .m → s .c .turn c ≡ idle
       → Next z honest s (record { c = raisedBy (s .c) c; d = s .d; n = s .n; p = begunBy (s .p) (s .h .begun) (λ w. ver (shownWritten (s .c) w)); h = h })
   -- directory calls carried out

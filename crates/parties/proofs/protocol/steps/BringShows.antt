@@ -3,7 +3,7 @@ use mathlib.Core.Path.{_≡_, refl, sym, ap, _∙_}
 use mathlib.Core.Bool.{Bool, true, false, cond, _&&_, _||_, or-true, false≢true}
 use mathlib.Core.Logic.{_⊎_, inl, inr}
 use mathlib.Core.List.{List, [], _∷_, _++_, map, append-nil, map-append}
-use mathlib.Core.Option.{Option, some, none as nothing}
+use mathlib.Core.Option.{Option, some, none}
 use Prim.Native.Nat.{ℕ, suc, _+_, _*_, _^_, _≤_, _<_}
 use native.Mathlib.Omega.{arith}
 use native.Mathlib.Nat.{mul-le-mul}
@@ -57,7 +57,7 @@ keep-held h [] e = absurd (false≢true e)
 keep-held h (x ∷ l) e = go (keep-held h l) (below (h .version) (x .version)) (below (x .version) (h .version)) e
   where
     go : (isHeld (handBack (h .version) l) ≡ true → length (keep h l) ≡ length l) → (a b : Bool)
-        → isHeld (cond a nothing (cond b (handBack (h .version) l) (some (x .piece)))) ≡ true
+        → isHeld (cond a none (cond b (handBack (h .version) l) (some (x .piece)))) ≡ true
         → length (cond a (h ∷ x ∷ l) (cond b (x ∷ keep h l) (h ∷ l))) ≡ suc (length l)
     go ih true b e = absurd (false≢true e)
     go ih false true e = ap suc (ih e)
@@ -76,7 +76,7 @@ hand-good : (z : Measures) (v : Version) (l : List Held) → Each (FitsPlace z) 
 hand-good z v l f n = go (handBack v l) refl
   where
     go : (x : Option (List ℕ)) → handBack v l ≡ x → GoodToClient z (answer v x)
-    go nothing e = n
+    go none e = n
     go (some x) e = (n, hand-each (FitsPlace z) v x l f e .0 .0 .0 .1 .1 .0)
 
 module _ (z : Measures) (honest : ℕ → Bool) (passed : passes z ≡ true) (st : State) (s : Model) (o : Shows z honest st s) (c i : ℕ) (room : List ℕ) where

@@ -2,7 +2,7 @@
 use mathlib.Core.Path.{_≡_, refl, sym, ap, subst, _∙_}
 use mathlib.Core.Bool.{Bool, true, false, cond, not, _&&_, _||_, false≢true, true≢false}
 use mathlib.Core.List.{List, [], _∷_, _++_, map, cons≢nil, head-eq-of-cons-eq, tail-eq-of-cons-eq}
-use mathlib.Core.Option.{Option, some, none as nothing}
+use mathlib.Core.Option.{Option, some, none}
 use Prim.Native.Nat.{ℕ, _+_, _-_, _*_, _^_, _≤_, _<_}
 use native.Mathlib.Omega.{arith}
 use native.Mathlib.Decide.{decLt}
@@ -97,7 +97,7 @@ module _ (z : Measures) (i : ℕ) (x : Client) (room out : List ℕ) where
   on-leaves p n m ps = chosen StepLeaves (allCounted p n) _ _ tt tt
 
   counted-leaves : (p : Pointer) (n m : ℕ) (ps : List (List ℕ)) (y : Option (List ℕ)) → StepLeaves (counted z i x room out p n m ps y)
-  counted-leaves p n m ps nothing = on-leaves p n m ps
+  counted-leaves p n m ps none = on-leaves p n m ps
   counted-leaves p n m ps (some y) =
       chosen StepLeaves (matches z p i y) _ _
       (chosen StepLeaves (ltb (count (withNode m i)) (z .k)) _ _ (on-leaves p n (withNode m i) (set ps (i - 1) y))
@@ -119,7 +119,7 @@ module _ (z : Measures) (i : ℕ) (x : Client) (room out : List ℕ) where
   message-leaves (ToClient.stored v) = stored-leaves v (x .phase)
   message-leaves ToClient.freed = tt
   message-leaves (ToClient.reply v y) = replied-leaves v (some y) (x .phase)
-  message-leaves (ToClient.missing v) = replied-leaves v nothing (x .phase)
+  message-leaves (ToClient.missing v) = replied-leaves v none (x .phase)
 
 after-leaves : (z : Measures) (client room out rest : List ℕ) (e : Step) → StepLeaves e → Leaves (after z client room out rest e .answer)
 after-leaves z client room out rest (Step.stays a) h = h
@@ -214,7 +214,7 @@ module _ (z : Measures) (honest : ℕ → Bool) (st : State) (s : Model) (o : Sh
     turns : ClientEnd
     turns = record { answer = a; client = writeClient z (withPhase (phaseOf z t) mine) ++ []; room = room; out = out }
 
-    turns-follows : isRefused a ≡ false → ((j : ℕ) → messageTo z a room j ≡ nothing) → Sane ev (byClient a) → GoodPhase z (phaseOf z t) → GoodTurn z t
+    turns-follows : isRefused a ≡ false → ((j : ℕ) → messageTo z a room j ≡ none) → Sane ev (byClient a) → GoodPhase z (phaseOf z t) → GoodTurn z t
         → called a room (st .calls c) ≡ callsOf (withPhase (phaseOf z t) mine) t → st .returns c ≡ returnsOf z t
         → putBy t (s .c .written c) ≡ putBy (s .c .turn c) (s .c .written c) → raisedTo t (s .c .reading c) ≡ raisedTo (s .c .turn c) (s .c .reading c)
         → Next z honest s (record { c = turned (s .c) c t; d = s .d; n = with-toClient (s .n) q; p = p; h = mark z c turns (heard z message (st .history)) })
@@ -441,7 +441,7 @@ module _ (z : Measures) (honest : ℕ → Bool) (st : State) (s : Model) (o : Sh
       counted-follows : (y : Option (List ℕ)) → readToClient z message ≡ some (answer (x .version) y) → Comes honest (s .n) i c (answer (x .version) y) q
           → (honest i ≡ true → Truthful z s i c (answer (x .version) y))
           → Goes (counted z i mine room out x (withNode n i) m ps y)
-      counted-follows nothing reads comes truth = go (honest i) refl
+      counted-follows none reads comes truth = go (honest i) refl
         where
           -- an honest node holds what a reading may ask for
           go : (b : Bool) → honest i ≡ b → Goes (goOn mine room out x (withNode n i) m ps)
@@ -502,7 +502,7 @@ module _ (z : Measures) (honest : ℕ → Bool) (st : State) (s : Model) (o : Sh
       message-follows (ToClient.stored v) reads comes truth = stored-follows v (s .c .turn c) refl comes
       message-follows ToClient.freed reads comes truth = passed-over i ToClient.freed comes room out
       message-follows (ToClient.reply v y) reads comes truth = replied-follows v (some y) reads comes truth (s .c .turn c) refl
-      message-follows (ToClient.missing v) reads comes truth = replied-follows v nothing reads comes truth (s .c .turn c) refl
+      message-follows (ToClient.missing v) reads comes truth = replied-follows v none reads comes truth (s .c .turn c) refl
 
 -- ---- the same on bytes
 
@@ -651,10 +651,10 @@ module _ (z : Measures) (honest : ℕ → Bool) (passed : passes z ≡ true) (fe
         → (m : Option ToClient) → readToClient z bytes ≡ m
         → DigestsDiffer z (told z c bytes (st .toClient) (clientMessage z c i (st .clients c) bytes room out) st .state .history)
         → Follows z honest s (lie i c bytes room out) (told z c bytes (st .toClient) (clientMessage z c i (st .clients c) bytes room out) st)
-    lied-follows h f g nothing reads differ =
+    lied-follows h f g none reads differ =
         let ev = lie i c bytes room out in
         told-refused z honest passed few st s o inv ev i c bytes room out (st .toClient) (clientMessage z c i (st .clients c) bytes room out) 4
-        (ap (λ (e : ClientEnd). e .answer) (opened z honest passed few st s o inv ev i c bytes room out f g nothing reads))
+        (ap (λ (e : ClientEnd). e .answer) (opened z honest passed few st s o inv ev i c bytes room out f g none reads))
         (record { room = λ e. four≢eight (some-eq e); matching = λ e. four≢nine (some-eq e); form = λ e. tt })
     lied-follows h f g (some m) reads differ =
         comes-follows z honest passed few st s o inv (lie i c bytes room out) i c bytes room out m (s .n .toClient) (st .toClient) reads (Comes.lied h)

@@ -10,7 +10,7 @@ use Rattle.coding.proofs.BytesLaws.{tabulate-same}
 use Rattle.parties.specs.declared.Measures.{Measures}
 use Rattle.parties.specs.declared.Version.{Version}
 use Rattle.parties.specs.declared.ReadingIndex.{ReadingIndex}
-use Rattle.parties.specs.protocol.Version.{none as noVersion, ascending}
+use Rattle.parties.specs.protocol.Version.{noVersion, ascending}
 use Rattle.parties.specs.protocol.Pointer.{nonePointer}
 use Rattle.parties.specs.protocol.Directory.{writeDirectory, freshRow, freshDirectory}
 use Rattle.parties.specs.protocol.Node.{handBack}

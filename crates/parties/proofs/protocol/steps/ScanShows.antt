@@ -16,7 +16,7 @@ use Rattle.parties.specs.declared.Measures.{Measures}
 use Rattle.parties.specs.declared.ReadingIndex.{ReadingIndex}
 use Rattle.parties.specs.declared.Version.{Version}
 use Rattle.parties.specs.protocol.Measures.{passes}
-use Rattle.parties.specs.protocol.Version.{none as noVersion}
+use Rattle.parties.specs.protocol.Version.{noVersion}
 use Rattle.parties.specs.protocol.Nodes.{nodesIn, stands}
 use Rattle.parties.specs.protocol.Pointer.{Pointer, nonePointer, isNone, properPointer}
 use Rattle.parties.specs.protocol.Directory.{writeDirectory}

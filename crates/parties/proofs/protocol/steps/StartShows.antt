@@ -2,7 +2,7 @@
 use mathlib.Core.Path.{_≡_, refl, ap, _∙_}
 use mathlib.Core.Bool.{Bool, true, false, _&&_, false≢true, and-false}
 use mathlib.Core.List.{List, [], _∷_, _++_, append-nil}
-use mathlib.Core.Option.{Option, some, none as nothing}
+use mathlib.Core.Option.{Option, some, none}
 use Prim.Native.Nat.{ℕ, _+_, _-_, _*_, _≤_, _<_}
 use native.Mathlib.Omega.{arith}
 use native.Mathlib.Decide.{decLt, decLe}
@@ -183,14 +183,14 @@ module _ (z : Measures) (honest : ℕ → Bool) (passed : passes z ≡ true) (st
         turn = rw f tt;
       }
 
-  raises : (l : c < z .m) → s .c .turn c ≡ Turn.idle → s .c .reading c < 4294967295 → Follows z honest s (reading c room) (starts z c nothing raisedEnd st)
+  raises : (l : c < z .m) → s .c .turn c ≡ Turn.idle → s .c .reading c < 4294967295 → Follows z honest s (reading c room) (starts z c none raisedEnd st)
   unfolding raisedEnd
   raises l e few =
       let past : Past = begunBy (s .p) (s .h .begun) (λ j. ver (shownWritten (s .c) j)) in
-      let h : History = begin c nothing (st .history) in
+      let h : History = begin c none (st .history) in
       record {
         model = record { c = raisedBy (s .c) c; d = s .d; n = s .n; p = past; h = h };
-        step = Next.reading c h (ap (begin c nothing) (o .history)) l e;
+        step = Next.reading c h (ap (begin c none) (o .history)) l e;
         shows =
             goes-shows z honest st s o c l raisedEnd (st .returns) (st .toClient) h (raisedBy (s .c) c) (s .n) past
             (own-raised l e few)
@@ -202,12 +202,12 @@ module _ (z : Measures) (honest : ℕ → Bool) (passed : passes z ≡ true) (st
         sane = sane-quiet (reading c room) (byClient (update _)) refl;
       }
 
-  refuses : (n : ℕ) → ordinary n ≡ true → Follows z honest s (reading c room) (starts z c nothing (unchanged (refused n) (st .clients c) room []) st)
-  refuses n = starts-refused z honest passed st s o (reading c room) c nothing (unchanged (refused n) (st .clients c) room []) n refl
+  refuses : (n : ℕ) → ordinary n ≡ true → Follows z honest s (reading c room) (starts z c none (unchanged (refused n) (st .clients c) room []) st)
+  refuses n = starts-refused z honest passed st s o (reading c room) c none (unchanged (refused n) (st .clients c) room []) n refl
 
   known-reading : (l : c < z .m) → roomSize z ≤ length room → (idle : Bool) → isIdle (phaseOf z (s .c .turn c)) ≡ idle
       → (more : Bool) → ltb (s .c .reading c) 4294967295 ≡ more
-      → Follows z honest s (reading c room) (starts z c nothing (startReading z c (st .clients c) room) st)
+      → Follows z honest s (reading c room) (starts z c none (startReading z c (st .clients c) room) st)
   unfolding beginReading raisedEnd index
   known-reading l enough false e more f = rw (opened-reading l enough) (rw e (refuses 5 refl))
   known-reading l enough true e false f = rw (opened-reading l enough) (rw (e, f) (refuses 7 refl))
@@ -216,7 +216,7 @@ module _ (z : Measures) (honest : ℕ → Bool) (passed : passes z ≡ true) (st
 
   -- no room is 2; a client number out of bounds is 3, or 2 where there is no record of the length wanted
   short-reading : (enough : Bool) → (leb (clientSize z) (length (st .clients c)) && leb (roomSize z) (length room)) ≡ enough → (enough ≡ true → z .m ≤ c)
-      → Follows z honest s (reading c room) (starts z c nothing (startReading z c (st .clients c) room) st)
+      → Follows z honest s (reading c room) (starts z c none (startReading z c (st .clients c) room) st)
   unfolding startReading
   short-reading false e out = rw (passed, e) (refuses 2 refl)
   short-reading true e out = rw (passed, e, le-ltb c (z .m) (out refl)) (refuses 3 refl)
@@ -225,7 +225,7 @@ module _ (z : Measures) (honest : ℕ → Bool) (passed : passes z ≡ true) (st
   unfolding carryOut
   reading-follows b = go (decLt c (z .m)) (decLe (roomSize z) (length room))
     where
-      go : Dec (c < z .m) → Dec (roomSize z ≤ length room) → Follows z honest s (reading c room) (starts z c nothing (startReading z c (st .clients c) room) st)
+      go : Dec (c < z .m) → Dec (roomSize z ≤ length room) → Follows z honest s (reading c room) (starts z c none (startReading z c (st .clients c) room) st)
       go (yes l) (yes enough) = known-reading l enough (isIdle (phaseOf z (s .c .turn c))) refl (ltb (s .c .reading c) 4294967295) refl
       go (yes l) (no h) =
           short-reading false

@@ -2,7 +2,7 @@
 use mathlib.Core.Path.{_≡_, refl, sym, ap, subst, _∙_}
 use mathlib.Core.Bool.{Bool, true, false, cond, not, _&&_, _||_, true≢false}
 use mathlib.Core.List.{List, [], _++_, append-nil}
-use mathlib.Core.Option.{Option, some, none as nothing}
+use mathlib.Core.Option.{Option, some, none}
 use Prim.Native.Nat.{ℕ, _+_, _≤_, _<_}
 use native.Mathlib.Omega.{arith}
 use borrow.Author.Tests.{eq-eqb, ne-eqb, le-leb}
@@ -71,7 +71,7 @@ sane-number e a n q p =
     other : {k : ℕ} → numberOf a ≡ some k → ordinary k ≡ false → ⊥
     other h f = true≢false (sym p ∙ ap ordinary (some-eq (sym q ∙ h)) ∙ f)
 
-pub sane-quiet : (e : Event) (a : Answered) → numberOf a ≡ nothing → Sane e a
+pub sane-quiet : (e : Event) (a : Answered) → numberOf a ≡ none → Sane e a
 sane-quiet e a q =
     record {
       room = λ h. none≢some (sym q ∙ h);
@@ -189,10 +189,10 @@ same-way : {A : Type 0} (b : Bool) (x y : A) → x ≡ y → cond b x y ≡ y
 same-way true x y e = e
 same-way false x y e = refl
 
-pub unsent : (z : Measures) (e : ClientEnd) (i : ℕ) (b : List (List ℕ)) (q : List ToNode) → messageTo z (e .answer) (e .room) i ≡ nothing
+pub unsent : (z : Measures) (e : ClientEnd) (i : ℕ) (b : List (List ℕ)) (q : List ToNode) → messageTo z (e .answer) (e .room) i ≡ none
     → ToNodeShows z b q → ToNodeShows z (sentTo (sends z e i) b) q
 unsent z e i b q h o =
-    subst (λ (x : Option (List ℕ)). ToNodeShows z (sentTo x b) q) (sym (same-way (leb 1 i && leb i (z .n)) (messageTo z (e .answer) (e .room) i) nothing h)) o
+    subst (λ (x : Option (List ℕ)). ToNodeShows z (sentTo x b) q) (sym (same-way (leb 1 i && leb i (z .n)) (messageTo z (e .answer) (e .room) i) none h)) o
 
 -- ---- a client's event that is carried out
 

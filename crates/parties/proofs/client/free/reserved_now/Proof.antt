@@ -4,7 +4,7 @@ use native.Mathlib.Omega.{arith}
 use lib.ListN.{getD}
 use Rattle.coding.proofs.Cases.{chosen-yes, chosen-no}
 use Rattle.parties.specs.protocol.Nodes.{stands}
-use Rattle.parties.specs.protocol.Version.{none}
+use Rattle.parties.specs.protocol.Version.{noVersion}
 use Rattle.parties.specs.client.Found.{retainedIn}
 use Rattle.parties.proofs.client.FormLaws.{sizes}
 use borrow.Author.Needs.{needs}
@@ -24,7 +24,7 @@ returns : tie.Need-returns
 returns c =
     let a = c .before .before .before .before .args in
     let x = retainedIn (a .s) (a .area .now) in
-    c .written-version .ensures ∙ chosen-yes (stands (a .map) (a .q + 1)) (x .written .version) (getD (x .reserved) (a .q) none) (sym (c .before .before .stands .ensures) ∙ c .before .if1 .taken)
+    c .written-version .ensures ∙ chosen-yes (stands (a .map) (a .q + 1)) (x .written .version) (getD (x .reserved) (a .q) noVersion) (sym (c .before .before .stands .ensures) ∙ c .before .if1 .taken)
 
 reserved-for-requires : tie.Need-reserved-for-requires
 reserved-for-requires c κs = search needs
@@ -33,7 +33,7 @@ returns-2 : tie.Need-returns-2
 returns-2 c =
     let a = c .before .before .before .before .args in
     let x = retainedIn (a .s) (a .area .now) in
-    c .reserved-for .ensures ∙ chosen-no (stands (a .map) (a .q + 1)) (x .written .version) (getD (x .reserved) (a .q) none)
+    c .reserved-for .ensures ∙ chosen-no (stands (a .map) (a .q + 1)) (x .written .version) (getD (x .reserved) (a .q) noVersion)
     (sym (c .before .before .stands .ensures) ∙ c .before .if1 .left)
 
 pub reserved-now-spec : {M : Type 1} → statement M
