@@ -7,18 +7,18 @@ ghost use lib.ListN.{length};
 ghost use Rattle.coding.specs.Nodes.{nodesOf};
 ghost use Rattle.parties.specs.protocol.Nodes.{stands as standing, count as counted, withNode};
 
-pub(crate) fn stands(map: u16, i: usize) -> bool
-    requires { ⌜ (1 ≤ i) × (i ≤ 16) ⌝ }
-    ensures { λ r. ⌜ r ≡ standing map i ⌝ }
-{
-    (map >> (i - 1)) & 1 == 1
-}
-
 fn bit(map: u16, i: usize) -> usize
     requires { ⌜ i < 16 ⌝ }
     ensures { λ r. ⌜ r ≡ map / 2 ^ i % 2 ⌝ }
 {
     ((map >> i) & 1) as usize
+}
+
+pub(crate) fn stands(map: u16, i: usize) -> bool
+    requires { ⌜ (1 ≤ i) × (i ≤ 16) ⌝ }
+    ensures { λ r. ⌜ r ≡ standing map i ⌝ }
+{
+    bit(map, i - 1) == 1
 }
 
 // How many nodes a map names.
