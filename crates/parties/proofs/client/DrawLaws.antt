@@ -20,7 +20,6 @@ use Rattle.coding.specs.Digest.{pieceDigest}
 use Rattle.coding.proofs.BytesLaws.{length-tabulate, getD-tabulate, tabulate-ext}
 use Rattle.coding.proofs.PageLaws.{some-eq}
 use Rattle.coding.proofs.DigestLaws.{length-digest}
-use Rattle.coding.proofs.Cases.{chosen-of}
 use Rattle.parties.specs.declared.Measures.{Measures}
 use Rattle.parties.specs.declared.Sequence.{Sequence}
 use Rattle.parties.specs.declared.Version.{Version}
@@ -118,19 +117,15 @@ module _ (s : Measures) (t : List ℕ) (b : Bytes t) (o : isSome (readDirectory 
 
 -- no row yet; one row more, from the last on
 module _ (l : List Row) (n : ℕ) (e : length l ≡ n) where
-  pub top-none : 0 ≡ highest (drop n l) .0
+  pub top-none : record { 0 = 0 } ≡ highest (drop n l)
   unfolding highest
-  top-none = ap (λ (x : List Row). highest x .0) (sym (ap (λ (k : ℕ). drop k l) (sym e) ∙ drop-length l))
+  top-none = ap highest (sym (ap (λ (k : ℕ). drop k l) (sym e) ∙ drop-length l))
 
-  pub top-more : (i : ℕ) → i < n → (q top : ℕ) → q ≡ getD l i noRow .written .version .sequence .0 → top ≡ highest (drop (suc i) l) .0
-      → cond (ltb top q) q top ≡ highest (drop i l) .0
+  pub top-more : (i : ℕ) → i < n → (q top : Sequence) → q ≡ getD l i noRow .written .version .sequence → top ≡ highest (drop (suc i) l)
+      → cond (ltb (top .0) (q .0)) q top ≡ highest (drop i l)
   unfolding highest
   top-more i h q top f g =
-      let r = getD l i noRow in
-      let o = highest (drop (suc i) l) in
-      (λ j. cond (ltb (g j) (f j)) (f j) (g j))
-      ∙ chosen-of (λ (x : Sequence). x .0) (ltb (o .0) (sequenceOf r)) (r .written .version .sequence) o
-      ∙ ap (λ (x : List Row). highest x .0) (sym (drop-cons l i noRow (omega arith)))
+      (λ j. cond (ltb (g j .0) (f j .0)) (f j) (g j)) ∙ ap highest (sym (drop-cons l i noRow (omega arith)))
 
 -- ---- the front of the store messages
 

@@ -35,21 +35,21 @@ ghost use Rattle.parties.specs.client.Answer.{answered};
 ghost use Rattle.parties.specs.client.Record.{recordOf, isSome};
 ghost use Rattle.parties.specs.client.Draw.{rowsOf, roomDigests, storesWork, drawEnd};
 
-fn larger(a: u32, b: u32) -> u32
-    ensures { λ r. ⌜ r ≡ cond (ltb b a) a b ⌝ }
+fn larger(a: Sequence, b: Sequence) -> Sequence
+    ensures { λ r. ⌜ r ≡ cond (ltb (b .0) (a .0)) a b ⌝ }
 {
-    if b < a {
+    if b.below(a) {
         return a;
     }
     b
 }
 
 // The written sequence of row i, which starts with its map.
-fn written_sequence(s: Measures, size: usize, rows: &[u8], i: usize) -> u32
+fn written_sequence(s: Measures, size: usize, rows: &[u8], i: usize) -> Sequence
     requires { ⌜ (passes s ≡ true) × (size ≡ rowSize s) × (isSome (readDirectory s (now rows)) ≡ true) × (i < s .m) ⌝ }
-    ensures { λ r. ⌜ r ≡ getD (rowsOf (readDirectory s (now (rows .entry)))) i noRow .written .version .sequence .0 ⌝ }
+    ensures { λ r. ⌜ r ≡ getD (rowsOf (readDirectory s (now (rows .entry)))) i noRow .written .version .sequence ⌝ }
 {
-    u32_at(rows, i * size + 1)
+    Sequence(u32_at(rows, i * size + 1))
 }
 
 // The highest written sequence of the rows, from the last row on.
@@ -58,7 +58,7 @@ pub fn highest(s: Measures, rows: &[u8]) -> Sequence
     ensures { λ r. ⌜ r ≡ highestOf (rowsOf (readDirectory s (now (rows .entry)))) ⌝ }
 {
     let size = row_size(s);
-    let mut top = 0u32;
+    let mut top = Sequence(0);
     let mut i = s.m;
     while 0 < i {
         i -= 1;
@@ -66,7 +66,7 @@ pub fn highest(s: Measures, rows: &[u8]) -> Sequence
         let next = larger(q, top);
         top = next;
     }
-    Sequence(top)
+    top
 }
 
 // The common front of a version's store messages: tag and version.

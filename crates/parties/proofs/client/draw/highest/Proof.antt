@@ -11,7 +11,7 @@ use Rattle.parties.proofs.client.draw.highest.Statement.{statement}
 use Rattle.parties.proofs.client.draw.highest.Tie as tie
 
 abbrev Inv-loop : tie.InvT-loop
-Inv-loop s rows size top₀ i₀ top i = (i ≤ s .m) × (top ≡ highest (drop i (rowsOf (readDirectory s rows))) .0)
+Inv-loop s rows size top₀ i₀ top i = (i ≤ s .m) × (top ≡ highest (drop i (rowsOf (readDirectory s rows))))
 
 abbrev μ-loop : tie.MeasureT-loop
 μ-loop s rows size top₀ i₀ top i = i
@@ -52,15 +52,14 @@ loop-again c =
       c .larger .ensures
           ∙ top-more l (a .s .m) (rows-count (a .s) (a .rows .now) (λ j. c .before .before .before .before .before .shared-slice-known .given j .fits) (p .1)) (i - 1) (omega (arith, t, v .0))
           (c .before .written-sequence .result) (c .before .before .before .loop .top) (c .before .written-sequence .ensures)
-          (v .1 ∙ ap (λ (k : ℕ). highest (drop k l) .0) e),
+          (v .1 ∙ ap (λ (k : ℕ). highest (drop k l)) e),
     )
 
 returns : tie.Need-returns Inv-loop μ-loop
 returns c =
     let a = c .before .before .before .before .args in
     let z : c .before .loop .i ≡ 0 = omega (arith, c .loop-test .left) in
-    let e = c .before .loop .inv .1 ∙ ap (λ (k : ℕ). highest (drop k (rowsOf (readDirectory (a .s) (a .rows .now)))) .0) z in
-    λ j. record { 0 = e j }
+    c .before .loop .inv .1 ∙ ap (λ (k : ℕ). highest (drop k (rowsOf (readDirectory (a .s) (a .rows .now))))) z
 
 pub highest-spec : {M : Type 1} → statement M
 highest-spec =

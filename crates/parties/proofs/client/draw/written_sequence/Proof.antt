@@ -31,8 +31,11 @@ returns : tie.Need-returns
 returns c =
     let a = c .before .before .args in
     let p = c .before .before .pre in
+    let e =
     row-sequence (a .s) (a .rows .now) (λ i. c .before .shared-slice-known .given i .fits) (p .2) (a .i) (p .3) (c .u32-at .result) _
     (ap (λ (x : ℕ). readNumber 4 (drop (a .i * x + 1) (a .rows .now))) (sym (p .1)) ∙ c .u32-at .ensures)
+    in
+    λ j. record { 0 = e j }
 
 pub written-sequence-spec : {M : Type 1} → statement M
 written-sequence-spec = tie.close (tie.spec mul-u32-at add-u32-at u32-at-requires returns)
