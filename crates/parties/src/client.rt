@@ -14,5 +14,6 @@ mod receive;
 pub mod record;
 mod reply;
 mod scan;
+mod step;
 mod tell;
 pub mod turn;

@@ -5,10 +5,12 @@ use crate::Service;
 use crate::records::bytes::copy;
 use crate::records::form::Ends;
 use crate::records::form::Parts;
+use crate::records::form::ROW_MAP;
 use crate::records::form::directory;
 use crate::records::form::field_ends;
 use crate::records::form::row_size;
 use crate::records::form::whole_record;
+use crate::records::version::NO_CLIENT;
 ghost use mathlib.Core.Path.{_≡_};
 ghost use mathlib.Core.Bool.{true};
 ghost use mathlib.Core.List.{_++_};
@@ -24,16 +26,18 @@ ghost use Rattle.parties.specs.Answer.{served};
 ghost use Rattle.parties.specs.records.Form.{rest, Recorded};
 ghost use Rattle.parties.specs.directory.Room.{Built, Ordered, Renewed, part, renewed};
 
-// A fresh row: the map of all fields, and pointers that are none; the rest is zero. The longest row, of 8 clients and 16 digests a
-// pointer, has 4708 bytes.
+// The bytes of a row of 8 clients and 16 digests a pointer.
+const LONGEST_ROW: usize = 4708;
+
+// A fresh row: the map of all fields, and pointers that are none; the rest is zero.
 fn fresh_row(s: Measures, room: &mut [u8])
     requires { ⌜ (passes s ≡ true) × (now room ≡ replicate 4708 0) ⌝ }
     ensures { λ _. ⌜ Built (writeRow (freshRow s)) (now (room .exit)) ⌝ }
 {
-    room[0] = 15;
+    room[0] = ROW_MAP;
     let pointers = s.m + 1;
     for i in 0..pointers {
-        room[7 * i + 5] = 255;
+        room[7 * i + 5] = NO_CLIENT;
     }
 }
 
@@ -63,7 +67,7 @@ pub fn fresh_directory(s: Measures, table: &mut [u8]) -> Service
     if table.len() < s.m * size {
         return Service::Refused(Refusal::Short);
     }
-    let mut room = [0u8; 4708];
+    let mut room = [0u8; LONGEST_ROW];
     fresh_row(s, &mut room);
     repeat(s.m, size, &room, table);
     Service::Served(0)
@@ -102,7 +106,7 @@ fn rebuild(fields: &[u8], e: Ends, table: &[u8], at: usize, f: Ends, room: &mut 
     ensures { λ _. ⌜ Built (renewed (getD (now (fields .entry)) 0 0) (now (fields .entry)) e (now (table .entry)) at f) (now (room .exit)) ⌝ }
 {
     let map = fields[0];
-    room[0] = 15;
+    room[0] = ROW_MAP;
     let p = put(
         room,
         1,
@@ -155,11 +159,11 @@ fn renew(s: Measures, size: usize, at: usize, e: Ends, fields: &[u8], table: &mu
         × (rest (readRow s (drop at (now table))) ≡ some (drop (at + rowSize s) (now table))) ⌝ }
     ensures { λ _. ⌜ Renewed s at (now (fields .entry)) (now (table .entry)) (now (table .exit)) ⌝ }
 {
-    let Parts::Sound(f) = field_ends(s, 15, table, at + 1) else {
+    let Parts::Sound(f) = field_ends(s, ROW_MAP, table, at + 1) else {
         // Not reached: the row is sound.
         return;
     };
-    let mut room = [0u8; 4708];
+    let mut room = [0u8; LONGEST_ROW];
     rebuild(fields, e, table, at, f, &mut room);
     copy(table, at, &room, 0, size);
 }

@@ -4,6 +4,12 @@ use crate::Refusal;
 use crate::Sequence;
 use crate::Service;
 use crate::Version;
+use crate::message::FREE;
+use crate::message::FREED;
+use crate::message::REPLY;
+use crate::message::REQUEST;
+use crate::message::STORE;
+use crate::message::STORED;
 use crate::message::free_sound;
 use crate::message::store_sound;
 use crate::records::bytes::clear;
@@ -173,14 +179,14 @@ fn keep(s: Measures, t: &mut [u8], b: &[u8], room: &mut [u8]) -> Service
     let at = 2 + j * z;
     if stands(z, t, count, j, v) {
         put_place(s, t, at, b);
-        put_head(room, 4, b);
+        put_head(room, STORED, b);
         return Service::Served(6);
     }
     if 2 * (s.m * s.m) <= count {
         return Service::Refused(Refusal::Full);
     }
     insert(s, t, count, at, b);
-    put_head(room, 4, b);
+    put_head(room, STORED, b);
     Service::Served(6)
 }
 
@@ -203,7 +209,7 @@ fn hand_back(s: Measures, t: &[u8], b: &[u8], room: &mut [u8]) -> Service
     let count = length_at(t, 0);
     let v = version_at(b, 1);
     let j = seek(z, t, count, v);
-    put_head(room, 6, b);
+    put_head(room, REPLY, b);
     if !stands(z, t, count, j, v) {
         room[6] = 0;
         return Service::Served(7);
@@ -307,7 +313,7 @@ fn free(s: Measures, t: &mut [u8], b: &[u8], room: &mut [u8]) -> Service
     let kept = release(s, t, b, count, (b.len() - 1) / 5);
     clear(t, 2 + kept * z, 2 + count * z);
     put_u16(t, 0, kept as u16);
-    room[0] = 5;
+    room[0] = FREED;
     Service::Served(1)
 }
 
@@ -331,13 +337,13 @@ fn receive(s: Measures, t: &mut [u8], b: &[u8], room: &mut [u8]) -> Service
         return Service::Refused(Refusal::Form);
     }
     let tag = b[0];
-    if tag == 1 {
+    if tag == STORE {
         return store(s, t, b, room);
     }
-    if tag == 2 {
+    if tag == REQUEST {
         return request(s, t, b, room);
     }
-    if tag == 3 {
+    if tag == FREE {
         return free(s, t, b, room);
     }
     Service::Refused(Refusal::Form)

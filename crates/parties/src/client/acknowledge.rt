@@ -7,6 +7,8 @@ use crate::Version;
 use crate::client::form::work_at;
 use crate::client::publish::form_pointer;
 use crate::client::publish::put_update;
+use crate::client::step::STORING;
+use crate::client::step::UPDATING;
 use crate::records::bytes::put_u16;
 use crate::records::bytes::u16_at;
 use crate::records::nodes::count;
@@ -65,7 +67,7 @@ fn publish(
     let reading = p.reading;
     Turned {
         phase: Phase {
-            step: 3,
+            step: UPDATING,
             reading: reading,
         },
         answer: ClientAnswer::Update(len),
@@ -87,7 +89,7 @@ pub fn acknowledge(
         × (now (room .exit) ≡ storedEnd s i v (recordOf p (now (area .entry))) (now (room .entry)) out .room)
         × (out ≡ storedEnd s i v (recordOf p (now (area .entry))) (now (room .entry)) out .out)) ⌝ }
 {
-    if p.step != 2 {
+    if p.step != STORING {
         return Turned {
             phase: p,
             answer: ClientAnswer::Waits,

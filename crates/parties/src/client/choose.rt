@@ -8,6 +8,9 @@ use crate::Version;
 use crate::client::form::work_at;
 use crate::client::form::work_size;
 use crate::client::pick::picked;
+use crate::client::step::FETCHING;
+use crate::client::step::IDLE;
+use crate::message::REQUEST;
 use crate::records::bytes::clear;
 use crate::records::bytes::copy;
 use crate::records::bytes::u16_at;
@@ -111,7 +114,7 @@ pub fn put_request(room: &mut [u8], p: &[u8])
     requires { ⌜ (6 ≤ length (now room)) × (5 ≤ length (now p)) ⌝ }
     ensures { λ _. ⌜ now (room .exit) ≡ lay (writeToNode (ToNode.request (versionAt (now (p .entry)) 0))) (now (room .entry)) ⌝ }
 {
-    room[0] = 2;
+    room[0] = REQUEST;
     copy(room, 1, p, 0, 5);
 }
 
@@ -148,7 +151,7 @@ pub fn fetch(
     if q.0 == 0 {
         return Turned {
             phase: Phase {
-                step: 0,
+                step: IDLE,
                 reading: reading,
             },
             answer: ClientAnswer::Empty,
@@ -161,7 +164,7 @@ pub fn fetch(
     put_fetched(area, at, size, found);
     Turned {
         phase: Phase {
-            step: 7,
+            step: FETCHING,
             reading: reading,
         },
         answer: ClientAnswer::Requests(version, nodes),

@@ -7,6 +7,8 @@ use crate::Turned;
 use crate::Version;
 use crate::client::form::work_at;
 use crate::client::form::work_size;
+use crate::client::step::STORING;
+use crate::message::STORE;
 use crate::records::bytes::clear;
 use crate::records::bytes::put_u16;
 use crate::records::bytes::put_u32;
@@ -74,7 +76,7 @@ pub fn put_front(room: &mut [u8], v: Version)
     requires { ⌜ 6 ≤ length (now room) ⌝ }
     ensures { λ _. ⌜ now (room .exit) ≡ writeToNode (ToNode.store v []) ++ drop 6 (now (room .entry)) ⌝ }
 {
-    room[0] = 1;
+    room[0] = STORE;
     put_u32(room, 1, v.sequence.0);
     room[5] = v.client;
 }
@@ -192,7 +194,7 @@ pub fn draw(
     let reading = p.reading;
     Turned {
         phase: Phase {
-            step: 2,
+            step: STORING,
             reading: reading,
         },
         answer: ClientAnswer::Stores(v, len),

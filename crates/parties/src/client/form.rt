@@ -1,6 +1,11 @@
 // A client's record: sizes of its area, and its form test.
 use crate::Measures;
 use crate::Phase;
+use crate::client::step::FETCHING;
+use crate::client::step::FREEZING;
+use crate::client::step::SCANNING;
+use crate::client::step::STORING;
+use crate::client::step::UPDATING;
 use crate::records::bytes::u16_at;
 use crate::records::bytes::u32_at;
 use crate::records::bytes::zero_run;
@@ -247,22 +252,22 @@ fn work_form(s: Measures, step: u8, t: &[u8], at: usize) -> Form
     requires { ⌜ (passes s ≡ true) × (at + workSize s ≤ length (now t)) ⌝ }
     ensures { λ r. ⌜ Formed (now (t .entry)) at (rest (readWork s step (drop at (now (t .entry))))) r ⌝ }
 {
-    if step == 1 {
+    if step == SCANNING {
         return page_form(s, t, at);
     }
-    if step == 2 {
+    if step == STORING {
         return stores_form(s, t, at);
     }
-    if step == 3 {
+    if step == UPDATING {
         return some_form(s, t, at);
     }
-    if step == 4 {
+    if step == FREEZING {
         return some_form(s, t, at);
     }
-    if step == 7 {
+    if step == FETCHING {
         return fetches_form(s, t, at);
     }
-    if 7 < step {
+    if FETCHING < step {
         return Form::Broken;
     }
     Form::Sound(at)

@@ -4,6 +4,7 @@ use crate::Sequence;
 use crate::Version;
 use crate::client::draw::put_version;
 use crate::client::form::pointer_size;
+use crate::message::FREE;
 use crate::records::bytes::move_up;
 use crate::records::nodes::stands;
 use crate::records::version::same_version;
@@ -206,7 +207,7 @@ fn start_list(s: Measures, map: u16, new: Version, area: &[u8], room: &mut [u8])
     requires { ⌜ Holds s (now area) × (6 ≤ length (now room)) ⌝ }
     ensures { λ r. ⌜ Listing (now (room .entry)) (freedUpTo s map (retainedIn s (now (area .entry))) new 0) r (now (room .exit)) ⌝ }
 {
-    room[0] = 3;
+    room[0] = FREE;
     let written = written_version(s, area);
     free_version(s, map, new, area, room, 0, written)
 }

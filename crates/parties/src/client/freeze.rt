@@ -10,6 +10,7 @@ use crate::client::form::work_size;
 use crate::client::free::put_free_list;
 use crate::client::notice::noticed_map;
 use crate::client::notice::shown_index;
+use crate::client::step::IDLE;
 use crate::records::bytes::clear;
 use crate::records::bytes::move_down;
 use crate::records::bytes::move_up;
@@ -107,7 +108,7 @@ pub fn freeze(
     let reading = p.reading;
     Turned {
         phase: Phase {
-            step: 0,
+            step: IDLE,
             reading: reading,
         },
         answer: ClientAnswer::Deposited(v, len),

@@ -8,6 +8,7 @@ use crate::records::bytes::clear;
 use crate::records::bytes::copy;
 use crate::records::bytes::move_down;
 use crate::records::bytes::put_u16;
+use crate::records::form::DEPOSIT_MAP;
 use crate::records::nodes::stands;
 ghost use mathlib.Core.Path.{_≡_};
 ghost use mathlib.Core.Bool.{true, cond};
@@ -113,7 +114,7 @@ pub fn put_update(s: Measures, area: &[u8], room: &mut [u8]) -> usize
     let size = pointer_size(s);
     let at = work_at(s);
     let n = 4 * s.m;
-    room[0] = 7;
+    room[0] = DEPOSIT_MAP;
     copy(room, 1, area, at, size);
     let end = put_frozen(s, size, area, room, 1 + size);
     copy(room, end, area, at - n, n);

@@ -9,6 +9,8 @@ use crate::client::draw::digest_piece;
 use crate::client::form::pointer_size;
 use crate::client::form::work_at;
 use crate::client::form::work_size;
+use crate::client::step::FETCHING;
+use crate::client::step::IDLE;
 use crate::records::bytes::clear;
 use crate::records::bytes::copy;
 use crate::records::bytes::put_u16;
@@ -142,7 +144,7 @@ fn go_on(s: Measures, p: Phase, area: &mut [u8], named: u16, counted: u16, match
         clear(area, at, at + size);
         return Turned {
             phase: Phase {
-                step: 0,
+                step: IDLE,
                 reading: reading,
             },
             answer: ClientAnswer::Failed,
@@ -274,7 +276,7 @@ fn finish(
     clear(area, at, at + size);
     Turned {
         phase: Phase {
-            step: 0,
+            step: IDLE,
             reading: reading,
         },
         answer: ClientAnswer::Page(version, len),
@@ -330,7 +332,7 @@ pub fn reply(
         × (room ≡ repliedEnd s i v (some (now (piece .entry))) (recordOf p (now (area .entry))) room (now (out .entry)) .room)
         × (now (out .exit) ≡ repliedEnd s i v (some (now (piece .entry))) (recordOf p (now (area .entry))) room (now (out .entry)) .out)) ⌝ }
 {
-    if p.step != 7 {
+    if p.step != FETCHING {
         return Turned {
             phase: p,
             answer: ClientAnswer::Waits,
@@ -355,7 +357,7 @@ pub fn missing(s: Measures, i: usize, v: Version, p: Phase, area: &mut [u8]) -> 
         × (room ≡ repliedEnd s i v none (recordOf p (now (area .entry))) room out .room)
         × (out ≡ repliedEnd s i v none (recordOf p (now (area .entry))) room out .out)) ⌝ }
 {
-    if p.step != 7 {
+    if p.step != FETCHING {
         return Turned {
             phase: p,
             answer: ClientAnswer::Waits,

@@ -11,6 +11,10 @@ use crate::client::draw::highest;
 use crate::client::form::work_at;
 use crate::client::form::work_size;
 use crate::client::freeze::freeze;
+use crate::client::step::FREEZING;
+use crate::client::step::IDLE;
+use crate::client::step::PICKING;
+use crate::client::step::SCANNING;
 use crate::records::bytes::clear;
 ghost use mathlib.Core.Path.{_≡_};
 ghost use mathlib.Core.Bool.{true};
@@ -37,7 +41,7 @@ fn give_up(s: Measures, p: Phase, area: &mut [u8], room: &[u8]) -> Turned
     let reading = p.reading;
     Turned {
         phase: Phase {
-            step: 0,
+            step: IDLE,
             reading: reading,
         },
         answer: ClientAnswer::Spent,
@@ -82,13 +86,13 @@ pub fn after_scan(
         × (recordOf (r .phase) (now (area .exit)) ≡ scannedEnd s own (recordOf p (now (area .entry))) (now (rows .entry)) (now (room .entry)) .client)
         × (now (room .exit) ≡ scannedEnd s own (recordOf p (now (area .entry))) (now (rows .entry)) (now (room .entry)) .room) ⌝ }
 {
-    if p.step == 1 {
+    if p.step == SCANNING {
         return first_scan(s, own, p, area, rows, room);
     }
-    if p.step == 4 {
+    if p.step == FREEZING {
         return freeze(s, own, p, area, rows, room);
     }
-    if p.step == 6 {
+    if p.step == PICKING {
         return fetch(s, own, p, area, rows, room);
     }
     Turned {

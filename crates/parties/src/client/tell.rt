@@ -1,6 +1,9 @@
 // Messages to a client: their forms.
 use crate::Measures;
 use crate::Version;
+use crate::message::FREED;
+use crate::message::REPLY;
+use crate::message::STORED;
 use crate::records::version::proper_at;
 use crate::records::version::version_alone;
 use crate::records::version::version_at;
@@ -65,13 +68,13 @@ pub fn tell(s: Measures, b: &[u8]) -> Told
         return Told::Broken;
     }
     let tag = b[0];
-    if tag == 4 {
+    if tag == STORED {
         return stored(s, b);
     }
-    if tag == 6 {
+    if tag == REPLY {
         return replied(s, b);
     }
-    if tag != 5 {
+    if tag != FREED {
         return Told::Broken;
     }
     if b.len() != 1 {

@@ -17,11 +17,19 @@ use crate::client::gate::roomy;
 use crate::client::gate::spacious;
 use crate::client::receive::receive;
 use crate::client::scan::after_scan;
+use crate::client::step::FREEZING;
+use crate::client::step::IDLE;
+use crate::client::step::PICKING;
+use crate::client::step::RAISING;
+use crate::client::step::SCANNING;
+use crate::client::step::UPDATING;
 use crate::records::bytes::clear;
 use crate::records::bytes::copy;
 use crate::records::bytes::put_u32;
+use crate::records::form::READING_MAP;
 use crate::records::form::directory;
 use crate::records::form::row_size;
+use crate::records::version::NO_CLIENT;
 ghost use mathlib.Core.Path.{_≡_};
 ghost use Prim.Native.Nat.{_+_, _*_, _≤_};
 ghost use lib.ListN.{length};
@@ -37,7 +45,7 @@ fn put_none(t: &mut [u8], from: usize, width: usize, n: usize)
     let mut at = from;
     let mut i = 0;
     while i < n {
-        t[at + 4] = 255;
+        t[at + 4] = NO_CLIENT;
         at += width;
         i += 1;
     }
@@ -68,7 +76,7 @@ pub fn fresh_client(p: Phase, s: Measures, area: &mut [u8]) -> Turned
     put_none(area, pointers, 5, s.m);
     Turned {
         phase: Phase {
-            step: 0,
+            step: IDLE,
             reading: ReadingIndex(0),
         },
         answer: ClientAnswer::Waits,
@@ -94,7 +102,7 @@ pub fn start_deposit(p: Phase, s: Measures, own: usize, area: &mut [u8], page: &
             answer: ClientAnswer::Refused(r),
         };
     }
-    if p.step != 0 {
+    if p.step != IDLE {
         return Turned {
             phase: p,
             answer: ClientAnswer::Refused(Refusal::Turn),
@@ -113,7 +121,7 @@ pub fn start_deposit(p: Phase, s: Measures, own: usize, area: &mut [u8], page: &
     let reading = p.reading;
     Turned {
         phase: Phase {
-            step: 1,
+            step: SCANNING,
             reading: reading,
         },
         answer: ClientAnswer::Scan,
@@ -140,7 +148,7 @@ pub fn start_reading(p: Phase, s: Measures, own: usize, area: &mut [u8], room: &
             answer: ClientAnswer::Refused(r),
         };
     }
-    if p.step != 0 {
+    if p.step != IDLE {
         return Turned {
             phase: p,
             answer: ClientAnswer::Refused(Refusal::Turn),
@@ -154,11 +162,11 @@ pub fn start_reading(p: Phase, s: Measures, own: usize, area: &mut [u8], room: &
             answer: ClientAnswer::Refused(Refusal::Spent),
         };
     };
-    room[0] = 8;
+    room[0] = READING_MAP;
     put_u32(room, 1, i.0);
     Turned {
         phase: Phase {
-            step: 5,
+            step: RAISING,
             reading: i,
         },
         answer: ClientAnswer::Update(5),
@@ -186,19 +194,19 @@ pub fn update_answer(p: Phase, s: Measures, own: usize, area: &mut [u8], room: &
         };
     }
     let reading = p.reading;
-    if p.step == 3 {
+    if p.step == UPDATING {
         return Turned {
             phase: Phase {
-                step: 4,
+                step: FREEZING,
                 reading: reading,
             },
             answer: ClientAnswer::Scan,
         };
     }
-    if p.step == 5 {
+    if p.step == RAISING {
         return Turned {
             phase: Phase {
-                step: 6,
+                step: PICKING,
                 reading: reading,
             },
             answer: ClientAnswer::Scan,

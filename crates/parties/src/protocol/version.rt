@@ -9,6 +9,9 @@ ghost use Prim.Native.Nat.{_+_};
 ghost use lib.Dec.{ltb};
 ghost use Rattle.parties.specs.protocol.Version.{below, nextSequence, nextIndex};
 
+// The last number of each counter, which is 32 bits wide.
+const LAST: u32 = 4294967295;
+
 impl Sequence {
     pub fn below(self, other: Sequence) -> bool
         ensures { λ r. ⌜ r ≡ ltb (self .0) (other .0) ⌝ }
@@ -19,7 +22,7 @@ impl Sequence {
     pub fn next(self) -> NextSequence
         ensures { λ r. ⌜ r ≡ nextSequence self ⌝ }
     {
-        if self.0 < 4294967295 {
+        if self.0 < LAST {
             NextSequence::Drawn(Sequence(self.0 + 1))
         } else {
             NextSequence::Spent
@@ -37,7 +40,7 @@ impl ReadingIndex {
     pub fn next(self) -> NextIndex
         ensures { λ r. ⌜ r ≡ nextIndex self ⌝ }
     {
-        if self.0 < 4294967295 {
+        if self.0 < LAST {
             NextIndex::Raised(ReadingIndex(self.0 + 1))
         } else {
             NextIndex::Spent

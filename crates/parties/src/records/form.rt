@@ -17,6 +17,16 @@ ghost use Rattle.parties.specs.protocol.Format.{readMany};
 ghost use Rattle.parties.specs.protocol.Directory.{Field, readRow, readDirectory};
 ghost use Rattle.parties.specs.records.Form.{rest, Formed, properNumbers, afterIf, Parted, Recorded};
 
+// Four bits of a directory record's map stand for its fields: the maps are below 16, and a row's has all four.
+pub(crate) const MAPS: u8 = 16;
+
+pub(crate) const ROW_MAP: u8 = 15;
+
+// The maps of updates: a deposit's has the written pointer, the frozen ones and their indices, a reading's its index.
+pub(crate) const DEPOSIT_MAP: u8 = 7;
+
+pub(crate) const READING_MAP: u8 = 8;
+
 // Of a record at a place.
 pub enum Form {
     // The place after it.
@@ -162,7 +172,7 @@ pub(crate) fn whole_record(s: Measures, t: &[u8]) -> Parts
         return Parts::Broken;
     }
     let map = t[0];
-    if 16 <= map {
+    if MAPS <= map {
         return Parts::Broken;
     }
     let Parts::Sound(e) = field_ends(s, map, t, 1) else {
@@ -187,10 +197,10 @@ fn row(s: Measures, size: usize, t: &[u8], at: usize) -> bool
     requires { ⌜ (passes s ≡ true) × (size ≡ rowSize s) × (at + rowSize s ≤ length (now t)) ⌝ }
     ensures { λ r. ⌜ rest (readRow s (drop at (now (t .entry)))) ≡ cond r (some (drop (at + rowSize s) (now (t .entry)))) none ⌝ }
 {
-    if t[at] != 15 {
+    if t[at] != ROW_MAP {
         return false;
     }
-    let Parts::Sound(e) = field_ends(s, 15, t, at + 1) else {
+    let Parts::Sound(e) = field_ends(s, ROW_MAP, t, at + 1) else {
         return false;
     };
     let from = e.index;

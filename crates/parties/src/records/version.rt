@@ -9,6 +9,9 @@ ghost use lib.ListN.{length};
 ghost use Rattle.parties.specs.protocol.Reading.{sameVersion};
 ghost use Rattle.parties.specs.records.Places.{versionAt, properAt, versionAlone};
 
+// The client of the version none.
+pub(crate) const NO_CLIENT: u8 = 255;
+
 // Neither is below the other.
 pub(crate) fn same_version(a: Version, b: Version) -> bool
     ensures { λ r. ⌜ r ≡ sameVersion a b ⌝ }
