@@ -1,7 +1,6 @@
 // Messages to a node: their forms.
 use crate::Measures;
-use crate::Sequence;
-use crate::Version;
+use crate::protocol::version::NONE;
 use crate::records::version::proper_at;
 use crate::records::version::version_at;
 ghost use mathlib.Core.Path.{_≡_};
@@ -42,10 +41,7 @@ fn list_sound(s: Measures, b: &[u8], count: usize) -> bool
     requires { ⌜ 1 + count * 5 ≤ length (now b) ⌝ }
     ensures { λ r. ⌜ r ≡ listedFrom s (now (b .entry)) noVersion 1 count ⌝ }
 {
-    let mut previous = Version {
-        sequence: Sequence(0),
-        client: 255,
-    };
+    let mut previous = NONE;
     let mut at = 1;
     let mut left = count;
     while 0 < left {

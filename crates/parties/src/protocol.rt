@@ -1,2 +1,2 @@
 mod measures;
-mod version;
+pub(crate) mod version;

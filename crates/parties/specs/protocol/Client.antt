@@ -9,7 +9,7 @@ use Rattle.parties.specs.declared.ReadingIndex.{ReadingIndex}
 use Rattle.parties.specs.declared.Version.{Version}
 use Rattle.parties.specs.protocol.Format.{Reader, both, given, mapped, readNothing, readNumber, writeNumber, readBytes, readMany, writeMany, readEach, readArea, writeArea, readNone}
 use Rattle.parties.specs.protocol.Measures.{pointerSize}
-use Rattle.parties.specs.protocol.Version.{noVersion}
+use Rattle.parties.specs.protocol.Version.{noVersion, isNoVersion}
 use Rattle.parties.specs.protocol.Nodes.{count}
 use Rattle.parties.specs.protocol.Pointer.{Pointer, nonePointer, isNone, readPointer, writePointer, readVersion, writeVersion}
 use Rattle.parties.specs.protocol.Directory.{readIndex, writeIndex}
@@ -135,7 +135,7 @@ workSize s = pointerSize s + 4 + s .n * (34 + s .f)
 
 -- a reserved version is none or one that a deposit draws
 abbrev pub properReserved : Measures → Version → Bool
-properReserved s v = (eqb (v .sequence .0) 0 && eqb (v .client) 255) || properVersion s v
+properReserved s v = isNoVersion v || properVersion s v
 
 unfoldable pub readReserved : Measures → Reader Version
 readReserved s = given (properReserved s) readVersion

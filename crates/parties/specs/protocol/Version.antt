@@ -17,6 +17,9 @@ below a b = ltb (a .sequence .0) (b .sequence .0) || (eqb (a .sequence .0) (b .s
 abbrev pub noVersion : Version
 noVersion = record { sequence = record { 0 = 0 }; client = 255 }
 
+abbrev pub isNoVersion : Version → Bool
+isNoVersion v = eqb (v .sequence .0) 0 && eqb (v .client) 255
+
 -- one above, where numbers are 32 bits wide
 abbrev pub nextSequence : Sequence → NextSequence
 nextSequence s = cond (ltb (s .0) 4294967295) (NextSequence.Drawn (record { 0 = s .0 + 1 })) NextSequence.Spent

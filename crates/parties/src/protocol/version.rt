@@ -1,4 +1,5 @@
 // Each counter has its own comparison and successor.
+use crate::Measures;
 use crate::NextIndex;
 use crate::NextSequence;
 use crate::ReadingIndex;
@@ -7,10 +8,21 @@ use crate::Version;
 ghost use mathlib.Core.Path.{_≡_};
 ghost use Prim.Native.Nat.{_+_};
 ghost use lib.Dec.{ltb};
-ghost use Rattle.parties.specs.protocol.Version.{below, nextSequence, nextIndex};
+ghost use Rattle.parties.specs.protocol.Version.{below, isNoVersion, nextSequence, nextIndex};
+ghost use Rattle.parties.specs.protocol.Message.{properVersion};
 
 // The last number of each counter, which is 32 bits wide.
 const LAST: u32 = 4294967295;
+
+// The version none.
+const NO_SEQUENCE: Sequence = Sequence(0);
+
+pub(crate) const NO_CLIENT: u8 = 255;
+
+pub(crate) const NONE: Version = Version {
+    sequence: NO_SEQUENCE,
+    client: NO_CLIENT,
+};
 
 impl Sequence {
     pub fn below(self, other: Sequence) -> bool
@@ -61,5 +73,24 @@ impl Version {
             return false;
         }
         self.client < other.client
+    }
+
+    // A drawn version has a sequence of at least 1, and a client below m.
+    pub fn proper(self, s: Measures) -> bool
+        ensures { λ r. ⌜ r ≡ properVersion s self ⌝ }
+    {
+        if !NO_SEQUENCE.below(self.sequence) {
+            return false;
+        }
+        (self.client as usize) < s.m
+    }
+
+    pub fn is_none(self) -> bool
+        ensures { λ r. ⌜ r ≡ isNoVersion self ⌝ }
+    {
+        if NO_SEQUENCE.below(self.sequence) {
+            return false;
+        }
+        self.client == NO_CLIENT
     }
 }
