@@ -2,6 +2,7 @@
 use crate::Measures;
 use crate::Refusal;
 use crate::Service;
+use crate::protocol::version::NO_CLIENT;
 use crate::records::bytes::copy;
 use crate::records::form::Ends;
 use crate::records::form::Parts;
@@ -10,7 +11,6 @@ use crate::records::form::directory;
 use crate::records::form::field_ends;
 use crate::records::form::row_size;
 use crate::records::form::whole_record;
-use crate::records::version::NO_CLIENT;
 ghost use mathlib.Core.Path.{_≡_};
 ghost use mathlib.Core.Bool.{true};
 ghost use mathlib.Core.List.{_++_};

@@ -1,7 +1,6 @@
 // A data node's events on its lent table.
 use crate::Measures;
 use crate::Refusal;
-use crate::Sequence;
 use crate::Service;
 use crate::Version;
 use crate::message::FREE;
@@ -12,6 +11,7 @@ use crate::message::STORE;
 use crate::message::STORED;
 use crate::message::free_sound;
 use crate::message::store_sound;
+use crate::protocol::version::NONE;
 use crate::records::bytes::clear;
 use crate::records::bytes::copy;
 use crate::records::bytes::move_down;
@@ -19,6 +19,7 @@ use crate::records::bytes::move_up;
 use crate::records::bytes::put_u16;
 use crate::records::bytes::u16_at;
 use crate::records::bytes::zero_run;
+use crate::records::version::proper_at;
 use crate::records::version::version_alone;
 use crate::records::version::version_at;
 ghost use mathlib.Core.Path.{_≡_};
@@ -47,12 +48,7 @@ fn place_sound(s: Measures, t: &[u8], at: usize) -> bool
     requires { ⌜ at + placeSize s ≤ length (now t) ⌝ }
     ensures { λ r. ⌜ r ≡ soundAt s (now (t .entry)) at ⌝ }
 {
-    let v = version_at(t, at);
-    let q = v.sequence;
-    if q.0 < 1 {
-        return false;
-    }
-    if s.m <= v.client as usize {
+    if !proper_at(s, t, at) {
         return false;
     }
     let len = length_at(t, at + 5);
@@ -70,10 +66,7 @@ fn places_sound(s: Measures, t: &[u8], count: usize) -> bool
     requires { ⌜ 2 + count * placeSize s ≤ length (now t) ⌝ }
     ensures { λ r. ⌜ r ≡ soundFrom s (now (t .entry)) noVersion 2 count ⌝ }
 {
-    let mut previous = Version {
-        sequence: Sequence(0),
-        client: 255,
-    };
+    let mut previous = NONE;
     let mut at = 2;
     let mut left = count;
     while 0 < left {

@@ -5,13 +5,17 @@ use mathlib.Core.List.{List, [], _∷_, _++_, append-assoc}
 use mathlib.Core.Option.{Option, some}
 use Prim.Native.Nat.{ℕ, zero, suc, _+_, _-_, _*_, _≤_}
 use native.Mathlib.Omega.{arith}
+use borrow.Author.Tests.{eqb-true}
+use lib.Dec.{eqb}
 use lib.ListN.{length, drop, replicate, length-append, length-replicate, replicate-append-replicate}
 use lib.Seq.{drop-at, paste}
+use Rattle.coding.proofs.Cases.{and-true}
 use Rattle.parties.specs.declared.Measures.{Measures}
 use Rattle.parties.specs.declared.ReadingIndex.{ReadingIndex}
 use Rattle.parties.specs.declared.Version.{Version}
 use Rattle.parties.specs.protocol.Format.{Read, readNumber, writeNumber, writeMany, writeArea}
 use Rattle.parties.specs.protocol.Measures.{passes}
+use Rattle.parties.specs.protocol.Version.{isNoVersion}
 use Rattle.parties.specs.protocol.Pointer.{Pointer, isNone, writeVersion, writeNamed, writePointer}
 use Rattle.parties.specs.protocol.Directory.{readDirectory}
 use Rattle.parties.specs.protocol.Reading.{pick}
@@ -20,7 +24,7 @@ use Rattle.parties.specs.protocol.Answer.{empty, requests}
 use Rattle.parties.specs.protocol.Client.{Phase as Work, Client, workSize, writeWork, writeFetches, writePieces, lengths}
 use Rattle.parties.specs.protocol.ClientEvents.{ClientEnd, does, withPhase, lay, fetch, after, onClient}
 use Rattle.parties.proofs.protocol.formats.MeasureLaws.{passed}
-use Rattle.parties.proofs.protocol.formats.PointerLaws.{GoodPointer, length-version, none-pointer, some-pointer}
+use Rattle.parties.proofs.protocol.formats.PointerLaws.{GoodPointer, length-version, none-pointer}
 use Rattle.parties.proofs.protocol.formats.RowLaws.{pointer-fits}
 use Rattle.parties.proofs.protocol.steps.GoodLaws.{asking-good}
 use Rattle.parties.specs.declared.Phase.{Phase}
@@ -32,6 +36,7 @@ use Rattle.parties.proofs.client.FormLaws.{sizes}
 use Rattle.parties.proofs.client.AreaLaws.{Shown, turned-written, turned-kept}
 use Rattle.parties.proofs.client.GateLaws.{Opened, found, found-reads, found-shows}
 use Rattle.parties.proofs.records.SpliceLaws.{paste-all, many-zeros}
+use Rattle.parties.proofs.records.RecordLaws.{not-none}
 use Rattle.parties.proofs.records.PlaceLaws.{number-read}
 use Rattle.parties.proofs.client.ChooseLaws.{version-shown}
 use Rattle.parties.proofs.client.StepLaws.{picking-step}
@@ -113,14 +118,14 @@ module _ (s : Measures) (own : ℕ) (p : Phase) (area : List ℕ) (opened : Open
         ∙ ap (λ (i : ReadingIndex). after s client room [] (read .rest) (fetch s (read .value) room (pick own i (rowsOf (readDirectory s rows))))) (sym (shows .reading))
         ∙ ap (λ (y : Pointer). after s client room [] (read .rest) (fetch s (read .value) room y)) (sym q)
 
-    pub finds-none : x .version .sequence .0 ≡ 0
+    pub finds-none : isNoVersion (x .version) ≡ true
         → fetchEnd s own client rows room
         ≡ record { answer = empty; client = recordOf (record { step = 0; reading = p .reading }) area; room = room; out = [] }
     unfolding writeWork
     finds-none e =
         let c = read .value in
         let w : writeWork s Work.idle ≡ writeWork s (c .phase) = ap (writeWork s) (sym (picking-step (c .phase) (sym (shows .stands) ∙ d))) in
-        goes ∙ ap went (none-pointer s x g e)
+        goes ∙ ap went (none-pointer s x g (eqb-true (x .version .sequence .0) 0 (and-true (eqb (x .version .sequence .0) 0) _ e .0)))
         ∙ (λ j. record {
           answer = empty;
           client =
@@ -132,7 +137,7 @@ module _ (s : Measures) (own : ℕ) (p : Phase) (area : List ℕ) (opened : Open
 
     -- as the code finds it: the pointer's bytes, its version and its map
     module _ (u : List ℕ) (e : u ≡ writePointer x) where
-      pub asks : (v : Version) → v ≡ versionAt u 0 → (v .sequence .0 ≡ 0 → ⊥)
+      pub asks : (v : Version) → v ≡ versionAt u 0 → isNoVersion v ≡ false
           → (map : ℕ) (k : List ℕ) → readNumber 2 (drop 5 u) ≡ some (record { value = map; rest = k })
           → (at : ℕ) → at ≡ workAt s → (size : ℕ) → size ≡ workSize s
           → (a : List ℕ) → a ≡ splice area at (u ++ replicate (size - length u) 0)
@@ -144,7 +149,7 @@ module _ (s : Measures) (own : ℕ) (p : Phase) (area : List ℕ) (opened : Open
           let y = writePointer x in
           let vs : v ≡ x .version = ev ∙ version-shown s x g u e in
           let ms : map ≡ x .named .nodes = map-shown s h x g u e map k em in
-          let n : isNone x ≡ false = some-pointer x (λ z. ne (ap (λ (w : Version). w .sequence .0) vs ∙ z)) in
+          let n : isNone x ≡ false = not-none x (ap isNoVersion (sym vs) ∙ ne) in
           let l : workSize s ≡ length (y ++ replicate (workSize s - length y) 0) =
           omega (arith, length-append y (replicate (workSize s - length y) 0), length-replicate {A = ℕ} (workSize s - length y) 0, pointer-fits s x g)
           in

@@ -7,12 +7,13 @@ use Prim.Native.Nat.{ℕ, suc, _+_, _-_, _*_, _^_, _<_, _≤_}
 use native.Mathlib.Nat.{mul-add, mul-le-mul, mul-le-mul-right}
 use native.Mathlib.Decide.{ℕ-discrete, decLe}
 use native.Mathlib.Omega.{arith}
-use borrow.Author.Tests.{le-leb, lt-leb, ne-eqb}
+use borrow.Author.Tests.{le-leb, lt-leb, ne-eqb, eqb-true}
 use lib.Dec.{leb, ltb, eqb}
-use lib.ListN.{length, take, drop, getD, length-append, length-drop}
+use lib.ListN.{length, take, drop, length-append, length-drop}
 use lib.Seq.{drop-drop, length-take-le}
 use Rattle.coding.specs.Nodes.{all}
 use Rattle.coding.specs.Bytes.{Bytes}
+use Rattle.coding.proofs.Cases.{and-true}
 use Rattle.coding.proofs.PageLaws.{none≢some, some-eq}
 use Rattle.parties.specs.declared.Measures.{Measures}
 use Rattle.parties.specs.declared.ReadingIndex.{ReadingIndex}
@@ -20,6 +21,7 @@ use Rattle.parties.specs.declared.Version.{Version}
 use Rattle.parties.specs.protocol.Format.{Read, Reader, bind, check, both, chain, readNumber, writeNumber, readMany, readEach, readBytes, readZeros, readArea}
 use Rattle.parties.specs.protocol.Measures.{passes, pointerSize}
 use Rattle.parties.specs.protocol.Nodes.{count}
+use Rattle.parties.specs.protocol.Version.{isNoVersion}
 use Rattle.parties.specs.protocol.Pointer.{Pointer, Named, isNone, properPointer, readVersion, readNamed, readPointer, writePointer}
 use Rattle.parties.specs.protocol.Directory.{readIndex}
 use Rattle.parties.specs.protocol.Message.{properVersion}
@@ -27,17 +29,18 @@ use Rattle.parties.specs.protocol.Client.{Phase as Work, Fetches, readPa
 use Rattle.parties.specs.protocol.Client.{properReserved, readReserved, pointerArea, readRetained, readClient}
 use Rattle.parties.proofs.protocol.formats.FormatLaws.{Format, format-bytes, format-number}
 use Rattle.parties.proofs.protocol.formats.MeasureLaws.{passed}
-use Rattle.parties.proofs.protocol.formats.PointerLaws.{format-pointer, none-pointer, some-pointer}
+use Rattle.parties.proofs.protocol.formats.PointerLaws.{format-pointer, none-pointer}
 use Rattle.parties.proofs.protocol.formats.RowLaws.{pointer-fits}
 use Rattle.parties.proofs.protocol.formats.ClientLaws.{ReadsAt, format-work, phase-good, work-fits, ReadsSome, format-some}
 use Rattle.parties.specs.declared.Phase.{Phase}
 use Rattle.parties.specs.records.Form.{rest}
+use Rattle.parties.specs.records.Places.{versionAt}
 use Rattle.parties.specs.client.Record.{recordOf, workAt, isSome}
 use Rattle.parties.proofs.records.FormLaws.{Goes, left-read, none-read, rest-make, rest-mapped, rest-both, rest-many, rest-zeros, rest-area, none-area, rest-check, none-either}
 use Rattle.parties.proofs.records.FormLaws.{fixed-fits, fixed-number, fixed-many, fixed-bytes}
-use Rattle.parties.proofs.records.RecordLaws.{bytes-drop, number-one, chain-some, chain-none, indices-fixed}
+use Rattle.parties.proofs.records.RecordLaws.{bytes-drop, number-one, not-none, chain-some, chain-none, indices-fixed}
 use Rattle.parties.proofs.records.SizeLaws.{pointer-bound, pointers-bound}
-use Rattle.parties.proofs.records.PlaceLaws.{read-version, version-told}
+use Rattle.parties.proofs.records.PlaceLaws.{version-read}
 
 -- ---- sizes
 
@@ -109,20 +112,10 @@ module _ {A : Type 0} (n : ℕ) (r : Reader A) (w : A → List ℕ) (g : A → T
 
 -- ---- a version at a place
 
-abbrev versionOf : ℕ → ℕ → Version
-versionOf q c = record { sequence = record { 0 = q }; client = c }
-
-version-at : (t : List ℕ) (at q : ℕ) → at + 5 ≤ length t
-    → readNumber 4 (drop at t) ≡ some (record { value = q; rest = drop (at + 4) t })
-    → readVersion (drop at t) ≡ some (record { value = versionOf q (getD t (at + 4) 0); rest = drop (at + 5) t })
-version-at t at q h e = read-version t at h ∙ ap (λ (v : Version). some (record { value = v; rest = drop (at + 5) t })) (sym (version-told t at q (drop (at + 4) t) h e))
-
-pub reserved-at : (s : Measures) (t : List ℕ) (at q : ℕ) → at + 5 ≤ length t
-    → readNumber 4 (drop at t) ≡ some (record { value = q; rest = drop (at + 4) t })
-    → rest (readReserved s (drop at t)) ≡ cond (properReserved s (versionOf q (getD t (at + 4) 0))) (some (drop (at + 5) t)) none
+pub reserved-at : (s : Measures) (t : List ℕ) (at : ℕ) (v : Version) → v ≡ versionAt t at → at + 5 ≤ length t
+    → rest (readReserved s (drop at t)) ≡ cond (properReserved s v) (some (drop (at + 5) t)) none
 unfolding readReserved
-reserved-at s t at q h e =
-    rw (version-at t at q h e) (rest-check (properReserved s (versionOf q (getD t (at + 4) 0))) (versionOf q (getD t (at + 4) 0)) (drop (at + 5) t))
+reserved-at s t at v e h = rw (version-read t at v e h) (rest-check (properReserved s v) v (drop (at + 5) t))
 
 -- ---- what is kept between operations
 
@@ -206,11 +199,11 @@ module _ (s : Measures) (t : List ℕ) (at n : ℕ) (e : readNumber 4 (drop at t
       (ap some (drop-drop n (at + 4) t)))
 
 -- a version, the map of those that acknowledged it, and n digests
-module _ (s : Measures) (t : List ℕ) (at q map : ℕ) (room : at + 7 + s .n * 32 ≤ length t)
-    (e : readNumber 4 (drop at t) ≡ some (record { value = q; rest = drop (at + 4) t }))
+module _ (s : Measures) (t : List ℕ) (at : ℕ) (v : Version) (map : ℕ) (room : at + 7 + s .n * 32 ≤ length t)
+    (e : v ≡ versionAt t at)
     (d : readNumber 2 (drop (at + 5) t) ≡ some (record { value = map; rest = drop (at + 5 + 2) t })) where
   abbrev storesProper : Bool
-  storesProper = properVersion s (versionOf q (getD t (at + 4) 0)) && (ltb map (2 ^ s .n) && ltb (count map) (s .t + s .k))
+  storesProper = properVersion s v && (ltb map (2 ^ s .n) && ltb (count map) (s .t + s .k))
 
   stores-at : rest (readStores s (drop at t)) ≡ cond storesProper (some (drop (at + 7 + s .n * 32) t)) none
   unfolding readStores
@@ -221,7 +214,7 @@ module _ (s : Measures) (t : List ℕ) (at q map : ℕ) (room : at + 7 + s .n * 
       (fixed-fits (s .n * 32) (readMany (readBytes 32) (s .n)) (fixed-many 32 (readBytes 32) (fixed-bytes 32) (s .n)) (drop w t) l)
       in
       let k : at + 5 + 2 + s .n * 32 ≡ at + 7 + s .n * 32 = omega arith in
-      rw (version-at t at q (omega arith) e)
+      rw (version-read t at v e (omega arith))
       (rw d
       (rw (x .1)
       (rest-check storesProper _ (x .0 .rest)
@@ -233,29 +226,21 @@ module _ (s : Measures) (t : List ℕ) (at q map : ℕ) (room : at + 7 + s .n * 
   pub stores-sound : storesProper ≡ true → rest (readStores s (drop at t)) ≡ some (drop (at + 7 + s .n * 32) t)
   stores-sound p = stores-at ∙ ap (λ (b : Bool). cond b (some (drop (at + 7 + s .n * 32) t)) none) p
 
--- a pointer other than none: only none has sequence 0
-module _ (s : Measures) (u v : List ℕ) (q : ℕ) (e : readNumber 4 u ≡ some (record { value = q; rest = v })) where
-  sequence-read : (r : Read Pointer) → readPointer s u ≡ some r → r .value .version .sequence .0 ≡ q
-  unfolding readPointer readVersion
-  sequence-read r = rw e (client (readNumber 1 v))
+-- a pointer other than none
+module _ (s : Measures) (u w : List ℕ) (v : Version) (e : readVersion u ≡ some (record { value = v; rest = w })) where
+  version-of : (r : Read Pointer) → readPointer s u ≡ some r → r .value .version ≡ v
+  unfolding readPointer
+  version-of r = rw e (named (readNamed w))
     where
-      tested : (b : Bool) (p : Pointer) (t : List ℕ) → p .version .sequence .0 ≡ q → check b p t ≡ some r → r .value .version .sequence .0 ≡ q
-      tested true p t f d = ap (λ (x : Read Pointer). x .value .version .sequence .0) (sym (some-eq d)) ∙ f
+      tested : (b : Bool) (p : Pointer) (t : List ℕ) → p .version ≡ v → check b p t ≡ some r → r .value .version ≡ v
+      tested true p t f d = ap (λ (x : Read Pointer). x .value .version) (sym (some-eq d)) ∙ f
       tested false p t f d = absurd (none≢some d)
 
-      named : (c : ℕ) (o : Option (Read Named))
-          → bind (bind o (λ n u. some (record { value = record { version = versionOf q c; named = n }; rest = u }))) (λ p t. check (properPointer s p) p t) ≡ some r
-          → r .value .version .sequence .0 ≡ q
-      named c none d = absurd (none≢some d)
-      named c (some n) d =
-          tested (properPointer s (record { version = versionOf q c; named = n .value })) (record { version = versionOf q c; named = n .value }) (n .rest) refl d
-
-      client : (o : Option (Read ℕ))
-          → bind (bind (bind o (λ c t. some (record { value = versionOf q c; rest = t })))
-          (λ w t. bind (readNamed t) (λ n u. some (record { value = record { version = w; named = n }; rest = u })))) (λ p t. check (properPointer s p) p t) ≡ some r
-          → r .value .version .sequence .0 ≡ q
-      client none d = absurd (none≢some d)
-      client (some c) d = named (c .value) (readNamed (c .rest)) d
+      named : (o : Option (Read Named))
+          → bind (bind o (λ n u. some (record { value = record { version = v; named = n }; rest = u }))) (λ p t. check (properPointer s p) p t) ≡ some r
+          → r .value .version ≡ v
+      named none d = absurd (none≢some d)
+      named (some n) d = tested (properPointer s (record { version = v; named = n .value })) (record { version = v; named = n .value }) (n .rest) refl d
 
   some-read : (b : Bool) → ((r : Read Pointer) → readPointer s u ≡ some r → isNone (r .value) ≡ b) → rest (readSome s u) ≡ cond b none (rest (readPointer s u))
   unfolding readSome
@@ -268,11 +253,13 @@ module _ (s : Measures) (u v : List ℕ) (q : ℕ) (e : readNumber 4 u ≡ some 
       go (some r) true h = rw (h r refl) refl
       go (some r) false h = rw (h r refl) refl
 
-  pub some-broken : Bytes u → q ≡ 0 → rest (readSome s u) ≡ none
-  some-broken b z = some-read true (λ r d. none-pointer s (r .value) (format-pointer s .only u r b d .0) (sequence-read r d ∙ z))
+  pub some-broken : Bytes u → isNoVersion v ≡ true → rest (readSome s u) ≡ none
+  some-broken b z =
+      some-read true (λ r d. none-pointer s (r .value) (format-pointer s .only u r b d .0)
+      (ap (λ (x : Version). x .sequence .0) (version-of r d) ∙ eqb-true (v .sequence .0) 0 (and-true (eqb (v .sequence .0) 0) (eqb (v .client) 255) z .0)))
 
-  pub some-left : (q ≡ 0 → ⊥) → rest (readSome s u) ≡ rest (readPointer s u)
-  some-left z = some-read false (λ r d. some-pointer (r .value) (λ f. z (sym (sequence-read r d) ∙ f)))
+  pub some-left : isNoVersion v ≡ false → rest (readSome s u) ≡ rest (readPointer s u)
+  some-left z = some-read false (λ r d. not-none (r .value) (ap isNoVersion (version-of r d) ∙ z))
 
 -- and it ends within a pointer's size
 pub some-ends : (s : Measures) (t : List ℕ) (at next : ℕ) → Bytes t → Goes t at next (rest (readSome s (drop at t))) → next ≤ at + pointerSize s

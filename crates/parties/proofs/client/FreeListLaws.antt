@@ -5,9 +5,9 @@ use mathlib.Core.List.{List, [], _∷_, _++_, append-assoc}
 use mathlib.Core.Logic.{_⊎_, inl, inr}
 use Prim.Native.Nat.{ℕ, zero, suc, _+_, _-_, _*_, _<_, _≤_}
 use native.Mathlib.Nat.{mul-le-mul-left, mul-le-mul-right}
-use native.Mathlib.Decide.{decLt}
+use native.Mathlib.Decide.{ℕ-discrete, decLt}
 use native.Mathlib.Omega.{arith}
-use borrow.Author.Tests.{lt-ltb, le-ltb, ltb-true, not-true}
+use borrow.Author.Tests.{lt-ltb, le-ltb, ltb-true, eq-eqb, ne-eqb, not-true}
 use lib.Dec.{ltb}
 use lib.ListN.{length, getD, take, drop, set, replicate, length-append, length-drop, take-append-drop}
 use lib.Seq.{drop-at, drop-drop, drop-append-add, take-add, length-take-le, paste}
@@ -18,7 +18,7 @@ use Rattle.parties.specs.declared.Measures.{Measures}
 use Rattle.parties.specs.declared.Version.{Version}
 use Rattle.parties.specs.protocol.Format.{writeMany, writeArea}
 use Rattle.parties.specs.protocol.Measures.{passes, pointerSize}
-use Rattle.parties.specs.protocol.Version.{below, noVersion}
+use Rattle.parties.specs.protocol.Version.{below, noVersion, isNoVersion}
 use Rattle.parties.specs.protocol.Nodes.{stands}
 use Rattle.parties.specs.protocol.Pointer.{Pointer, nonePointer, writeVersion, writeNamed, writePointer}
 use Rattle.parties.specs.protocol.Node.{listed}
@@ -130,6 +130,23 @@ module _ (v : Version) where
     pub other : listed v (noVersion ∷ []) ≡ false
     pub frozen : listed v (tabulate q f) ≡ false
     pub reserved : listed v (tabulate q g) ≡ false
+
+  -- the version none is only itself
+  pub none-same : isNoVersion v ≡ sameVersion v noVersion
+  none-same = go (ℕ-discrete q 0) (ℕ-discrete c 255) (decLt c 255)
+    where
+      q : ℕ
+      q = v .sequence .0
+
+      c : ℕ
+      c = v .client
+
+      go : Dec (q ≡ 0) → Dec (c ≡ 255) → Dec (c < 255) → isNoVersion v ≡ sameVersion v noVersion
+      go (no n) d l = simp (ne-eqb q 0 n, le-ltb q 0 (omega arith), lt-ltb 0 q (omega arith))
+      go (yes z) (yes e) l = simp (eq-eqb q 0 z, eq-eqb 0 q (sym z), le-ltb q 0 (omega arith), le-ltb 0 q (omega arith), eq-eqb c 255 e, le-ltb c 255 (omega arith), le-ltb 255 c (omega arith))
+      go (yes z) (no n) (yes l) = simp (eq-eqb q 0 z, le-ltb q 0 (omega arith), ne-eqb c 255 n, lt-ltb c 255 l)
+      go (yes z) (no n) (no l) =
+          simp (eq-eqb q 0 z, eq-eqb 0 q (sym z), le-ltb q 0 (omega arith), le-ltb 0 q (omega arith), ne-eqb c 255 n, le-ltb c 255 (omega arith), lt-ltb 255 c (omega arith))
 
   pub clear-none : (f g : ℕ → Version) → sameVersion v noVersion ≡ false → Clear f g 0
   unfolding listed

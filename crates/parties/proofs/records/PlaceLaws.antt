@@ -1,12 +1,12 @@
 -- One place of a node table: what its reader tells, as a test on its bytes.
 use mathlib.Core.Path.{_≡_, refl, sym, ap, _∙_}
-use mathlib.Core.Bool.{Bool, true, false, cond, _&&_, and-false}
+use mathlib.Core.Bool.{Bool, true, false, cond, _&&_, and-false, true≢false}
 use mathlib.Core.List.{List, _++_}
 use mathlib.Core.Option.{Option, some, none}
 use Prim.Native.Nat.{ℕ, suc, _+_, _-_, _*_, _^_, _<_, _≤_}
 use native.Mathlib.Decide.{decLe}
 use native.Mathlib.Omega.{arith}
-use borrow.Author.Tests.{le-leb, lt-leb, le-ltb, lt-ltb, eq-eqb, ne-eqb, eqb-true}
+use borrow.Author.Tests.{le-leb, lt-leb, eq-eqb, ne-eqb, eqb-true}
 use lib.Dec.{leb, ltb, eqb}
 use lib.ListN.{length, getD, take, drop, length-append, length-drop}
 use lib.Seq.{drop-cons, drop-drop, length-take-le}
@@ -17,6 +17,7 @@ use Rattle.parties.specs.declared.Version.{Version}
 use Rattle.parties.specs.protocol.Format.{Read, bind, check, readNumber, writeNumber, readBytes, readZeros, readArea}
 use Rattle.parties.specs.protocol.Measures.{placeSize}
 use Rattle.parties.specs.protocol.Pointer.{readVersion, writeVersion}
+use Rattle.parties.specs.protocol.Message.{properVersion}
 use Rattle.parties.specs.protocol.NodeTable.{Held, properHeld, readPiece, writePiece, readHeld, writeHeld}
 use Rattle.parties.proofs.protocol.formats.FormatLaws.{format-number}
 use Rattle.parties.proofs.protocol.formats.PointerLaws.{GoodVersion, format-version, length-number, length-version}
@@ -194,43 +195,49 @@ unfolding versionAt
 version-told t at r u h e =
     let q = four-read t at r u (omega arith) e in λ i. record { sequence = record { 0 = q i }; client = getD t (at + 4) 0 }
 
+-- the version there is what its reader tells
+pub version-read : (t : List ℕ) (at : ℕ) (v : Version) → v ≡ versionAt t at → at + 5 ≤ length t
+    → readVersion (drop at t) ≡ some (record { value = v; rest = drop (at + 5) t })
+version-read t at v e h = read-version t at h ∙ ap (λ (w : Version). some (record { value = w; rest = drop (at + 5) t })) (sym e)
+
 -- the ways out of a place's test
-module _ (s : Measures) (t : List ℕ) (at : ℕ) (v : Version) (e : v ≡ versionAt t at) where
-  pub sound-low : v .sequence .0 < 1 → false ≡ soundAt s t at
-  unfolding soundAt
-  sound-low a = rw (← e) (sym (simp (lt-leb 1 (v .sequence .0) a)))
+module _ (s : Measures) (t : List ℕ) (at : ℕ) where
+  pub sound-improper : properAt s t at ≡ false → false ≡ soundAt s t at
+  unfolding soundAt properAt
+  sound-improper e = go (leb 1 (versionAt t at .sequence .0)) (ltb (versionAt t at .client) (s .m)) e
+    where
+      go : (a b : Bool) → (a && b) ≡ false → false ≡ ((a && (b && (leb 1 (lengthAt t at) && leb (lengthAt t at) (s .f)))) && zeroRun t (at + 7 + lengthAt t at) (s .f - lengthAt t at))
+      go false b e = refl
+      go true false e = refl
+      go true true e = absurd (true≢false e)
 
-  pub sound-client : 1 ≤ v .sequence .0 → s .m ≤ v .client → false ≡ soundAt s t at
-  unfolding soundAt
-  sound-client a b = rw (← e) (sym (simp (le-leb 1 (v .sequence .0) a, le-ltb (v .client) (s .m) b)))
+  module _ (len : ℕ) (l : len ≡ lengthAt t at) (p : properAt s t at ≡ true) where
+    proper-both : (leb 1 (versionAt t at .sequence .0) ≡ true) × (ltb (versionAt t at .client) (s .m) ≡ true)
+    unfolding properAt
+    proper-both = and-true (leb 1 (versionAt t at .sequence .0)) (ltb (versionAt t at .client) (s .m)) p
 
-  module _ (len : ℕ) (l : len ≡ lengthAt t at) (a : 1 ≤ v .sequence .0) (b : v .client < s .m) where
     pub sound-empty : len < 1 → false ≡ soundAt s t at
     unfolding soundAt
-    sound-empty d = rw (← e, ← l) (sym (simp (le-leb 1 (v .sequence .0) a, lt-ltb (v .client) (s .m) b, lt-leb 1 len d)))
+    sound-empty d = rw (← l) (sym (simp (proper-both .0, proper-both .1, lt-leb 1 len d)))
 
     pub sound-long : 1 ≤ len → s .f < len → false ≡ soundAt s t at
     unfolding soundAt
-    sound-long d f = rw (← e, ← l) (sym (simp (le-leb 1 (v .sequence .0) a, lt-ltb (v .client) (s .m) b, le-leb 1 len d, lt-leb len (s .f) f)))
+    sound-long d f = rw (← l) (sym (simp (proper-both .0, proper-both .1, le-leb 1 len d, lt-leb len (s .f) f)))
 
     pub sound-spare : 1 ≤ len → len ≤ s .f → (r : Bool) → r ≡ zeroRun t (at + 7 + len) (at + 7 + s .f - (at + 7 + len)) → r ≡ soundAt s t at
     unfolding soundAt
     sound-spare d f r z =
         let k : at + 7 + s .f - (at + 7 + len) ≡ s .f - len = omega arith in
-        rw (← e, ← l)
+        rw (← l)
         (z ∙ ap (zeroRun t (at + 7 + len)) k
-        ∙ sym (simp (le-leb 1 (v .sequence .0) a, lt-ltb (v .client) (s .m) b, le-leb 1 len d, le-leb len (s .f) f)))
+        ∙ sym (simp (proper-both .0, proper-both .1, le-leb 1 len d, le-leb len (s .f) f)))
 
 -- ---- the form of a version that a message names
 
 module _ (s : Measures) (b : List ℕ) where
-  pub proper-low : (at : ℕ) (v : Version) → v ≡ versionAt b at → v .sequence .0 < 1 → false ≡ properAt s b at
+  pub proper-told : (at : ℕ) (v : Version) → v ≡ versionAt b at → properVersion s v ≡ properAt s b at
   unfolding properAt
-  proper-low at v e h = rw (← e) (sym (simp (lt-leb 1 (v .sequence .0) h)))
-
-  pub proper-client : (at : ℕ) (v : Version) → v ≡ versionAt b at → 1 ≤ v .sequence .0 → ltb (v .client) (s .m) ≡ properAt s b at
-  unfolding properAt
-  proper-client at v e h = rw (← e) (sym (simp (le-leb 1 (v .sequence .0) h)))
+  proper-told at v e = ap (properVersion s) e
 
   pub alone-length : (length b ≡ 6 → ⊥) → false ≡ versionAlone s b
   unfolding versionAlone

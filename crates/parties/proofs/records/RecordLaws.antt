@@ -1,22 +1,26 @@
 -- What is left after pointers, directory records and rows.
-use mathlib.Core.Path.{_≡_, refl, ap, subst, _∙_}
-use mathlib.Core.Bool.{Bool, true, false, cond, _||_}
+use mathlib.Core.Path.{_≡_, refl, sym, ap, subst, _∙_}
+use mathlib.Core.Bool.{Bool, true, false, cond, _&&_, _||_}
 use mathlib.Core.List.{List, [], _∷_}
 use mathlib.Core.Option.{Option, some, none}
-use Prim.Native.Nat.{ℕ, suc, _+_, _-_, _*_, _/_, _%_, _<_, _≤_}
+use Prim.Native.Nat.{ℕ, suc, _+_, _-_, _*_, _/_, _%_, _^_, _<_, _≤_}
 use native.Mathlib.Omega.{arith}
-use borrow.Author.Tests.{eq-eqb, ne-eqb, ltb-true, lt-ltb, le-ltb}
-use lib.Dec.{eqb, ltb}
+use borrow.Author.Tests.{eq-eqb, ne-eqb, eqb-true, lt-leb, ltb-true, lt-ltb, le-ltb}
+use lib.Dec.{eqb, leb, ltb}
 use lib.ListN.{length, take, drop, getD, length-append, length-drop}
 use lib.Seq.{drop-drop, getD-drop, drop-cons}
 use Rattle.coding.specs.Nodes.{all}
 use Rattle.coding.specs.Bytes.{Bytes}
+use Rattle.coding.proofs.Cases.{and-true}
 use Rattle.parties.specs.declared.Measures.{Measures}
+use Rattle.parties.specs.declared.Version.{Version}
 use Rattle.parties.specs.protocol.Format.{Read, Reader, bind, check, both, given, mapped, chain, whole}
 use Rattle.parties.specs.protocol.Format.{readNumber, writeNumber, readMany, writeMany, readBytes, readZeros}
 use Rattle.parties.specs.protocol.Measures.{rowSize}
+use Rattle.parties.specs.protocol.Version.{isNoVersion}
 use Rattle.parties.specs.protocol.Nodes.{count}
-use Rattle.parties.specs.protocol.Pointer.{Pointer, properPointer, readVersion, writeVersion, readNamed, writeNamed, readPointer, writePointer}
+use Rattle.parties.specs.protocol.Pointer.{Pointer, isNone, properPointer, readVersion, writeVersion, readNamed, writeNamed, readPointer, writePointer}
+use Rattle.parties.specs.protocol.Message.{properVersion}
 use Rattle.parties.specs.protocol.Directory.{Field, pointers, indices, Content, fields, readIndex, readContent, readFields}
 use Rattle.parties.specs.protocol.Directory.{mapOf, readRecord, writeRecord, Row, asRow, writeRow, readRow}
 use Rattle.parties.proofs.protocol.formats.PointerLaws.{format-pointer, length-number, length-version}
@@ -24,7 +28,7 @@ use Rattle.parties.proofs.protocol.formats.DirectoryLaws.{format-record
 use Rattle.parties.proofs.protocol.formats.RowLaws.{GoodRow, format-row-fields, row-fits}
 use Rattle.parties.specs.declared.records.form.Ends.{Ends}
 use Rattle.parties.specs.declared.records.form.Parts.{Parts}
-use Rattle.parties.specs.records.Form.{rest, properNumbers, after, Ended, Parted}
+use Rattle.parties.specs.records.Form.{rest, properFront, after, Ended, Parted}
 use Rattle.parties.proofs.records.FormLaws.{left-read, none-read, rest-check, none-either, rest-make, rest-mapped, rest-both, rest-zeros, rest-area, none-area, Fixed, fixed-fits, fixed-short, fixed-bytes, fixed-number, fixed-mapped, fixed-many}
 
 pub bytes-drop : (at : ℕ) (t : List ℕ) → Bytes t → Bytes (drop at t)
@@ -57,20 +61,45 @@ pointer-short s u b h = go (readPointer s u) refl
         ))
 
 -- one that has its seven bytes: the test goes by them, and the digests follow
-module _ (s : Measures) (u v w x : List ℕ) (q c map : ℕ)
-    (sequence : readNumber 4 u ≡ some (record { value = q; rest = v }))
-    (client : readNumber 1 v ≡ some (record { value = c; rest = w }))
+module _ (s : Measures) (u w x : List ℕ) (v : Version) (map : ℕ)
+    (version : readVersion u ≡ some (record { value = v; rest = w }))
     (nodes : readNumber 2 w ≡ some (record { value = map; rest = x })) where
-  pub rest-pointer : rest (readPointer s u) ≡ cond (properNumbers s q c map) (rest (readMany (readBytes 32) (count map) x)) none
-  unfolding readPointer readVersion readNamed properPointer
-  rest-pointer = rw sequence (rw client (rw nodes (go (readMany (readBytes 32) (count map) x))))
+  pub rest-pointer : rest (readPointer s u) ≡ cond (properFront s v map) (rest (readMany (readBytes 32) (count map) x)) none
+  unfolding readPointer readNamed properPointer
+  rest-pointer = rw version (rw nodes (go (readMany (readBytes 32) (count map) x)))
     where
       go : (o : Option (Read (List (List ℕ))))
           → rest (bind (bind (bind o (λ l u. some (record { value = record { nodes = map; digests = l }; rest = u })))
-          (λ n u. some (record { value = record { version = record { sequence = record { 0 = q }; client = c }; named = n }; rest = u })))
-          (λ p t. check (properPointer s p) p t)) ≡ cond (properNumbers s q c map) (rest o) none
-      go none = none-either (properNumbers s q c map)
-      go (some r) = rest-check (properNumbers s q c map) _ (r .rest)
+          (λ n u. some (record { value = record { version = v; named = n }; rest = u })))
+          (λ p t. check (properPointer s p) p t)) ≡ cond (properFront s v map) (rest o) none
+      go none = none-either (properFront s v map)
+      go (some r) = rest-check (properFront s v map) _ (r .rest)
+
+-- a pointer whose version is not none
+grouped : (a b c : Bool) → (a && (b && c)) ≡ ((a && b) && c)
+grouped true b c = refl
+grouped false b c = refl
+
+pub not-none : (p : Pointer) → isNoVersion (p .version) ≡ false → isNone p ≡ false
+not-none p e = grouped (eqb (p .version .sequence .0) 0) (eqb (p .version .client) 255) (eqb (p .named .nodes) 0) ∙ ap (λ (b : Bool). b && eqb (p .named .nodes) 0) e
+
+-- the test's two cases
+module _ (s : Measures) (v : Version) (map : ℕ) where
+  pub front-none : isNoVersion v ≡ true → eqb map 0 ≡ properFront s v map
+  unfolding properPointer
+  front-none e =
+      let q = v .sequence .0 in
+      let x = and-true (eqb q 0) (eqb (v .client) 255) e in
+      let z = eqb-true q 0 (x .0) in
+      simp (x .0, x .1, lt-leb 1 q (omega arith)) (or-nothing (eqb map 0))
+
+  pub front-some : isNoVersion v ≡ false → (properVersion s v && (eqb (count map) (s .t + s .k) && ltb map (2 ^ s .n))) ≡ properFront s v map
+  unfolding properPointer
+  front-some e =
+      let l = eqb (count map) (s .t + s .k) && ltb map (2 ^ s .n) in
+      sym (ap (λ (b : Bool). b || (leb 1 (v .sequence .0) && (ltb (v .client) (s .m) && l)))
+      (not-none (record { version = v; named = record { nodes = map; digests = [] } }) e)
+      ∙ grouped (leb 1 (v .sequence .0)) (ltb (v .client) (s .m)) l)
 
 -- one byte
 pub number-one : (b : ℕ) (u : List ℕ) → readNumber 1 (b ∷ u) ≡ some (record { value = b; rest = u })
@@ -78,27 +107,25 @@ unfolding readNumber
 number-one b u = let e : 0 * 256 + b ≡ b = omega arith in ap (λ (x : ℕ). some (record { value = x; rest = u })) e
 
 -- at a place of t
-module _ (s : Measures) (t : List ℕ) (at q map : ℕ) (room : 7 ≤ length t - at)
-    (sequence : readNumber 4 (drop at t) ≡ some (record { value = q; rest = drop (at + 4) t }))
+module _ (s : Measures) (t : List ℕ) (at : ℕ) (v : Version) (map : ℕ) (room : 7 ≤ length t - at)
+    (version : readVersion (drop at t) ≡ some (record { value = v; rest = drop (at + 5) t }))
     (nodes : readNumber 2 (drop (at + 5) t) ≡ some (record { value = map; rest = drop (at + 5 + 2) t })) where
   pointer-at : rest (readPointer s (drop at t))
-      ≡ cond (properNumbers s q (getD t (at + 4) 0) map) (rest (readMany (readBytes 32) (count map) (drop (at + 5 + 2) t))) none
-  pointer-at =
-      rest-pointer s (drop at t) (drop (at + 4) t) (drop (at + 5) t) (drop (at + 5 + 2) t) q (getD t (at + 4) 0) map sequence
-      (let e : suc (at + 4) ≡ at + 5 = omega arith in rw (drop-cons t (at + 4) 0 (omega arith)) (rw e (number-one (getD t (at + 4) 0) (drop (at + 5) t)))) nodes
+      ≡ cond (properFront s v map) (rest (readMany (readBytes 32) (count map) (drop (at + 5 + 2) t))) none
+  pointer-at = rest-pointer s (drop at t) (drop (at + 5) t) (drop (at + 5 + 2) t) v map version nodes
 
   digests : Fixed (count map * 32) (readMany (readBytes 32) (count map))
   digests = fixed-many 32 (readBytes 32) (fixed-bytes 32) (count map)
 
-  pub pointer-improper : properNumbers s q (getD t (at + 4) 0) map ≡ false → rest (readPointer s (drop at t)) ≡ none
+  pub pointer-improper : properFront s v map ≡ false → rest (readPointer s (drop at t)) ≡ none
   pointer-improper p = pointer-at ∙ ap (λ (b : Bool). cond b (rest (readMany (readBytes 32) (count map) (drop (at + 5 + 2) t))) none) p
 
-  pub pointer-long : properNumbers s q (getD t (at + 4) 0) map ≡ true → length t - at < 7 + 32 * count map → rest (readPointer s (drop at t)) ≡ none
+  pub pointer-long : properFront s v map ≡ true → length t - at < 7 + 32 * count map → rest (readPointer s (drop at t)) ≡ none
   pointer-long p h =
       pointer-at ∙ ap (λ (b : Bool). cond b (rest (readMany (readBytes 32) (count map) (drop (at + 5 + 2) t))) none) p
       ∙ fixed-short (count map * 32) (readMany (readBytes 32) (count map)) digests (drop (at + 5 + 2) t) (omega (arith, length-drop (at + 5 + 2) t))
 
-  pub pointer-sound : properNumbers s q (getD t (at + 4) 0) map ≡ true → 7 + 32 * count map ≤ length t - at
+  pub pointer-sound : properFront s v map ≡ true → 7 + 32 * count map ≤ length t - at
       → rest (readPointer s (drop at t)) ≡ some (drop (at + (7 + 32 * count map)) t)
   pointer-sound p h =
       let e : at + 5 + 2 + count map * 32 ≡ at + (7 + 32 * count map) = omega arith in

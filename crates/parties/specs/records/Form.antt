@@ -7,6 +7,7 @@ use Prim.Native.Nat.{ℕ, _/_, _%_, _<_, _≤_}
 use lib.Dec.{eqb}
 use lib.ListN.{length, drop, getD}
 use Rattle.parties.specs.declared.Measures.{Measures}
+use Rattle.parties.specs.declared.Version.{Version}
 use Rattle.parties.specs.protocol.Format.{Read, whole}
 use Rattle.parties.specs.protocol.Pointer.{properPointer}
 use Rattle.parties.specs.protocol.Directory.{Field, fields, readContent, readFields, readRecord}
@@ -32,10 +33,9 @@ pub record Formed (t : List ℕ) (at : ℕ) (left : Option (List ℕ)) (r : Form
   pub told : told t r ≡ left
   pub within : Within at (length t) r
 
--- a pointer's test, which goes by its numbers alone
-abbrev pub properNumbers : Measures → ℕ → ℕ → ℕ → Bool
-properNumbers s q c map =
-    properPointer s (record { version = record { sequence = record { 0 = q }; client = c }; named = record { nodes = map; digests = [] } })
+-- a pointer's test, which goes by its version and map alone
+abbrev pub properFront : Measures → Version → ℕ → Bool
+properFront s v map = properPointer s (record { version = v; named = record { nodes = map; digests = [] } })
 
 -- what is left after a field, if its bit stands
 abbrev pub afterIf : Measures → Field → Bool → List ℕ → Option (List ℕ)

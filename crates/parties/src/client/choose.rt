@@ -147,8 +147,7 @@ pub fn fetch(
     let row = pick_row(s, own, reading, rows);
     let found = candidate_at(s, own, reading, rows, row);
     let version = version_at(found, 0);
-    let q = version.sequence;
-    if q.0 == 0 {
+    if version.is_none() {
         return Turned {
             phase: Phase {
                 step: IDLE,

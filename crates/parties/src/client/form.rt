@@ -1,6 +1,7 @@
 // A client's record: sizes of its area, and its form test.
 use crate::Measures;
 use crate::Phase;
+use crate::Version;
 use crate::client::step::FETCHING;
 use crate::client::step::FREEZING;
 use crate::client::step::SCANNING;
@@ -13,6 +14,7 @@ use crate::records::form::Form;
 use crate::records::form::pointer;
 use crate::records::form::within;
 use crate::records::nodes::count;
+use crate::records::version::version_at;
 ghost use mathlib.Core.Path.{_≡_};
 ghost use mathlib.Core.Bool.{true, cond, _&&_};
 ghost use mathlib.Core.Option.{some, none};
@@ -23,7 +25,7 @@ ghost use Rattle.parties.specs.protocol.Measures.{passes, pointerSize};
 ghost use Rattle.parties.specs.protocol.Nodes.{count as counted};
 ghost use Rattle.parties.specs.protocol.Format.{readMany, readArea, readBytes};
 ghost use Rattle.parties.specs.protocol.Message.{properVersion};
-ghost use Rattle.parties.specs.protocol.Client.{properReserved, readReserved, pointerArea, readRetained, readPage, readStores, readSome, readPieces};
+ghost use Rattle.parties.specs.protocol.Client.{readReserved, pointerArea, readRetained, readPage, readStores, readSome, readPieces};
 ghost use Rattle.parties.specs.protocol.Client.{readFetches, readWork, workSize, readClient};
 ghost use Rattle.parties.specs.records.Form.{rest, Formed};
 ghost use Rattle.parties.specs.client.Record.{recordOf, areaSize, workAt, isSome};
@@ -91,22 +93,15 @@ fn pointer_areas(s: Measures, size: usize, t: &[u8]) -> bool
 }
 
 // A reserved version is none or one that a deposit draws.
-fn proper_reserved(s: Measures, q: u32, c: u8) -> bool
-    ensures { λ r. ⌜ r ≡ properReserved s (record { sequence = record { 0 = q }; client = c }) ⌝ }
-{
-    if q == 0 {
-        return c == 255;
-    }
-    (c as usize) < s.m
-}
-
 fn reserved_version(s: Measures, t: &[u8], at: usize) -> bool
     requires { ⌜ at + 5 ≤ length (now t) ⌝ }
     ensures { λ r. ⌜ rest (readReserved s (drop at (now (t .entry)))) ≡ cond r (some (drop (at + 5) (now (t .entry)))) none ⌝ }
 {
-    let q = u32_at(t, at);
-    let c = t[at + 4];
-    proper_reserved(s, q, c)
+    let v = version_at(t, at);
+    if v.is_none() {
+        return true;
+    }
+    v.proper(s)
 }
 
 fn reserved_versions(s: Measures, t: &[u8], from: usize) -> bool
@@ -151,14 +146,11 @@ fn page_form(s: Measures, t: &[u8], at: usize) -> Form
 }
 
 // What is stored has a drawn version, and fewer than t + k nodes that acknowledged it.
-fn proper_stores(s: Measures, q: u32, c: u8, map: u16) -> bool
+fn proper_stores(s: Measures, v: Version, map: u16) -> bool
     requires { ⌜ passes s ≡ true ⌝ }
-    ensures { λ r. ⌜ r ≡ (properVersion s (record { sequence = record { 0 = q }; client = c }) && (ltb map (2 ^ s .n) && ltb (counted map) (s .t + s .k))) ⌝ }
+    ensures { λ r. ⌜ r ≡ (properVersion s v && (ltb map (2 ^ s .n) && ltb (counted map) (s .t + s .k))) ⌝ }
 {
-    if q == 0 {
-        return false;
-    }
-    if s.m <= c as usize {
+    if !v.proper(s) {
         return false;
     }
     if !within(map, s.n) {
@@ -171,22 +163,20 @@ fn stores_form(s: Measures, t: &[u8], at: usize) -> Form
     requires { ⌜ (passes s ≡ true) × (at + workSize s ≤ length (now t)) ⌝ }
     ensures { λ r. ⌜ Formed (now (t .entry)) at (rest (readStores s (drop at (now (t .entry))))) r ⌝ }
 {
-    let q = u32_at(t, at);
-    let c = t[at + 4];
+    let v = version_at(t, at);
     let map = u16_at(t, at + 5);
-    if !proper_stores(s, q, c, map) {
+    if !proper_stores(s, v, map) {
         return Form::Broken;
     }
     Form::Sound(at + 7 + s.n * 32)
 }
 
-// A pointer other than none: only none has sequence 0.
+// A pointer other than none.
 fn some_form(s: Measures, t: &[u8], at: usize) -> Form
-    requires { ⌜ (passes s ≡ true) × (at + 4 ≤ length (now t)) ⌝ }
+    requires { ⌜ (passes s ≡ true) × (at + 5 ≤ length (now t)) ⌝ }
     ensures { λ r. ⌜ Formed (now (t .entry)) at (rest (readSome s (drop at (now (t .entry))))) r ⌝ }
 {
-    let q = u32_at(t, at);
-    if q == 0 {
+    if version_at(t, at).is_none() {
         return Form::Broken;
     }
     pointer(s, t, at)

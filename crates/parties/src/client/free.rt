@@ -1,6 +1,5 @@
 // A deposit's free list: the versions that its second scan replaces, but those that are still frozen or reserved.
 use crate::Measures;
-use crate::Sequence;
 use crate::Version;
 use crate::client::draw::put_version;
 use crate::client::form::pointer_size;
@@ -91,11 +90,7 @@ fn stays(s: Measures, map: u16, new: Version, area: &[u8], v: Version) -> bool
     requires { ⌜ Holds s (now area) ⌝ }
     ensures { λ r. ⌜ r ≡ listed v (noVersion ∷ keptVersions s map (retainedIn s (now (area .entry))) new) ⌝ }
 {
-    let nothing = Version {
-        sequence: Sequence(0),
-        client: 255,
-    };
-    if same_version(v, nothing) {
+    if v.is_none() {
         return true;
     }
     let m = s.m;

@@ -1,9 +1,10 @@
 // Form tests: whether a record at a place of some bytes keeps its form, and where it ends.
 use crate::Measures;
+use crate::Version;
 use crate::records::bytes::u16_at;
-use crate::records::bytes::u32_at;
 use crate::records::bytes::zero_run;
 use crate::records::nodes::count;
+use crate::records::version::version_at;
 ghost use mathlib.Core.Path.{_≡_};
 ghost use mathlib.Core.Bool.{true, cond};
 ghost use mathlib.Core.Option.{some, none};
@@ -15,7 +16,7 @@ ghost use Rattle.parties.specs.protocol.Nodes.{count};
 ghost use Rattle.parties.specs.protocol.Pointer.{readPointer};
 ghost use Rattle.parties.specs.protocol.Format.{readMany};
 ghost use Rattle.parties.specs.protocol.Directory.{Field, readRow, readDirectory};
-ghost use Rattle.parties.specs.records.Form.{rest, Formed, properNumbers, afterIf, Parted, Recorded};
+ghost use Rattle.parties.specs.records.Form.{rest, Formed, properFront, afterIf, Parted, Recorded};
 
 // Four bits of a directory record's map stand for its fields: the maps are below 16, and a row's has all four.
 pub(crate) const MAPS: u8 = 16;
@@ -56,18 +57,15 @@ pub(crate) fn within(map: u16, n: usize) -> bool
     (map as u32) >> n == 0
 }
 
-// A pointer is none, or has a sequence, a client and t + k nodes.
-fn proper(s: Measures, q: u32, c: u8, map: u16, nodes: usize) -> bool
+// A pointer is none, or has a proper version and t + k nodes.
+fn proper(s: Measures, v: Version, map: u16, nodes: usize) -> bool
     requires { ⌜ (passes s ≡ true) × (nodes ≡ count map) ⌝ }
-    ensures { λ r. ⌜ r ≡ properNumbers s q c map ⌝ }
+    ensures { λ r. ⌜ r ≡ properFront s v map ⌝ }
 {
-    if q == 0 {
-        if c != 255 {
-            return false;
-        }
+    if v.is_none() {
         return map == 0;
     }
-    if s.m <= c as usize {
+    if !v.proper(s) {
         return false;
     }
     if nodes != s.t + s.k {
@@ -85,12 +83,11 @@ pub(crate) fn pointer(s: Measures, t: &[u8], at: usize) -> Form
     if left < 7 {
         return Form::Broken;
     }
-    let q = u32_at(t, at);
-    let c = t[at + 4];
+    let v = version_at(t, at);
     let map = u16_at(t, at + 5);
     let nodes = count(map);
     let size = 7 + 32 * nodes;
-    if !proper(s, q, c, map, nodes) {
+    if !proper(s, v, map, nodes) {
         return Form::Broken;
     }
     if left < size {

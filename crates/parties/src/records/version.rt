@@ -9,9 +9,6 @@ ghost use lib.ListN.{length};
 ghost use Rattle.parties.specs.protocol.Reading.{sameVersion};
 ghost use Rattle.parties.specs.records.Places.{versionAt, properAt, versionAlone};
 
-// The client of the version none.
-pub(crate) const NO_CLIENT: u8 = 255;
-
 // Neither is below the other.
 pub(crate) fn same_version(a: Version, b: Version) -> bool
     ensures { λ r. ⌜ r ≡ sameVersion a b ⌝ }
@@ -34,17 +31,12 @@ pub(crate) fn version_at(t: &[u8], at: usize) -> Version
     }
 }
 
-// A version that a message names has a sequence of at least 1 and a client below m.
+// A version that a message or a place names is proper.
 pub(crate) fn proper_at(s: Measures, b: &[u8], at: usize) -> bool
     requires { ⌜ at + 5 ≤ length (now b) ⌝ }
     ensures { λ r. ⌜ r ≡ properAt s (now (b .entry)) at ⌝ }
 {
-    let v = version_at(b, at);
-    let q = v.sequence;
-    if q.0 < 1 {
-        return false;
-    }
-    (v.client as usize) < s.m
+    version_at(b, at).proper(s)
 }
 
 // A version alone.

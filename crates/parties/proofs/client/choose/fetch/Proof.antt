@@ -2,7 +2,7 @@ use borrow.Author.Needs.{needs}
 use mathlib.Core.Path.{sym, ap, _∙_}
 use native.Mathlib.Omega.{arith}
 use lib.ListN.{length}
-use Rattle.parties.specs.declared.Version.{Version}
+use Rattle.parties.specs.protocol.Version.{isNoVersion}
 use Rattle.parties.specs.protocol.Pointer.{Pointer}
 use Rattle.parties.proofs.protocol.formats.PointerLaws.{GoodPointer, pointer-length}
 use Rattle.parties.proofs.protocol.formats.RowLaws.{pointer-fits}
@@ -39,18 +39,21 @@ candidate-at-requires c κs = search needs
 version-at-requires : tie.Need-version-at-requires
 version-at-requires c κs = version-fits (c .before .before .before .before .before .before .args .s) (found c) (good c) (c .candidate-at .result .now) (c .candidate-at .ensures)
 
+is-none-requires : tie.Need-is-none-requires
+is-none-requires c κs = search needs
+
 returns : tie.Need-returns
 returns c =
-    let x = c .before .before .before .before in
+    let x = c .before .before .before in
     let a = x .before .before .before .before .before .before .args in
     let q = x .before .before .before .before .before .before .pre in
     let v = version-shown (a .s) (found x) (good x) (x .candidate-at .result .now) (x .candidate-at .ensures) in
     ends-three _ _ (finds-none (a .s) (a .own) (a .p) (a .area .now) (opened x) (q .2) (a .rows .now) (a .room .now) (found x) (x .before .pick-row .ensures .0) (good x)
-    (sym (ap (λ (w : Version). w .sequence .0) (c .before .before .before .version-at .ensures ∙ v)) ∙ c .if1 .taken))
+    (ap isNoVersion (sym (c .before .before .version-at .ensures ∙ v)) ∙ sym (c .before .is-none .ensures) ∙ c .if1 .taken))
 
 u16-at-requires : tie.Need-u16-at-requires
 u16-at-requires c κs =
-    let x = c .before .before .before .before in
+    let x = c .before .before .before in
     omega (arith, ap length (x .candidate-at .ensures), pointer-length (x .before .before .before .before .before .before .args .s) (found x) (good x))
 
 work-at-requires : tie.Need-work-at-requires
@@ -61,13 +64,13 @@ work-size-requires c κs = search needs
 
 put-request-requires : tie.Need-put-request-requires
 put-request-requires c κs =
-    let x = c .before .before .before .before .before .before .before .before in
+    let x = c .before .before .before .before .before .before .before in
     let q = x .before .before .before .before .before .before .pre in
     (omega (arith, q .6), version-fits (x .before .before .before .before .before .before .args .s) (found x) (good x) (x .candidate-at .result .now) (x .candidate-at .ensures))
 
 put-fetched-requires : tie.Need-put-fetched-requires
 put-fetched-requires c κs =
-    let x = c .before .before .before .before .before .before .before .before .before .before .before .before in
+    let x = c .before .before .before .before .before .before .before .before .before .before .before in
     let a = x .before .before .before .before .before .before .args in
     let q = x .before .before .before .before .before .before .pre in
     let w = c .before .before .before .before .before .work-size .ensures in (
@@ -85,13 +88,13 @@ returns-2 : tie.Need-returns-2
 returns-2 c =
     let z = c .before .before .before .before .before .before in
     let y = z .before .before in
-    let x = y .before .before .before .before .before .before .before in
+    let x = y .before .before .before .before .before .before in
     let a = x .before .before .before .before .before .before .args in
     let q = x .before .before .before .before .before .before .pre in
     ends-three _ _ (asks (a .s) (a .own) (a .p) (a .area .now) (opened x) (q .2) (a .rows .now) (a .room .now) (found x) (x .before .pick-row .ensures .0) (good x)
-    (x .candidate-at .result .now) (x .candidate-at .ensures) (y .before .before .before .before .before .before .version-at .result)
-    (y .before .before .before .before .before .before .version-at .ensures)
-    (y .before .before .before .if1 .left) (y .before .before .u16-at .result) _ (y .before .before .u16-at .ensures) (y .before .work-at .result) (y .before .work-at .ensures)
+    (x .candidate-at .result .now) (x .candidate-at .ensures) (y .before .before .before .before .before .version-at .result)
+    (y .before .before .before .before .before .version-at .ensures)
+    (sym (y .before .before .before .before .is-none .ensures) ∙ y .before .before .before .if1 .left) (y .before .before .u16-at .result) _ (y .before .before .u16-at .ensures) (y .before .work-at .result) (y .before .work-at .ensures)
     (y .work-size .result) (y .work-size .ensures)
     _ (c .before .before .put-fetched .ensures) _ (z .put-request .ensures))
 
@@ -102,6 +105,7 @@ fetch-spec =
     pick-row-requires
     candidate-at-requires
     version-at-requires
+    is-none-requires
     returns
     u16-at-requires
     work-at-requires

@@ -5,7 +5,7 @@ use native.Mathlib.Omega.{arith}
 use Rattle.parties.specs.client.Found.{retainedIn}
 use Rattle.parties.specs.client.Freeze.{frozenNow, reservedNow}
 use Rattle.parties.proofs.client.FormLaws.{sizes}
-use Rattle.parties.proofs.client.FreeListLaws.{Clear, clear-none, clear-more, stays-none, stays-found, stays-not}
+use Rattle.parties.proofs.client.FreeListLaws.{Clear, clear-none, clear-more, none-same, stays-none, stays-found, stays-not}
 use Rattle.parties.proofs.client.free.stays.Statement.{statement}
 use Rattle.parties.proofs.client.free.stays.Tie as tie
 
@@ -15,19 +15,19 @@ Inv-loop s map new area v m q₀ q = (q ≤ m) × Clear v (frozenNow map (retain
 abbrev μ-loop : tie.MeasureT-loop
 μ-loop s map new area v m q₀ q = m - q
 
-same-version-requires : tie.Need-same-version-requires Inv-loop μ-loop
-same-version-requires c κs = tt
+is-none-requires : tie.Need-is-none-requires Inv-loop μ-loop
+is-none-requires c κs = tt
 
 returns : tie.Need-returns Inv-loop μ-loop
 returns c =
     let a = c .before .before .before .args in
-    stays-none (a .v) (a .s) (a .map) (retainedIn (a .s) (a .area .now)) (a .new) (sym (c .before .same-version .ensures) ∙ c .if1 .taken)
+    stays-none (a .v) (a .s) (a .map) (retainedIn (a .s) (a .area .now)) (a .new) (sym (none-same (a .v)) ∙ sym (c .before .is-none .ensures) ∙ c .if1 .taken)
 
 loop-holds : tie.Need-loop-holds Inv-loop μ-loop
 loop-holds c =
     let a = c .before .before .before .args in
     let x = retainedIn (a .s) (a .area .now) in
-    (omega arith, clear-none (a .v) (frozenNow (a .map) x (a .new)) (reservedNow (a .map) x) (sym (c .before .same-version .ensures) ∙ c .if1 .left))
+    (omega arith, clear-none (a .v) (frozenNow (a .map) x (a .new)) (reservedNow (a .map) x) (sym (none-same (a .v)) ∙ sym (c .before .is-none .ensures) ∙ c .if1 .left))
 
 kept-for-requires : tie.Need-kept-for-requires Inv-loop μ-loop
 kept-for-requires c κs = (c .before .before .before .before .before .pre, c .loop-test .taken)
@@ -69,7 +69,7 @@ stays-spec =
     (tie.spec
     Inv-loop
     μ-loop
-    same-version-requires
+    is-none-requires
     returns
     loop-holds
     kept-for-requires

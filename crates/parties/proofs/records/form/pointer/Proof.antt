@@ -8,6 +8,7 @@ use lib.ListN.{drop, length-drop}
 use Rattle.coding.proofs.NodesLaws.{nodes-few}
 use Rattle.parties.specs.protocol.Nodes.{count}
 use Rattle.parties.proofs.records.RecordLaws.{bytes-drop, pointer-short, pointer-improper, pointer-long, pointer-sound}
+use Rattle.parties.proofs.records.PlaceLaws.{version-read}
 use Rattle.parties.proofs.records.form.pointer.Statement.{statement}
 use Rattle.parties.proofs.records.form.pointer.Tie as tie
 
@@ -22,14 +23,8 @@ returns c =
       within = tt;
     }
 
-u32-at-requires : tie.Need-u32-at-requires
-u32-at-requires c κs = search needs
-
-add-c : tie.Need-add-c
-add-c c = search needs
-
-shared-slice-read-c : tie.Need-shared-slice-read-c
-shared-slice-read-c c = search needs
+version-at-requires : tie.Need-version-at-requires
+version-at-requires c κs = search needs
 
 add-u16-at : tie.Need-add-u16-at
 add-u16-at c = search needs
@@ -54,39 +49,45 @@ proper-requires c κs = search needs
 
 returns-2 : tie.Need-returns-2
 returns-2 c =
-    let a = c .before .before .before .before .before .before .before .before .args in
+    let a = c .before .before .before .before .before .before .before .args in
+    let v = c .before .before .before .before .version-at in
+    let m = c .before .before .before .u16-at in
     let p = c .before .proper in
+    let r = c .before .before .before .before .before .if1 .left in
     record {
-      told = sym (pointer-improper (a .s) (a .t .now) (a .at) (c .before .before .before .before .before .u32-at .result) (c .before .before .before .u16-at .result)
-          (c .before .before .before .before .before .before .if1 .left) (c .before .before .before .before .before .u32-at .ensures) (c .before .before .before .u16-at .ensures)
+      told = sym (pointer-improper (a .s) (a .t .now) (a .at) (v .result) (m .result) r (version-read (a .t .now) (a .at) (v .result) (v .ensures) (omega arith)) (m .ensures)
           (sym (p .ensures) ∙ not-true (p .result) (c .if2 .taken)));
       within = tt;
     }
 
 returns-3 : tie.Need-returns-3
 returns-3 c =
-    let a = c .before .before .before .before .before .before .before .before .before .args in
+    let a = c .before .before .before .before .before .before .before .before .args in
+    let v = c .before .before .before .before .before .version-at in
+    let m = c .before .before .before .before .u16-at in
     let p = c .before .before .proper in
-    let e : c .before .before .before .count .result ≡ count (c .before .before .before .before .u16-at .result) = c .before .before .before .count .ensures in
+    let r = c .before .before .before .before .before .before .if1 .left in
+    let e : c .before .before .before .count .result ≡ count (m .result) = c .before .before .before .count .ensures in
     record {
-      told = sym (pointer-long (a .s) (a .t .now) (a .at) (c .before .before .before .before .before .before .u32-at .result) (c .before .before .before .before .u16-at .result)
-          (c .before .before .before .before .before .before .before .if1 .left) (c .before .before .before .before .before .before .u32-at .ensures) (c .before .before .before .before .u16-at .ensures)
+      told = sym (pointer-long (a .s) (a .t .now) (a .at) (v .result) (m .result) r (version-read (a .t .now) (a .at) (v .result) (v .ensures) (omega arith)) (m .ensures)
           (sym (p .ensures) ∙ not-false (p .result) (c .before .if2 .left)) (omega arith));
       within = tt;
     }
 
-add-t10 : tie.Need-add-t10
-add-t10 c = search needs
+add-t9 : tie.Need-add-t9
+add-t9 c = search needs
 
 returns-4 : tie.Need-returns-4
 returns-4 c =
-    let a = c .before .before .before .before .before .before .before .before .before .args in
+    let a = c .before .before .before .before .before .before .before .before .args in
+    let v = c .before .before .before .before .before .version-at in
+    let m = c .before .before .before .before .u16-at in
     let p = c .before .before .proper in
-    let e : c .before .before .before .count .result ≡ count (c .before .before .before .before .u16-at .result) = c .before .before .before .count .ensures in
+    let r = c .before .before .before .before .before .before .if1 .left in
+    let e : c .before .before .before .count .result ≡ count (m .result) = c .before .before .before .count .ensures in
     record {
       told = ap (λ (k : ℕ). some (drop (a .at + (7 + 32 * k)) (a .t .now))) e
-          ∙ sym (pointer-sound (a .s) (a .t .now) (a .at) (c .before .before .before .before .before .before .u32-at .result) (c .before .before .before .before .u16-at .result)
-          (c .before .before .before .before .before .before .before .if1 .left) (c .before .before .before .before .before .before .u32-at .ensures) (c .before .before .before .before .u16-at .ensures)
+          ∙ sym (pointer-sound (a .s) (a .t .now) (a .at) (v .result) (m .result) r (version-read (a .t .now) (a .at) (v .result) (v .ensures) (omega arith)) (m .ensures)
           (sym (p .ensures) ∙ not-false (p .result) (c .before .if2 .left)) (omega arith));
       within = (omega arith, omega arith);
     }
@@ -97,9 +98,7 @@ pointer-spec =
     (tie.spec
     sub-left
     returns
-    u32-at-requires
-    add-c
-    shared-slice-read-c
+    version-at-requires
     add-u16-at
     u16-at-requires
     count-requires
@@ -108,5 +107,5 @@ pointer-spec =
     proper-requires
     returns-2
     returns-3
-    add-t10
+    add-t9
     returns-4)

@@ -1,25 +1,19 @@
 use borrow.Author.Needs.{needs}
-use Rattle.parties.proofs.records.PlaceLaws.{proper-low, proper-client}
+use mathlib.Core.Path.{_∙_}
+use Rattle.parties.proofs.records.PlaceLaws.{proper-told}
 use Rattle.parties.proofs.records.version.proper_at.Statement.{statement}
 use Rattle.parties.proofs.records.version.proper_at.Tie as tie
 
 version-at-requires : tie.Need-version-at-requires
 version-at-requires c κs = search needs
 
+proper-requires : tie.Need-proper-requires
+proper-requires c κs = tt
+
 returns : tie.Need-returns
 returns c =
-    let a = c .before .before .before .before .before .args in
-    let version-at = c .before .before .before .version-at in
-    proper-low (a .s) (a .b .now) (a .at) (version-at .result) (version-at .ensures) (c .if1 .taken)
-
-cast-result : tie.Need-cast-result
-cast-result c = search needs
-
-returns-2 : tie.Need-returns-2
-returns-2 c =
-    let a = c .before .before .before .before .before .before .before .args in
-    let version-at = c .before .before .before .before .before .version-at in
-    proper-client (a .s) (a .b .now) (a .at) (version-at .result) (version-at .ensures) (c .before .before .if1 .left)
+    let a = c .before .before .before .args in
+    c .proper .ensures ∙ proper-told (a .s) (a .b .now) (a .at) (c .before .version-at .result) (c .before .version-at .ensures)
 
 pub proper-at-spec : {M : Type 1} → statement M
-proper-at-spec = tie.close (tie.spec version-at-requires returns cast-result returns-2)
+proper-at-spec = tie.close (tie.spec version-at-requires proper-requires returns)
