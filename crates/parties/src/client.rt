@@ -6,6 +6,7 @@ pub(crate) mod form;
 mod free;
 mod freeze;
 pub(crate) mod gate;
+mod lent;
 mod notice;
 mod phase;
 pub mod pick;

@@ -2,14 +2,9 @@
 use crate::ClientAnswer;
 use crate::Measures;
 use crate::Refusal;
+use crate::client::lent;
 use crate::client::phase::phase_of;
 use crate::client::phase::put_phase;
-use crate::client::turn::fresh_client;
-use crate::client::turn::message as message_turn;
-use crate::client::turn::scan_answer;
-use crate::client::turn::start_deposit;
-use crate::client::turn::start_reading;
-use crate::client::turn::update_answer;
 ghost use mathlib.Core.Path.{_≡_};
 ghost use mathlib.Core.Bool.{cond};
 ghost use Rattle.parties.specs.protocol.Measures.{passes};
@@ -36,7 +31,7 @@ pub fn fresh(s: Measures, client: &mut [u8]) -> ClientAnswer
         return brief(s);
     }
     let p = phase_of(client);
-    let t = fresh_client(p, s, &mut client[5..]);
+    let t = lent::fresh(p, s, &mut client[5..]);
     put_phase(client, t.phase);
     t.answer
 }
@@ -50,7 +45,7 @@ pub fn deposit(s: Measures, own: usize, client: &mut [u8], page: &[u8]) -> Clien
         return brief(s);
     }
     let p = phase_of(client);
-    let t = start_deposit(p, s, own, &mut client[5..], page);
+    let t = lent::deposit(p, s, own, &mut client[5..], page);
     put_phase(client, t.phase);
     t.answer
 }
@@ -65,7 +60,7 @@ pub fn read(s: Measures, own: usize, client: &mut [u8], room: &mut [u8]) -> Clie
         return brief(s);
     }
     let p = phase_of(client);
-    let t = start_reading(p, s, own, &mut client[5..], room);
+    let t = lent::read(p, s, own, &mut client[5..], room);
     put_phase(client, t.phase);
     t.answer
 }
@@ -80,7 +75,7 @@ pub fn updated(s: Measures, own: usize, client: &mut [u8], room: &mut [u8]) -> C
         return brief(s);
     }
     let p = phase_of(client);
-    let t = update_answer(p, s, own, &mut client[5..], room);
+    let t = lent::updated(p, s, own, &mut client[5..], room);
     put_phase(client, t.phase);
     t.answer
 }
@@ -101,7 +96,7 @@ pub fn scanned(
         return brief(s);
     }
     let p = phase_of(client);
-    let t = scan_answer(p, s, own, &mut client[5..], rows, room);
+    let t = lent::scanned(p, s, own, &mut client[5..], rows, room);
     put_phase(client, t.phase);
     t.answer
 }
@@ -125,7 +120,7 @@ pub fn receive(
         return brief(s);
     }
     let p = phase_of(client);
-    let t = message_turn(p, s, own, i, &mut client[5..], message, room, out);
+    let t = lent::receive(p, s, own, i, &mut client[5..], message, room, out);
     put_phase(client, t.phase);
     t.answer
 }

@@ -22,17 +22,17 @@ returns c =
 phase-of-requires : tie.Need-phase-of-requires
 phase-of-requires c κs = search needs
 
-sub-start-deposit : tie.Need-sub-start-deposit
-sub-start-deposit c = search needs
+sub-deposit : tie.Need-sub-deposit
+sub-deposit c = search needs
 
-part-start-deposit-start : tie.Need-part-start-deposit-start
-part-start-deposit-start c = search needs
+part-deposit-start : tie.Need-part-deposit-start
+part-deposit-start c = search needs
 
-part-start-deposit-end : tie.Need-part-start-deposit-end
-part-start-deposit-end c = search needs
+part-deposit-end : tie.Need-part-deposit-end
+part-deposit-end c = search needs
 
-start-deposit-requires : tie.Need-start-deposit-requires
-start-deposit-requires c κs = search needs
+deposit-requires : tie.Need-deposit-requires
+deposit-requires c κs = search needs
 
 put-phase-requires : tie.Need-put-phase-requires
 put-phase-requires c κs = search needs
@@ -43,7 +43,7 @@ same-length c = search needs
 returns-2 : tie.Need-returns-2
 returns-2 c =
     let a = c .before .before .before .before .before .before .before .before .before .before .before .before .before .args in
-    let t = c .before .before .before .before .before .before .start-deposit in
+    let t = c .before .before .before .before .before .before .deposit in
     let p = c .before .before .before .before .before .before .before .before .phase-of in
     let f : List ℕ → ClientEnd = λ l. startDeposit (a .s) (a .own) l (a .page .now) in
     turned-two (a .client .now) (c .before .before .before .before .before .before .before .before .before .before .if1 .left) f (p .result) (p .ensures) (t .result .phase) (t .last .1 .1 .1 .0) _ (c .before .before .put-phase .ensures) _ (t .ensures)
@@ -55,10 +55,10 @@ deposit-spec =
     brief-requires
     returns
     phase-of-requires
-    sub-start-deposit
-    part-start-deposit-start
-    part-start-deposit-end
-    start-deposit-requires
+    sub-deposit
+    part-deposit-start
+    part-deposit-end
+    deposit-requires
     put-phase-requires
     same-length
     returns-2)

@@ -22,17 +22,17 @@ returns c =
 phase-of-requires : tie.Need-phase-of-requires
 phase-of-requires c κs = search needs
 
-sub-fresh-client : tie.Need-sub-fresh-client
-sub-fresh-client c = search needs
+sub-fresh : tie.Need-sub-fresh
+sub-fresh c = search needs
 
-part-fresh-client-start : tie.Need-part-fresh-client-start
-part-fresh-client-start c = search needs
+part-fresh-start : tie.Need-part-fresh-start
+part-fresh-start c = search needs
 
-part-fresh-client-end : tie.Need-part-fresh-client-end
-part-fresh-client-end c = search needs
+part-fresh-end : tie.Need-part-fresh-end
+part-fresh-end c = search needs
 
-fresh-client-requires : tie.Need-fresh-client-requires
-fresh-client-requires c κs = search needs
+fresh-requires : tie.Need-fresh-requires
+fresh-requires c κs = search needs
 
 put-phase-requires : tie.Need-put-phase-requires
 put-phase-requires c κs = search needs
@@ -43,7 +43,7 @@ same-length c = search needs
 returns-2 : tie.Need-returns-2
 returns-2 c =
     let a = c .before .before .before .before .before .before .before .before .before .before .before .before .args in
-    let t = c .before .before .before .before .before .before .fresh-client in
+    let t = c .before .before .before .before .before .before .fresh in
     let p = c .before .before .before .before .before .before .before .before .phase-of in
     let f : List ℕ → ClientEnd = λ l. clientFresh (a .s) l in
     turned-two (a .client .now) (c .before .before .before .before .before .before .before .before .before .before .if1 .left) f (p .result) (p .ensures) (t .result .phase) (t .last .1 .1 .0) _ (c .before .before .put-phase .ensures) _ (t .ensures)
@@ -55,10 +55,10 @@ fresh-spec =
     brief-requires
     returns
     phase-of-requires
-    sub-fresh-client
-    part-fresh-client-start
-    part-fresh-client-end
-    fresh-client-requires
+    sub-fresh
+    part-fresh-start
+    part-fresh-end
+    fresh-requires
     put-phase-requires
     same-length
     returns-2)

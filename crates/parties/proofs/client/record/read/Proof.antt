@@ -22,17 +22,17 @@ returns c =
 phase-of-requires : tie.Need-phase-of-requires
 phase-of-requires c κs = search needs
 
-sub-start-reading : tie.Need-sub-start-reading
-sub-start-reading c = search needs
+sub-read : tie.Need-sub-read
+sub-read c = search needs
 
-part-start-reading-start : tie.Need-part-start-reading-start
-part-start-reading-start c = search needs
+part-read-start : tie.Need-part-read-start
+part-read-start c = search needs
 
-part-start-reading-end : tie.Need-part-start-reading-end
-part-start-reading-end c = search needs
+part-read-end : tie.Need-part-read-end
+part-read-end c = search needs
 
-start-reading-requires : tie.Need-start-reading-requires
-start-reading-requires c κs = search needs
+read-requires : tie.Need-read-requires
+read-requires c κs = search needs
 
 put-phase-requires : tie.Need-put-phase-requires
 put-phase-requires c κs = search needs
@@ -46,7 +46,7 @@ same-length-2 c = search needs
 returns-2 : tie.Need-returns-2
 returns-2 c =
     let a = c .before .before .before .before .before .before .before .before .before .before .before .before .before .before .before .before .args in
-    let t = c .before .before .before .before .before .before .before .before .start-reading in
+    let t = c .before .before .before .before .before .before .before .before .read in
     let p = c .before .before .before .before .before .before .before .before .before .before .before .phase-of in
     let f : List ℕ → ClientEnd = λ l. startReading (a .s) (a .own) l (a .room .now) in
     turned-three (a .client .now) (c .before .before .before .before .before .before .before .before .before .before .before .before .before .if1 .left) f (p .result) (p .ensures) (t .result .phase) (t .last .1 .1 .1 .0) _ (c .before .before .put-phase .ensures) _ _ (t .ensures)
@@ -58,10 +58,10 @@ read-spec =
     brief-requires
     returns
     phase-of-requires
-    sub-start-reading
-    part-start-reading-start
-    part-start-reading-end
-    start-reading-requires
+    sub-read
+    part-read-start
+    part-read-end
+    read-requires
     put-phase-requires
     same-length
     same-length-2

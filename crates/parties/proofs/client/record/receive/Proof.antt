@@ -22,17 +22,17 @@ returns c =
 phase-of-requires : tie.Need-phase-of-requires
 phase-of-requires c κs = search needs
 
-sub-message : tie.Need-sub-message
-sub-message c = search needs
+sub-receive : tie.Need-sub-receive
+sub-receive c = search needs
 
-part-message-start : tie.Need-part-message-start
-part-message-start c = search needs
+part-receive-start : tie.Need-part-receive-start
+part-receive-start c = search needs
 
-part-message-end : tie.Need-part-message-end
-part-message-end c = search needs
+part-receive-end : tie.Need-part-receive-end
+part-receive-end c = search needs
 
-message-requires : tie.Need-message-requires
-message-requires c κs = search needs
+receive-requires : tie.Need-receive-requires
+receive-requires c κs = search needs
 
 put-phase-requires : tie.Need-put-phase-requires
 put-phase-requires c κs = search needs
@@ -49,7 +49,7 @@ same-length-3 c = search needs
 returns-2 : tie.Need-returns-2
 returns-2 c =
     let a = c .before .before .before .before .before .before .before .before .before .before .before .before .before .before .before .before .before .before .before .before .before .args in
-    let t = c .before .before .before .before .before .before .before .before .before .before .message in
+    let t = c .before .before .before .before .before .before .before .before .before .before .receive in
     let p = c .before .before .before .before .before .before .before .before .before .before .before .before .before .before .phase-of in
     let f : List ℕ → ClientEnd = λ l. clientMessage (a .s) (a .own) (a .i) l (a .message .now) (a .room .now) (a .out .now) in
     turned-four (a .client .now) (c .before .before .before .before .before .before .before .before .before .before .before .before .before .before .before .before .if1 .left) f (p .result) (p .ensures) (t .result .phase) (t .last .1 .1 .1 .1 .0) _ (c .before .before .put-phase .ensures) _ _ _ (t .ensures)
@@ -61,10 +61,10 @@ receive-spec =
     brief-requires
     returns
     phase-of-requires
-    sub-message
-    part-message-start
-    part-message-end
-    message-requires
+    sub-receive
+    part-receive-start
+    part-receive-end
+    receive-requires
     put-phase-requires
     same-length
     same-length-2

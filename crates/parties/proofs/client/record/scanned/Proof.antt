@@ -22,17 +22,17 @@ returns c =
 phase-of-requires : tie.Need-phase-of-requires
 phase-of-requires c κs = search needs
 
-sub-scan-answer : tie.Need-sub-scan-answer
-sub-scan-answer c = search needs
+sub-scanned : tie.Need-sub-scanned
+sub-scanned c = search needs
 
-part-scan-answer-start : tie.Need-part-scan-answer-start
-part-scan-answer-start c = search needs
+part-scanned-start : tie.Need-part-scanned-start
+part-scanned-start c = search needs
 
-part-scan-answer-end : tie.Need-part-scan-answer-end
-part-scan-answer-end c = search needs
+part-scanned-end : tie.Need-part-scanned-end
+part-scanned-end c = search needs
 
-scan-answer-requires : tie.Need-scan-answer-requires
-scan-answer-requires c κs = search needs
+scanned-requires : tie.Need-scanned-requires
+scanned-requires c κs = search needs
 
 put-phase-requires : tie.Need-put-phase-requires
 put-phase-requires c κs = search needs
@@ -46,7 +46,7 @@ same-length-2 c = search needs
 returns-2 : tie.Need-returns-2
 returns-2 c =
     let a = c .before .before .before .before .before .before .before .before .before .before .before .before .before .before .before .before .before .args in
-    let t = c .before .before .before .before .before .before .before .before .scan-answer in
+    let t = c .before .before .before .before .before .before .before .before .scanned in
     let p = c .before .before .before .before .before .before .before .before .before .before .before .phase-of in
     let f : List ℕ → ClientEnd = λ l. scanAnswer (a .s) (a .own) l (a .rows .now) (a .room .now) in
     turned-three (a .client .now) (c .before .before .before .before .before .before .before .before .before .before .before .before .before .if1 .left) f (p .result) (p .ensures) (t .result .phase) (t .last .1 .1 .1 .0) _ (c .before .before .put-phase .ensures) _ _ (t .ensures)
@@ -58,10 +58,10 @@ scanned-spec =
     brief-requires
     returns
     phase-of-requires
-    sub-scan-answer
-    part-scan-answer-start
-    part-scan-answer-end
-    scan-answer-requires
+    sub-scanned
+    part-scanned-start
+    part-scanned-end
+    scanned-requires
     put-phase-requires
     same-length
     same-length-2

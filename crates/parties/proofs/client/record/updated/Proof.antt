@@ -22,17 +22,17 @@ returns c =
 phase-of-requires : tie.Need-phase-of-requires
 phase-of-requires c κs = search needs
 
-sub-update-answer : tie.Need-sub-update-answer
-sub-update-answer c = search needs
+sub-updated : tie.Need-sub-updated
+sub-updated c = search needs
 
-part-update-answer-start : tie.Need-part-update-answer-start
-part-update-answer-start c = search needs
+part-updated-start : tie.Need-part-updated-start
+part-updated-start c = search needs
 
-part-update-answer-end : tie.Need-part-update-answer-end
-part-update-answer-end c = search needs
+part-updated-end : tie.Need-part-updated-end
+part-updated-end c = search needs
 
-update-answer-requires : tie.Need-update-answer-requires
-update-answer-requires c κs = search needs
+updated-requires : tie.Need-updated-requires
+updated-requires c κs = search needs
 
 put-phase-requires : tie.Need-put-phase-requires
 put-phase-requires c κs = search needs
@@ -46,7 +46,7 @@ same-length-2 c = search needs
 returns-2 : tie.Need-returns-2
 returns-2 c =
     let a = c .before .before .before .before .before .before .before .before .before .before .before .before .before .before .before .before .args in
-    let t = c .before .before .before .before .before .before .before .before .update-answer in
+    let t = c .before .before .before .before .before .before .before .before .updated in
     let p = c .before .before .before .before .before .before .before .before .before .before .before .phase-of in
     let f : List ℕ → ClientEnd = λ l. updateAnswer (a .s) (a .own) l (a .room .now) in
     turned-three (a .client .now) (c .before .before .before .before .before .before .before .before .before .before .before .before .before .if1 .left) f (p .result) (p .ensures) (t .result .phase) (t .last .1 .1 .1 .0) _ (c .before .before .put-phase .ensures) _ _ (t .ensures)
@@ -58,10 +58,10 @@ updated-spec =
     brief-requires
     returns
     phase-of-requires
-    sub-update-answer
-    part-update-answer-start
-    part-update-answer-end
-    update-answer-requires
+    sub-updated
+    part-updated-start
+    part-updated-end
+    updated-requires
     put-phase-requires
     same-length
     same-length-2
