@@ -1,7 +1,7 @@
 -- The worked run is as it is written down: one computation of its events by the definitions on bytes.
 use mathlib.Core.Path.{_≡_, refl, ap, ap₂, sym, _∙_}
 use mathlib.Core.Bool.{Bool, true, _&&_}
-use mathlib.Core.List.{List, [], _∷_}
+use mathlib.Core.List.{List, [], _∷_, _++_}
 use Prim.Native.Nat.{ℕ}
 use native.Mathlib.Omega.{arith}
 use borrow.Author.Tests.{ltb-true}
@@ -33,10 +33,11 @@ use Rattle.parties.specs.protocol.Reading.{pick, sameBytes, digestAt, ma
 use Rattle.parties.specs.protocol.ClientEvents.{beginDeposit, beginReading, startDeposit, startReading, updateAnswer, scanAnswer, clientMessage}
 use Rattle.parties.specs.protocol.DirectoryEvents.{directoryUpdate, directoryScan}
 use Rattle.parties.specs.protocol.NodeEvents.{nodeMessage}
-use Rattle.parties.specs.protocol.Run.{Event, deposit, reading, carry, hand, bring, deliver, lie, Answered, State, fresh, carryOut, run}
+use Rattle.parties.specs.protocol.Run.{Event, deposit, reading, carry, hand, bring, deliver, lie, Answered, State, Result, fresh, carryOut, run}
 use Rattle.parties.specs.protocol.Claim.{Lent, AllLent}
-use Rattle.parties.specs.protocol.Example.{measures, honest, script, events, answers, Ending, ending, expected, Worked}
+use Rattle.parties.specs.protocol.Example.{measures, honest, last, opening, front, events, opened, ended, answers, Ending, ending, expected, Worked}
 use Rattle.parties.proofs.protocol.formats.BytesWritten.{bytes-nil}
+use Rattle.parties.proofs.protocol.events.RunLaws.{run-last}
 
 -- ---- answers and state at once, so that each event is computed once
 
@@ -57,10 +58,20 @@ unfolding play run
 play-run s honest [] st = refl
 play-run s honest (e ∷ es) st = play-run s honest es (carryOut s honest e st .state)
 
-abbrev endOf : List Answered × State → Ending
-endOf (l, st) = ending l st
+answers-last : (s : Measures) (honest : ℕ → Bool) (es : List Event) (e : Event) (st : State)
+    → answers s honest (es ++ (e ∷ [])) st ≡ answers s honest es st ++ (carryOut s honest e (run s honest es st) .answer ∷ [])
+unfolding answers run
+answers-last s honest [] e st = refl
+answers-last s honest (x ∷ es) e st = ap (λ l. carryOut s honest x st .answer ∷ l) (answers-last s honest es e (carryOut s honest x st .state))
 
-played : endOf (play measures honest events (fresh measures)) ≡ expected
+-- the last event after the others
+abbrev lasting : Result → List Answered → State → Ending
+lasting r l st = ending (l ++ (r .answer ∷ [])) st (r .state)
+
+abbrev endOf : List Answered × State → Ending
+endOf (l, st) = lasting (carryOut measures honest (last .0) st) l st
+
+played : endOf (play measures honest front (fresh measures)) ≡ expected
 unfolding expected play tabulate digestInput pieceDigest polyProduct polyRemainder product power inverse sum joined pageOf join allOf nodesOf sound
     firstLength proper columns frame pieceByte piece value plus times rootsAt interpolate K bytes padded words H₀ extended schedule turned round
     rounds added compress hash digestJoined sha256 splitWritten split readNumber writeNumber readMany writeMany readEach readBytes readZeros readArea
@@ -113,7 +124,7 @@ all-lent [] t = tt
 all-lent (e ∷ es) t = let u = and-true (lentTo e) _ t in (lent-to e (u .0), all-lent es (u .1))
 
 lent-here : allLentTo events ≡ true
-unfolding allLentTo bytesIn allOf script writeToClient writeVersion writeNumber
+unfolding allLentTo bytesIn allOf opening writeToClient writeVersion writeNumber
 lent-here = refl
 
 -- ---- the theorem
@@ -122,7 +133,11 @@ pub worked : Worked
 worked =
     record {
       ends =
-          ap₂ ending (sym (play-answers measures honest events (fresh measures))) (sym (play-run measures honest events (fresh measures))) ∙ played;
+          ap₂ (λ l st. ending l opened st) (answers-last measures honest front (last .0) (fresh measures))
+          (run-last measures honest front (last .0) (fresh measures))
+          ∙ ap₂ (λ l st. lasting (carryOut measures honest (last .0) st) l st) (sym (play-answers measures honest front (fresh measures)))
+          (sym (play-run measures honest front (fresh measures)))
+          ∙ played;
       few = omega arith;
       lent = all-lent events lent-here;
     }
