@@ -133,7 +133,7 @@ fn write_page(
     }
 }
 
-// Byte p of the joined frame.
+// Byte p of the joined frame; its columns are for the contract alone.
 fn joined_byte(
     grid: [[u8; 32]; 16],
     nodes: [u8; 16],

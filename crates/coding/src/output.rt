@@ -4,7 +4,7 @@ ghost use Prim.Native.Nat.{ℕ, _+_, _-_, _*_, _^_, _≤_, _<_};
 ghost use lib.ListN.{length, getD};
 ghost use Rattle.coding.specs.Output.{Placed, Stride};
 
-// 16 lanes to places of the page, k apart.
+// 16 lanes to places of the page, k apart; its length is for the contract alone.
 fn scatter_inside(v: [u8; 16], from: usize, k: usize, len: usize, out: &mut [u8])
     requires { ⌜ (4 ≤ from) × (from - 4 + 15 * k < len) × (len ≤ length (now out)) × (k ≤ 16) ⌝ }
     ensures { λ _. ⌜ ((g : ℕ → ℕ) → ((l : ℕ) → l < 16 → getD v l 0 ≡ g (from + l * k)) → Placed g len (Stride from k 16) (now (out .entry)) (now (out .exit))) ⌝ }
