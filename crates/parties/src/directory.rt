@@ -24,14 +24,14 @@ ghost use Rattle.parties.specs.protocol.Directory.{freshRow, writeRow, r
 ghost use Rattle.parties.specs.protocol.DirectoryEvents.{directoryFresh, directoryUpdate, directoryScan};
 ghost use Rattle.parties.specs.Answer.{served};
 ghost use Rattle.parties.specs.records.Form.{rest, Recorded};
-ghost use Rattle.parties.specs.directory.Room.{Built, Ordered, Renewed, part, renewed};
+ghost use Rattle.parties.specs.directory.Room.{longestRow, Built, Ordered, Renewed, part, renewed};
 
 // The bytes of a row of 8 clients and 16 digests a pointer.
 const LONGEST_ROW: usize = 4708;
 
 // A fresh row: the map of all fields, and pointers that are none; the rest is zero.
 fn fresh_row(s: Measures, room: &mut [u8])
-    requires { ⌜ (passes s ≡ true) × (now room ≡ replicate 4708 0) ⌝ }
+    requires { ⌜ (passes s ≡ true) × (now room ≡ replicate longestRow 0) ⌝ }
     ensures { λ _. ⌜ Built (writeRow (freshRow s)) (now (room .exit)) ⌝ }
 {
     room[0] = ROW_MAP;
@@ -101,8 +101,8 @@ fn put(
 
 // The row at a place of the table, put together anew.
 fn rebuild(fields: &[u8], e: Ends, table: &[u8], at: usize, f: Ends, room: &mut [u8])
-    requires { ⌜ (0 < length (now fields)) × (now room ≡ replicate 4708 0) × Ordered 1 e (length (now fields)) × Ordered (at + 1) f (length (now table))
-        × (length (renewed (getD (now fields) 0 0) (now fields) e (now table) at f) ≤ 4708) ⌝ }
+    requires { ⌜ (0 < length (now fields)) × (now room ≡ replicate longestRow 0) × Ordered 1 e (length (now fields)) × Ordered (at + 1) f (length (now table))
+        × (length (renewed (getD (now fields) 0 0) (now fields) e (now table) at f) ≤ longestRow) ⌝ }
     ensures { λ _. ⌜ Built (renewed (getD (now (fields .entry)) 0 0) (now (fields .entry)) e (now (table .entry)) at f) (now (room .exit)) ⌝ }
 {
     let map = fields[0];

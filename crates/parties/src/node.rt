@@ -29,6 +29,7 @@ ghost use Prim.Native.Nat.{_+_, _-_, _*_, _/_, _<_, _≤_};
 ghost use lib.ListN.{length, getD, take, drop};
 ghost use Rattle.parties.specs.protocol.Measures.{passes, places, placeSize};
 ghost use Rattle.parties.specs.protocol.Version.{noVersion};
+ghost use Rattle.parties.specs.protocol.Message.{storeTag, requestTag, freeTag};
 ghost use Rattle.parties.specs.protocol.NodeEvents.{nodeFresh, nodeMessage, tableSize};
 ghost use Rattle.parties.specs.Answer.{served};
 ghost use Rattle.parties.specs.records.Places.{numberAt, soundAt, soundFrom, soundTable, rank, standsAt, splice, placeOf, versionAlone};
@@ -162,7 +163,7 @@ fn insert(s: Measures, t: &mut [u8], count: usize, at: usize, b: &[u8])
 
 // A piece is kept in its version's place; 8 for a new version at a full table.
 fn keep(s: Measures, t: &mut [u8], b: &[u8], room: &mut [u8]) -> Service
-    requires { ⌜ Ready s (now t) (now room) × (1 ≤ length (now b)) × (getD (now b) 0 0 ≡ 1) × (storeSound s (now b) ≡ true) ⌝ }
+    requires { ⌜ Ready s (now t) (now room) × (1 ≤ length (now b)) × (getD (now b) 0 0 ≡ storeTag) × (storeSound s (now b) ≡ true) ⌝ }
     ensures { λ r. ⌜ Ends (event s (now (t .entry)) (now (b .entry)) (now (room .entry))) (served r) (now (t .exit)) (now (room .exit)) ⌝ }
 {
     let z = 7 + s.f;
@@ -184,7 +185,7 @@ fn keep(s: Measures, t: &mut [u8], b: &[u8], room: &mut [u8]) -> Service
 }
 
 fn store(s: Measures, t: &mut [u8], b: &[u8], room: &mut [u8]) -> Service
-    requires { ⌜ Ready s (now t) (now room) × (1 ≤ length (now b)) × (getD (now b) 0 0 ≡ 1) ⌝ }
+    requires { ⌜ Ready s (now t) (now room) × (1 ≤ length (now b)) × (getD (now b) 0 0 ≡ storeTag) ⌝ }
     ensures { λ r. ⌜ Ends (event s (now (t .entry)) (now (b .entry)) (now (room .entry))) (served r) (now (t .exit)) (now (room .exit)) ⌝ }
 {
     if !store_sound(s, b) {
@@ -195,7 +196,7 @@ fn store(s: Measures, t: &mut [u8], b: &[u8], room: &mut [u8]) -> Service
 
 // A piece is handed back, or "not held".
 fn hand_back(s: Measures, t: &[u8], b: &[u8], room: &mut [u8]) -> Service
-    requires { ⌜ Ready s (now t) (now room) × (1 ≤ length (now b)) × (getD (now b) 0 0 ≡ 2) × (versionAlone s (now b) ≡ true) ⌝ }
+    requires { ⌜ Ready s (now t) (now room) × (1 ≤ length (now b)) × (getD (now b) 0 0 ≡ requestTag) × (versionAlone s (now b) ≡ true) ⌝ }
     ensures { λ r. ⌜ Ends (event s (now (t .entry)) (now (b .entry)) (now (room .entry))) (served r) (now (t .entry)) (now (room .exit)) ⌝ }
 {
     let z = 7 + s.f;
@@ -215,7 +216,7 @@ fn hand_back(s: Measures, t: &[u8], b: &[u8], room: &mut [u8]) -> Service
 }
 
 fn request(s: Measures, t: &[u8], b: &[u8], room: &mut [u8]) -> Service
-    requires { ⌜ Ready s (now t) (now room) × (1 ≤ length (now b)) × (getD (now b) 0 0 ≡ 2) ⌝ }
+    requires { ⌜ Ready s (now t) (now room) × (1 ≤ length (now b)) × (getD (now b) 0 0 ≡ requestTag) ⌝ }
     ensures { λ r. ⌜ Ends (event s (now (t .entry)) (now (b .entry)) (now (room .entry))) (served r) (now (t .entry)) (now (room .exit)) ⌝ }
 {
     if !version_alone(s, b) {
@@ -295,7 +296,7 @@ fn release(s: Measures, t: &mut [u8], b: &[u8], count: usize, listed: usize) -> 
 
 // The listed versions that are held are dropped.
 fn free(s: Measures, t: &mut [u8], b: &[u8], room: &mut [u8]) -> Service
-    requires { ⌜ Ready s (now t) (now room) × (1 ≤ length (now b)) × (getD (now b) 0 0 ≡ 3) ⌝ }
+    requires { ⌜ Ready s (now t) (now room) × (1 ≤ length (now b)) × (getD (now b) 0 0 ≡ freeTag) ⌝ }
     ensures { λ r. ⌜ Ends (event s (now (t .entry)) (now (b .entry)) (now (room .entry))) (served r) (now (t .exit)) (now (room .exit)) ⌝ }
 {
     if !free_sound(s, b) {

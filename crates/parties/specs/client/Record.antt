@@ -7,6 +7,7 @@ use lib.ListN.{set}
 use Rattle.parties.specs.declared.Measures.{Measures}
 use Rattle.parties.specs.protocol.Format.{writeNumber}
 use Rattle.parties.specs.protocol.Measures.{pointerSize}
+use Rattle.parties.specs.protocol.Version.{noClient}
 use Rattle.parties.specs.protocol.Client.{clientSize}
 use Rattle.parties.specs.declared.Phase.{Phase}
 
@@ -25,7 +26,7 @@ abbrev pub isSome : {A : Type 0} → Option A → Bool
 isSome none = false
 isSome (some a) = true
 
--- client 255 at n places of w bytes each, whose sequences are zero: none
+-- none's client at n places of w bytes each, whose sequences are zero
 unfoldable pub marked : List ℕ → ℕ → ℕ → ℕ → List ℕ
 marked t at w zero = t
-marked t at w (suc n) = set (marked t at w n) (at + n * w + 4) 255
+marked t at w (suc n) = set (marked t at w n) (at + n * w + 4) noClient

@@ -15,7 +15,7 @@ use Rattle.parties.specs.protocol.Format.{writeNumber, writeArea}
 use Rattle.parties.specs.protocol.Measures.{pointerSize}
 use Rattle.parties.specs.protocol.Nodes.{stands}
 use Rattle.parties.specs.protocol.Pointer.{writeVersion}
-use Rattle.parties.specs.protocol.Client.{readClient, workSize}
+use Rattle.parties.specs.protocol.Client.{idleStep, readClient, workSize}
 use Rattle.parties.specs.protocol.Reading.{sameVersion, sameBytes}
 use Rattle.parties.specs.protocol.ClientEvents.{ClientEnd, onClient, repliedAt}
 use Rattle.parties.specs.declared.ClientAnswer.{ClientAnswer}
@@ -57,7 +57,7 @@ matchesAt f v i piece t at =
 -- every named node counted or not: the phase and the answer, and the area
 abbrev pub wentOn : Phase → Bool → Turned
 wentOn p b =
-    cond b (record { phase = record { step = 0; reading = p .reading }; answer = ClientAnswer.Failed }) (record { phase = p; answer = ClientAnswer.Waits })
+    cond b (record { phase = record { step = idleStep; reading = p .reading }; answer = ClientAnswer.Failed }) (record { phase = p; answer = ClientAnswer.Waits })
 
 unfoldable pub cleared : Measures → List ℕ → List ℕ
 cleared s area = paste area (workAt s) (replicate (workSize s) 0) (workSize s)

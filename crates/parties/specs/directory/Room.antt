@@ -10,13 +10,16 @@ use lib.Seq.{paste}
 use Rattle.parties.specs.declared.Measures.{Measures}
 use Rattle.parties.specs.protocol.Format.{whole, writeArea}
 use Rattle.parties.specs.protocol.Measures.{rowSize}
-use Rattle.parties.specs.protocol.Directory.{Content, Row, readRecord, readRow, writeRow, updateRow}
+use Rattle.parties.specs.protocol.Directory.{Content, Row, rowMap, readRecord, readRow, writeRow, updateRow}
 use Rattle.parties.specs.declared.records.form.Ends.{Ends}
 
--- the room of the longest row
+-- the bytes of the longest row: of 8 clients, and 16 digests a pointer
+abbrev pub longestRow : ℕ
+longestRow = 4708
+
 pub record Built (p room : List ℕ) : Type 0 where
-  pub fits : length p ≤ 4708
-  pub bytes : room ≡ p ++ replicate (4708 - length p) 0
+  pub fits : length p ≤ longestRow
+  pub bytes : room ≡ p ++ replicate (longestRow - length p) 0
 
 -- the bytes from a place to another
 abbrev pub range : ℕ → ℕ → List ℕ → List ℕ
@@ -29,7 +32,7 @@ part stands a b record-bytes c d row-bytes = cond stands (range a b record-bytes
 -- the row at a place of the table, with the fields of a record in their stead
 unfoldable pub renewed : ℕ → List ℕ → Ends → List ℕ → ℕ → Ends → List ℕ
 renewed map fields e table at f =
-    15 ∷ (part (eqb (map % 2) 1) 1 (e .written) fields (at + 1) (f .written) table
+    rowMap ∷ (part (eqb (map % 2) 1) 1 (e .written) fields (at + 1) (f .written) table
     ++ (part (eqb (map / 2 % 2) 1) (e .written) (e .frozen) fields (f .written) (f .frozen) table
     ++ (part (eqb (map / 2 / 2 % 2) 1) (e .frozen) (e .indices) fields (f .frozen) (f .indices) table
     ++ part (eqb (map / 2 / 2 / 2 % 2) 1) (e .indices) (e .index) fields (f .indices) (f .index) table)))

@@ -41,15 +41,40 @@ pub record Client : Type 0 where
   pub reserved : List Version
   pub frozenIndices : List ReadingIndex
 
+-- the byte that stands for each in the record
+abbrev pub idleStep : ℕ
+idleStep = 0
+
+abbrev pub scanningStep : ℕ
+scanningStep = 1
+
+abbrev pub storingStep : ℕ
+storingStep = 2
+
+abbrev pub updatingStep : ℕ
+updatingStep = 3
+
+abbrev pub freezingStep : ℕ
+freezingStep = 4
+
+abbrev pub raisingStep : ℕ
+raisingStep = 5
+
+abbrev pub pickingStep : ℕ
+pickingStep = 6
+
+abbrev pub fetchingStep : ℕ
+fetchingStep = 7
+
 abbrev pub step : Phase → ℕ
-step idle = 0
-step (scanning page) = 1
-step (storing v acknowledged digests) = 2
-step (updating p) = 3
-step (freezing p) = 4
-step raising = 5
-step picking = 6
-step (fetching p counted matching pieces) = 7
+step idle = idleStep
+step (scanning page) = scanningStep
+step (storing v acknowledged digests) = storingStep
+step (updating p) = updatingStep
+step (freezing p) = freezingStep
+step raising = raisingStep
+step picking = pickingStep
+step (fetching p counted matching pieces) = fetchingStep
 
 -- a page with its length in 4 bytes
 unfoldable pub readPage : Measures → Reader (List ℕ)
@@ -110,14 +135,14 @@ writeFetches s x = writePointer (x .pointer) ++ (writeNumber 2 (x .counted) ++ (
 -- the work area of a phase, by its step
 unfoldable pub readWork : Measures → ℕ → Reader Phase
 readWork s n =
-    cond (eqb n 0) (mapped (λ u. idle) readNothing)
-    (cond (eqb n 1) (mapped scanning (readPage s))
-    (cond (eqb n 2) (mapped (λ x. storing (x .version) (x .acknowledged) (x .digests)) (readStores s))
-    (cond (eqb n 3) (mapped updating (readSome s))
-    (cond (eqb n 4) (mapped freezing (readSome s))
-    (cond (eqb n 5) (mapped (λ u. raising) readNothing)
-    (cond (eqb n 6) (mapped (λ u. picking) readNothing)
-    (cond (eqb n 7) (mapped (λ x. fetching (x .pointer) (x .counted) (x .matching) (x .pieces)) (readFetches s)) readNone)))))))
+    cond (eqb n idleStep) (mapped (λ u. idle) readNothing)
+    (cond (eqb n scanningStep) (mapped scanning (readPage s))
+    (cond (eqb n storingStep) (mapped (λ x. storing (x .version) (x .acknowledged) (x .digests)) (readStores s))
+    (cond (eqb n updatingStep) (mapped updating (readSome s))
+    (cond (eqb n freezingStep) (mapped freezing (readSome s))
+    (cond (eqb n raisingStep) (mapped (λ u. raising) readNothing)
+    (cond (eqb n pickingStep) (mapped (λ u. picking) readNothing)
+    (cond (eqb n fetchingStep) (mapped (λ x. fetching (x .pointer) (x .counted) (x .matching) (x .pieces)) (readFetches s)) readNone)))))))
 
 unfoldable pub writeWork : Measures → Phase → List ℕ
 writeWork s idle = []

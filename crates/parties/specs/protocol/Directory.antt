@@ -77,6 +77,9 @@ abbrev pub noRow : Row
 noRow = record { written = nonePointer; frozen = []; frozenIndices = []; readingIndex = record { 0 = 0 } }
 
 -- a row is a record with map hex 0F
+abbrev pub rowMap : ℕ
+rowMap = 0x0F
+
 abbrev pub rowFields : Row → List (Option Content)
 rowFields r =
     some (pointersOf (r .written ∷ []))
@@ -110,7 +113,7 @@ writeRow r = writeRecord (rowFields r)
 
 -- in an area of its size, spare bytes zero
 unfoldable pub readRow : Measures → Reader Row
-readRow s = readArea (rowSize s) (mapped asRow (given (λ l. eqb (mapOf l) 0x0F) (readRecord s))) writeRow
+readRow s = readArea (rowSize s) (mapped asRow (given (λ l. eqb (mapOf l) rowMap) (readRecord s))) writeRow
 
 -- the directory table: the rows in client order
 unfoldable pub readDirectory : Measures → Reader (List Row)

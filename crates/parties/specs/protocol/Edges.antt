@@ -9,7 +9,7 @@ use Rattle.coding.specs.Edges.{Edges as CodingEdges}
 use Rattle.coding.specs.Pieces.{columns}
 use Rattle.parties.specs.declared.Measures.{Measures}
 use Rattle.parties.specs.protocol.Measures.{passes}
-use Rattle.parties.specs.protocol.Version.{below}
+use Rattle.parties.specs.protocol.Version.{below, lastNumber}
 use Rattle.parties.specs.protocol.Directory.{Row, readDirectory, freshDirectory}
 use Rattle.parties.specs.protocol.Client.{scanning, picking, Client, readClient, clientSize}
 use Rattle.parties.specs.protocol.Deposit.{highest}
@@ -44,9 +44,9 @@ pub record Edges : Type 0 where
   -- sequence 4,294,967,294 highest: drawn next is the last; after it, 7
   pub last : (s : Measures) (own : ℕ) (client rows room bytes : List ℕ) (c : Client) (l : List Row) → Handed s own client rows room c l
       → c .phase ≡ scanning bytes → highest l .0 ≡ 4294967294
-      → scanAnswer s own client rows room .answer ≡ stores (record { sequence = record { 0 = 4294967295 }; client = own }) (columns (s .k) (length bytes))
+      → scanAnswer s own client rows room .answer ≡ stores (record { sequence = record { 0 = lastNumber }; client = own }) (columns (s .k) (length bytes))
   pub after : (s : Measures) (own : ℕ) (client rows room bytes : List ℕ) (c : Client) (l : List Row) → Handed s own client rows room c l
-      → c .phase ≡ scanning bytes → highest l .0 ≡ 4294967295
+      → c .phase ≡ scanning bytes → highest l .0 ≡ lastNumber
       → (scanAnswer s own client rows room .answer ≡ spent) × (number (scanAnswer s own client rows room .answer) ≡ some 7)
   -- update bit map hex 10: 4
   pub wrong-map : (s : Measures) (own : ℕ) (table rest : List ℕ) → passes s ≡ true → directorySize s ≤ length table → own < s .m

@@ -32,6 +32,25 @@ pub data ToClient : Type 0 where
   reply : Version → List ℕ → ToClient
   missing : Version → ToClient
 
+-- the first byte of each
+abbrev pub storeTag : ℕ
+storeTag = 1
+
+abbrev pub requestTag : ℕ
+requestTag = 2
+
+abbrev pub freeTag : ℕ
+freeTag = 3
+
+abbrev pub storedTag : ℕ
+storedTag = 4
+
+abbrev pub freedTag : ℕ
+freedTag = 5
+
+abbrev pub replyTag : ℕ
+replyTag = 6
+
 -- a piece to store has 1 to F bytes
 abbrev pub readStored : Measures → List ℕ → Option (List ℕ)
 readStored s p = cond (leb 1 (length p) && leb (length p) (s .f)) (some p) none
@@ -52,24 +71,24 @@ answer v (some p) = reply v p
 unfoldable pub readToNode : Measures → List ℕ → Option ToNode
 readToNode s [] = none
 readToNode s (tag ∷ b) =
-    cond (eqb tag 1) (endWith (readProper s) (λ v. readStored s) store b)
-    (cond (eqb tag 2) (chain (whole (readProper s) b) (λ v. some (request v)))
-    (cond (eqb tag 3) (chain (readVersions s b) (λ l. some (free l))) none))
+    cond (eqb tag storeTag) (endWith (readProper s) (λ v. readStored s) store b)
+    (cond (eqb tag requestTag) (chain (whole (readProper s) b) (λ v. some (request v)))
+    (cond (eqb tag freeTag) (chain (readVersions s b) (λ l. some (free l))) none))
 
 unfoldable pub writeToNode : ToNode → List ℕ
-writeToNode (store v p) = 1 ∷ (writeVersion v ++ p)
-writeToNode (request v) = 2 ∷ writeVersion v
-writeToNode (free l) = 3 ∷ writeMany writeVersion l
+writeToNode (store v p) = storeTag ∷ (writeVersion v ++ p)
+writeToNode (request v) = requestTag ∷ writeVersion v
+writeToNode (free l) = freeTag ∷ writeMany writeVersion l
 
 unfoldable pub readToClient : Measures → List ℕ → Option ToClient
 readToClient s [] = none
 readToClient s (tag ∷ b) =
-    cond (eqb tag 4) (chain (whole (readProper s) b) (λ v. some (stored v)))
-    (cond (eqb tag 5) (cond (eqb (length b) 0) (some freed) none)
-    (cond (eqb tag 6) (endWith (readProper s) (λ v. readAnswer) answer b) none))
+    cond (eqb tag storedTag) (chain (whole (readProper s) b) (λ v. some (stored v)))
+    (cond (eqb tag freedTag) (cond (eqb (length b) 0) (some freed) none)
+    (cond (eqb tag replyTag) (endWith (readProper s) (λ v. readAnswer) answer b) none))
 
 unfoldable pub writeToClient : ToClient → List ℕ
-writeToClient (stored v) = 4 ∷ writeVersion v
-writeToClient freed = 5 ∷ []
-writeToClient (reply v p) = 6 ∷ (writeVersion v ++ (1 ∷ p))
-writeToClient (missing v) = 6 ∷ (writeVersion v ++ (0 ∷ []))
+writeToClient (stored v) = storedTag ∷ writeVersion v
+writeToClient freed = freedTag ∷ []
+writeToClient (reply v p) = replyTag ∷ (writeVersion v ++ (1 ∷ p))
+writeToClient (missing v) = replyTag ∷ (writeVersion v ++ (0 ∷ []))

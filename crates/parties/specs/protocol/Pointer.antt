@@ -7,7 +7,7 @@ use lib.ListN.{length}
 use Rattle.parties.specs.declared.Measures.{Measures}
 use Rattle.parties.specs.declared.Version.{Version}
 use Rattle.parties.specs.protocol.Format.{Reader, both, given, readNumber, writeNumber, readBytes, readMany, writeMany}
-use Rattle.parties.specs.protocol.Version.{noVersion}
+use Rattle.parties.specs.protocol.Version.{noClient, noVersion}
 use Rattle.parties.specs.protocol.Nodes.{nodesIn}
 
 -- a version in 5 bytes: the sequence in 4, the client in 1
@@ -31,7 +31,7 @@ abbrev pub nonePointer : Pointer
 nonePointer = record { version = noVersion; named = record { nodes = 0; digests = [] } }
 
 abbrev pub isNone : Pointer → Bool
-isNone p = eqb (p .version .sequence .0) 0 && (eqb (p .version .client) 255 && eqb (p .named .nodes) 0)
+isNone p = eqb (p .version .sequence .0) 0 && (eqb (p .version .client) noClient && eqb (p .named .nodes) 0)
 
 -- a pointer is none, or has sequence at least 1, client below m and exactly t + k bits, all for nodes 1 to n
 unfoldable pub properPointer : Measures → Pointer → Bool

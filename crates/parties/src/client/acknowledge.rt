@@ -24,7 +24,7 @@ ghost use lib.ListN.{length};
 ghost use Rattle.parties.specs.protocol.Measures.{passes};
 ghost use Rattle.parties.specs.protocol.Nodes.{stands as standing, count as counted, withNode};
 ghost use Rattle.parties.specs.protocol.Reading.{sameVersion};
-ghost use Rattle.parties.specs.protocol.Client.{readClient};
+ghost use Rattle.parties.specs.protocol.Client.{storingStep, readClient};
 ghost use Rattle.parties.specs.protocol.ClientEvents.{roomSize};
 ghost use Rattle.parties.specs.client.Answer.{answered};
 ghost use Rattle.parties.specs.client.Record.{recordOf, isSome, workAt};
@@ -54,7 +54,7 @@ fn publish(
     map: u16,
 ) -> Turned
     requires { ⌜ (passes s ≡ true) × (1 ≤ i) × (i ≤ s .n) × (isSome (readClient s (recordOf p (now area))) ≡ true) × (roomSize s ≤ length (now room))
-        × (p .step ≡ 2) × ((sameVersion v (versionAt (now area) (workAt s)) && not (standing (numberAt (now area) (workAt s + 5)) i)) ≡ true)
+        × (p .step ≡ storingStep) × ((sameVersion v (versionAt (now area) (workAt s)) && not (standing (numberAt (now area) (workAt s + 5)) i)) ≡ true)
         × (map ≡ withNode (numberAt (now area) (workAt s + 5)) i) × (s .t + s .k ≤ counted map) ⌝ }
     ensures { λ r. ⌜ ((out : List ℕ) → (answered (r .answer) ≡ storedEnd s i v (recordOf p (now (area .entry))) (now (room .entry)) out .answer)
         × (recordOf (r .phase) (now (area .exit)) ≡ storedEnd s i v (recordOf p (now (area .entry))) (now (room .entry)) out .client)

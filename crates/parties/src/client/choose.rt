@@ -32,7 +32,7 @@ ghost use Rattle.parties.specs.protocol.Pointer.{readPointer, writePoint
 ghost use Rattle.parties.specs.protocol.Directory.{readRow, readDirectory};
 ghost use Rattle.parties.specs.protocol.Reading.{pick};
 ghost use Rattle.parties.specs.protocol.Message.{ToNode, writeToNode};
-ghost use Rattle.parties.specs.protocol.Client.{readClient};
+ghost use Rattle.parties.specs.protocol.Client.{pickingStep, readClient};
 ghost use Rattle.parties.specs.protocol.ClientEvents.{lay, roomSize};
 ghost use Rattle.parties.specs.client.Answer.{answered};
 ghost use Rattle.parties.specs.records.Form.{rest};
@@ -137,7 +137,7 @@ pub fn fetch(
     rows: &[u8],
     room: &mut [u8],
 ) -> Turned
-    requires { ⌜ (passes s ≡ true) × (own < s .m) × (p .step ≡ 6) × (isSome (readClient s (recordOf p (now area))) ≡ true)
+    requires { ⌜ (passes s ≡ true) × (own < s .m) × (p .step ≡ pickingStep) × (isSome (readClient s (recordOf p (now area))) ≡ true)
         × (s .m * rowSize s ≤ length (now rows)) × (isSome (readDirectory s (now rows)) ≡ true) × (roomSize s ≤ length (now room)) ⌝ }
     ensures { λ r. ⌜ (answered (r .answer) ≡ fetchEnd s own (recordOf p (now (area .entry))) (now (rows .entry)) (now (room .entry)) .answer)
         × (recordOf (r .phase) (now (area .exit)) ≡ fetchEnd s own (recordOf p (now (area .entry))) (now (rows .entry)) (now (room .entry)) .client)

@@ -30,7 +30,7 @@ ghost use Rattle.parties.specs.protocol.Measures.{passes, rowSize};
 ghost use Rattle.parties.specs.protocol.Pointer.{writeVersion};
 ghost use Rattle.parties.specs.protocol.Directory.{readDirectory, noRow};
 ghost use Rattle.parties.specs.protocol.Message.{ToNode, writeToNode};
-ghost use Rattle.parties.specs.protocol.Client.{workSize, readClient};
+ghost use Rattle.parties.specs.protocol.Client.{scanningStep, workSize, readClient};
 ghost use Rattle.parties.specs.protocol.ClientEvents.{roomSize, storesRoom};
 ghost use Rattle.parties.specs.protocol.Deposit.{highest as highestOf};
 ghost use Rattle.parties.specs.client.Answer.{answered};
@@ -176,7 +176,7 @@ pub fn draw(
     room: &mut [u8],
     q: Sequence,
 ) -> Turned
-    requires { ⌜ (passes s ≡ true) × (own < s .m) × (p .step ≡ 1) × (isSome (readClient s (recordOf p (now area))) ≡ true)
+    requires { ⌜ (passes s ≡ true) × (own < s .m) × (p .step ≡ scanningStep) × (isSome (readClient s (recordOf p (now area))) ≡ true)
         × (roomSize s ≤ length (now room)) × (1 ≤ q .0) ⌝ }
     ensures { λ r. ⌜ (answered (r .answer) ≡ drawEnd s own q (recordOf p (now (area .entry))) (now (room .entry)) .answer)
         × (recordOf (r .phase) (now (area .exit)) ≡ drawEnd s own q (recordOf p (now (area .entry))) (now (room .entry)) .client)

@@ -26,7 +26,7 @@ ghost use lib.ListN.{length, getD, drop, replicate};
 ghost use Rattle.parties.specs.protocol.Measures.{passes, rowSize, pointerSize};
 ghost use Rattle.parties.specs.protocol.Nodes.{stands as standing};
 ghost use Rattle.parties.specs.protocol.Directory.{readDirectory, noRow};
-ghost use Rattle.parties.specs.protocol.Client.{workSize, readClient, readRetained, readSome, writeRetained};
+ghost use Rattle.parties.specs.protocol.Client.{freezingStep, workSize, readClient, readRetained, readSome, writeRetained};
 ghost use Rattle.parties.specs.protocol.ClientEvents.{roomSize};
 ghost use Rattle.parties.specs.client.Answer.{answered};
 ghost use Rattle.parties.specs.client.Record.{recordOf, isSome, workAt, areaSize};
@@ -94,7 +94,7 @@ pub fn freeze(
     rows: &[u8],
     room: &mut [u8],
 ) -> Turned
-    requires { ⌜ (passes s ≡ true) × (own < s .m) × (p .step ≡ 4) × (isSome (readClient s (recordOf p (now area))) ≡ true)
+    requires { ⌜ (passes s ≡ true) × (own < s .m) × (p .step ≡ freezingStep) × (isSome (readClient s (recordOf p (now area))) ≡ true)
         × (s .m * rowSize s ≤ length (now rows)) × (isSome (readDirectory s (now rows)) ≡ true) × (roomSize s ≤ length (now room)) ⌝ }
     ensures { λ r. ⌜ (answered (r .answer) ≡ freezeEnd s own (recordOf p (now (area .entry))) (now (rows .entry)) (now (room .entry)) .answer)
         × (recordOf (r .phase) (now (area .exit)) ≡ freezeEnd s own (recordOf p (now (area .entry))) (now (rows .entry)) (now (room .entry)) .client)

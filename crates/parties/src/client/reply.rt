@@ -37,7 +37,7 @@ ghost use Rattle.parties.specs.protocol.Format.{writeArea};
 ghost use Rattle.parties.specs.protocol.Measures.{passes};
 ghost use Rattle.parties.specs.protocol.Nodes.{nodesIn, count as counting, stands as standing, withNode};
 ghost use Rattle.parties.specs.protocol.Reading.{sameBytes};
-ghost use Rattle.parties.specs.protocol.Client.{workSize, readClient};
+ghost use Rattle.parties.specs.protocol.Client.{fetchingStep, workSize, readClient};
 ghost use Rattle.parties.specs.client.Answer.{answered};
 ghost use Rattle.parties.specs.client.Record.{recordOf, workAt, isSome};
 ghost use Rattle.parties.specs.client.Reply.{repliedEnd, mapsAt, standingAt, countsAt, digestPlace, matchesAt, wentOn, cleared, mapped, areaPut, piecePut, lengthsWith};
@@ -252,7 +252,7 @@ fn finish(
     out: &mut [u8],
 ) -> Turned
     requires { ⌜ (passes s ≡ true) × (1 ≤ i) × (i ≤ s .n) × (isSome (readClient s (recordOf p (now area))) ≡ true) × (s .k * s .f - 4 ≤ length (now out))
-        × (p .step ≡ 7) × (x ≡ standingAt (now area) (workAt s) (mapsAt s)) × (countsAt x i v ≡ true)
+        × (p .step ≡ fetchingStep) × (x ≡ standingAt (now area) (workAt s) (mapsAt s)) × (countsAt x i v ≡ true)
         × (matchesAt (s .f) (x .version) i (now piece) (now area) (digestPlace (workAt s) (x .named) i) ≡ true)
         × (s .k ≤ counting (withNode (x .matching) i)) ⌝ }
     ensures { λ r. ⌜ ((room : List ℕ) → (answered (r .answer) ≡ repliedEnd s i v (some (now (piece .entry))) (recordOf p (now (area .entry))) room (now (out .entry)) .answer)
@@ -295,7 +295,7 @@ fn reply_counted(
     out: &mut [u8],
 ) -> Turned
     requires { ⌜ (passes s ≡ true) × (1 ≤ i) × (i ≤ s .n) × (isSome (readClient s (recordOf p (now area))) ≡ true) × (s .k * s .f - 4 ≤ length (now out))
-        × (p .step ≡ 7) × (x ≡ standingAt (now area) (workAt s) (mapsAt s)) × (countsAt x i v ≡ true) ⌝ }
+        × (p .step ≡ fetchingStep) × (x ≡ standingAt (now area) (workAt s) (mapsAt s)) × (countsAt x i v ≡ true) ⌝ }
     ensures { λ r. ⌜ ((room : List ℕ) → (answered (r .answer) ≡ repliedEnd s i v (some (now (piece .entry))) (recordOf p (now (area .entry))) room (now (out .entry)) .answer)
         × (recordOf (r .phase) (now (area .exit)) ≡ repliedEnd s i v (some (now (piece .entry))) (recordOf p (now (area .entry))) room (now (out .entry)) .client)
         × (room ≡ repliedEnd s i v (some (now (piece .entry))) (recordOf p (now (area .entry))) room (now (out .entry)) .room)

@@ -22,7 +22,7 @@ ghost use Prim.Native.Nat.{_*_, _<_, _≤_};
 ghost use lib.ListN.{length};
 ghost use Rattle.parties.specs.protocol.Measures.{passes, rowSize};
 ghost use Rattle.parties.specs.protocol.Directory.{readDirectory};
-ghost use Rattle.parties.specs.protocol.Client.{readClient};
+ghost use Rattle.parties.specs.protocol.Client.{scanningStep, readClient};
 ghost use Rattle.parties.specs.protocol.ClientEvents.{roomSize};
 ghost use Rattle.parties.specs.client.Answer.{answered};
 ghost use Rattle.parties.specs.client.Record.{recordOf, isSome};
@@ -57,7 +57,7 @@ fn first_scan(
     rows: &[u8],
     room: &mut [u8],
 ) -> Turned
-    requires { ⌜ (passes s ≡ true) × (own < s .m) × (p .step ≡ 1) × (isSome (readClient s (recordOf p (now area))) ≡ true)
+    requires { ⌜ (passes s ≡ true) × (own < s .m) × (p .step ≡ scanningStep) × (isSome (readClient s (recordOf p (now area))) ≡ true)
         × (isSome (readDirectory s (now rows)) ≡ true) × (roomSize s ≤ length (now room)) ⌝ }
     ensures { λ r. ⌜ (answered (r .answer) ≡ scannedEnd s own (recordOf p (now (area .entry))) (now (rows .entry)) (now (room .entry)) .answer)
         × (recordOf (r .phase) (now (area .exit)) ≡ scannedEnd s own (recordOf p (now (area .entry))) (now (rows .entry)) (now (room .entry)) .client)

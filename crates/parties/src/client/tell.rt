@@ -10,7 +10,7 @@ use crate::records::version::version_at;
 ghost use mathlib.Core.Path.{_≡_};
 ghost use Prim.Native.Nat.{_≤_};
 ghost use lib.ListN.{length, getD};
-ghost use Rattle.parties.specs.protocol.Message.{readToClient};
+ghost use Rattle.parties.specs.protocol.Message.{storedTag, replyTag, readToClient};
 ghost use Rattle.parties.specs.client.Tell.{toldBy};
 
 pub enum Told {
@@ -27,7 +27,7 @@ pub enum Told {
 
 // A version alone.
 fn stored(s: Measures, b: &[u8]) -> Told
-    requires { ⌜ (1 ≤ length (now b)) × (getD (now b) 0 0 ≡ 4) ⌝ }
+    requires { ⌜ (1 ≤ length (now b)) × (getD (now b) 0 0 ≡ storedTag) ⌝ }
     ensures { λ r. ⌜ toldBy (now (b .entry)) r ≡ readToClient s (now (b .entry)) ⌝ }
 {
     if !version_alone(s, b) {
@@ -38,7 +38,7 @@ fn stored(s: Measures, b: &[u8]) -> Told
 
 // A version, then a 1 and a piece, or a 0 alone.
 fn replied(s: Measures, b: &[u8]) -> Told
-    requires { ⌜ (1 ≤ length (now b)) × (getD (now b) 0 0 ≡ 6) ⌝ }
+    requires { ⌜ (1 ≤ length (now b)) × (getD (now b) 0 0 ≡ replyTag) ⌝ }
     ensures { λ r. ⌜ toldBy (now (b .entry)) r ≡ readToClient s (now (b .entry)) ⌝ }
 {
     if b.len() < 7 {
