@@ -16,7 +16,7 @@ use Rattle.parties.specs.protocol.Directory.{writeIndex, mapOf, writeCon
 use Rattle.parties.specs.protocol.DirectoryEvents.{directorySize, directoryFresh}
 use Rattle.parties.proofs.protocol.formats.MeasureLaws.{passed}
 use Rattle.parties.proofs.protocol.formats.RowLaws.{fresh-good, row-fits}
-use Rattle.parties.specs.directory.Room.{Built}
+use Rattle.parties.specs.directory.Room.{longestRow, Built}
 use Rattle.parties.proofs.records.SizeLaws.{row-bound}
 use Rattle.parties.proofs.records.SpliceLaws.{many-same, many-zeros}
 use Rattle.parties.proofs.directory.RoomLaws.{built-map, built-zeros, built-byte, built-area, many-replicated, many-last}
@@ -40,7 +40,7 @@ started-more i =
     ∙ ap (λ (x : List ℕ). 15 ∷ x) (many-last writePointer nonePointer i)
     ∙ ap started (sym (add-one i))
 
-pub fresh-start : (room : List ℕ) → room ≡ replicate 4708 0 → Built (started 0) (set room 0 15)
+pub fresh-start : (room : List ℕ) → room ≡ replicate longestRow 0 → Built (started 0) (set room 0 15)
 unfolding writeMany
 fresh-start room e = built-map room e
 

@@ -8,7 +8,7 @@ use lib.Dec.{eqb}
 use lib.ListN.{length, take, drop, length-append, length-drop}
 use lib.Seq.{take-all, take-length, length-take-le, paste}
 use Rattle.parties.specs.declared.records.form.Ends.{Ends}
-use Rattle.parties.specs.directory.Room.{Built, range, part, renewed}
+use Rattle.parties.specs.directory.Room.{longestRow, Built, range, part, renewed}
 use Rattle.parties.proofs.directory.RoomLaws.{built-part}
 
 -- ---- one field
@@ -73,7 +73,7 @@ module _ (map : ℕ) (s : List ℕ) (e : Ends) (t : List ℕ) (at : ℕ) (f : En
       let j = indexPart map s e t f in
       append-assoc ((15 ∷ w) ++ p) i j ∙ append-assoc (15 ∷ w) p (i ++ j)
 
-pub rebuild-more : (p room q : List ℕ) (at : ℕ) → Built p room → length p ≡ at → at + length q ≤ 4708 → Built (p ++ q) (paste room at q (length q))
+pub rebuild-more : (p room q : List ℕ) (at : ℕ) → Built p room → length p ≡ at → at + length q ≤ longestRow → Built (p ++ q) (paste room at q (length q))
 rebuild-more p room q at b e l =
     rw (← e)
     (subst (λ (x : List ℕ). Built (p ++ x) (paste room (length p) q (length q))) (take-length q) (built-part p room b q (length q) (omega arith) (omega arith)))

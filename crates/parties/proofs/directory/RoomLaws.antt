@@ -8,7 +8,7 @@ use native.Mathlib.Omega.{arith}
 use lib.ListN.{length, take, drop, set, replicate, length-append, length-replicate, replicate-append-replicate}
 use lib.Seq.{length-take-le, take-at, drop-at, drop-append-add, set-at, paste, drop-drop, take-append-add}
 use Rattle.parties.specs.protocol.Format.{writeMany}
-use Rattle.parties.specs.directory.Room.{Built}
+use Rattle.parties.specs.directory.Room.{longestRow, Built}
 
 -- zeros, some of them first
 zeros-split : (n k : ℕ) → n ≤ k → replicate {A = ℕ} k 0 ≡ replicate n 0 ++ replicate (k - n) 0
@@ -18,47 +18,47 @@ zeros-split n k h =
 zeros-drop : (n k : ℕ) → n ≤ k → drop n (replicate {A = ℕ} k 0) ≡ replicate (k - n) 0
 zeros-drop n k h = rw (zeros-split n k h) (drop-at (replicate n 0) (replicate (k - n) 0) n (length-replicate {A = ℕ} n 0))
 
-built-none : Built [] (replicate 4708 0)
+built-none : Built [] (replicate longestRow 0)
 built-none = record { fits = omega arith; bytes = refl }
 
 module _ (p room : List ℕ) (b : Built p room) where
-  pub built-length : length room ≡ 4708
+  pub built-length : length room ≡ longestRow
   built-length =
-      let f : length p ≤ 4708 = b .fits in
-      omega (arith, ap length (b .bytes), length-append p (replicate (4708 - length p) 0), length-replicate {A = ℕ} (4708 - length p) 0)
+      let f : length p ≤ longestRow = b .fits in
+      omega (arith, ap length (b .bytes), length-append p (replicate (longestRow - length p) 0), length-replicate {A = ℕ} (longestRow - length p) 0)
 
   -- bytes after those that stand
-  pub built-part : (q : List ℕ) (n : ℕ) → n ≤ length q → length p + n ≤ 4708 → Built (p ++ take n q) (paste room (length p) q n)
+  pub built-part : (q : List ℕ) (n : ℕ) → n ≤ length q → length p + n ≤ longestRow → Built (p ++ take n q) (paste room (length p) q n)
   built-part q n h l =
       let t : length (take n q) ≡ n = length-take-le n q h in
-      let z = replicate {A = ℕ} (4708 - length p) 0 in
+      let z = replicate {A = ℕ} (longestRow - length p) 0 in
       let f : length (p ++ take n q) ≡ length p + n = length-append p (take n q) ∙ ap (λ (x : ℕ). length p + x) t in
-      let k : 4708 - length p - n ≡ 4708 - length (p ++ take n q) = omega arith in
+      let k : longestRow - length p - n ≡ longestRow - length (p ++ take n q) = omega arith in
       record {
         fits = omega arith;
         bytes = ap₂ (λ (x y : List ℕ). (x ++ take n q) ++ y)
             (ap (take (length p)) (b .bytes) ∙ take-at p z (length p) refl)
-            (ap (drop (length p + n)) (b .bytes) ∙ drop-append-add p z n ∙ zeros-drop n (4708 - length p) (omega arith) ∙ ap (λ (x : ℕ). replicate x 0) k);
+            (ap (drop (length p + n)) (b .bytes) ∙ drop-append-add p z n ∙ zeros-drop n (longestRow - length p) (omega arith) ∙ ap (λ (x : ℕ). replicate x 0) k);
       }
 
   -- zeros stand already
-  pub built-zeros : (n : ℕ) → length p + n ≤ 4708 → Built (p ++ replicate n 0) room
+  pub built-zeros : (n : ℕ) → length p + n ≤ longestRow → Built (p ++ replicate n 0) room
   built-zeros n l =
       let f : length (p ++ replicate n 0) ≡ length p + n = length-append p (replicate n 0) ∙ ap (λ (x : ℕ). length p + x) (length-replicate {A = ℕ} n 0) in
-      let k : 4708 - length p - n ≡ 4708 - length (p ++ replicate n 0) = omega arith in
+      let k : longestRow - length p - n ≡ longestRow - length (p ++ replicate n 0) = omega arith in
       record {
         fits = omega arith;
         bytes = b .bytes
-            ∙ ap (λ (x : List ℕ). p ++ x) (zeros-split n (4708 - length p) (omega arith))
-            ∙ sym (append-assoc p (replicate n 0) (replicate (4708 - length p - n) 0))
+            ∙ ap (λ (x : List ℕ). p ++ x) (zeros-split n (longestRow - length p) (omega arith))
+            ∙ sym (append-assoc p (replicate n 0) (replicate (longestRow - length p - n) 0))
             ∙ ap (λ (x : ℕ). (p ++ replicate n 0) ++ replicate x 0) k;
       }
 
-  pub built-byte : (v : ℕ) → length p < 4708 → Built (p ++ (v ∷ [])) (set room (length p) v)
+  pub built-byte : (v : ℕ) → length p < longestRow → Built (p ++ (v ∷ [])) (set room (length p) v)
   built-byte v l =
       let f : length (p ++ (v ∷ [])) ≡ length p + 1 = length-append p (v ∷ []) in
-      let k : 4708 - length p ≡ suc (4708 - length (p ++ (v ∷ []))) = omega arith in
-      let z = replicate {A = ℕ} (4708 - length (p ++ (v ∷ []))) 0 in
+      let k : longestRow - length p ≡ suc (longestRow - length (p ++ (v ∷ []))) = omega arith in
+      let z = replicate {A = ℕ} (longestRow - length (p ++ (v ∷ []))) 0 in
       record {
         fits = omega arith;
         bytes = ap (λ (x : List ℕ). set x (length p) v) (b .bytes ∙ ap (λ (x : ℕ). p ++ replicate x 0) k)
@@ -67,19 +67,19 @@ module _ (p room : List ℕ) (b : Built p room) where
       }
 
   -- the row's area
-  pub built-area : (size : ℕ) → length p ≤ size → size ≤ 4708 → take size room ≡ p ++ replicate (size - length p) 0
+  pub built-area : (size : ℕ) → length p ≤ size → size ≤ longestRow → take size room ≡ p ++ replicate (size - length p) 0
   built-area size h l =
       let e : size ≡ length p + (size - length p) = omega arith in
       let n = size - length p in
-      let k = 4708 - length p in
+      let k = longestRow - length p in
       ap₂ take e (b .bytes)
       ∙ take-append-add p (replicate k 0) n
       ∙ ap (λ (x : List ℕ). p ++ x) (ap (take n) (zeros-split n k (omega arith))
       ∙ take-at (replicate n 0) (replicate (k - n) 0) n (length-replicate {A = ℕ} n 0))
 
 -- the map byte of a row
-pub built-map : (room : List ℕ) → room ≡ replicate 4708 0 → Built (15 ∷ []) (set room 0 15)
-built-map room e = rw e (built-byte [] (replicate 4708 0) built-none 15 (omega arith))
+pub built-map : (room : List ℕ) → room ≡ replicate longestRow 0 → Built (15 ∷ []) (set room 0 15)
+built-map room e = rw e (built-byte [] (replicate longestRow 0) built-none 15 (omega arith))
 
 -- ---- values of one length, one after the other
 

@@ -24,7 +24,7 @@ use Rattle.parties.proofs.protocol.formats.RowLaws.{GoodRow, FitsRow, f
 use Rattle.parties.specs.declared.records.form.Ends.{Ends}
 use Rattle.parties.specs.declared.records.form.Parts.{Parts}
 use Rattle.parties.specs.records.Form.{rest, Ended, Recorded}
-use Rattle.parties.specs.directory.Room.{Built, renewed, Renewed}
+use Rattle.parties.specs.directory.Room.{longestRow, Built, renewed, Renewed}
 use Rattle.parties.proofs.records.FormLaws.{left-read, none-read}
 use Rattle.parties.proofs.records.RecordLaws.{bytes-drop, number-one, ended-left}
 use Rattle.parties.proofs.records.SizeLaws.{row-bound}
@@ -109,7 +109,7 @@ module _ (s : Measures) (p : passes s ≡ true) (record-bytes table : List ℕ) 
         update-good s (u .update) (r .value) (u .good) (x .good),
       )
 
-  pub renewed-fits : (v : List ℕ) → rest (readRow s (drop at table)) ≡ some v → length (renewed (getD record-bytes 0 0) record-bytes e table at f) ≤ 4708
+  pub renewed-fits : (v : List ℕ) → rest (readRow s (drop at table)) ≡ some v → length (renewed (getD record-bytes 0 0) record-bytes e table at f) ≤ longestRow
   renewed-fits v h =
       let x = left-read (readRow s (drop at table)) v h in
       let y = renews (x .0) (x .1) in

@@ -7,6 +7,7 @@ use native.Mathlib.Omega.{arith}
 use Rattle.coding.proofs.BytesLaws.{stride}
 use Rattle.parties.specs.declared.Measures.{Measures}
 use Rattle.parties.specs.protocol.Measures.{passes, pointerSize, rowSize}
+use Rattle.parties.specs.directory.Room.{longestRow}
 use Rattle.parties.proofs.protocol.formats.MeasureLaws.{passed}
 
 module _ (s : Measures) (h : passes s ≡ true) where
@@ -18,7 +19,7 @@ module _ (s : Measures) (h : passes s ≡ true) where
       let p = passed s h in
       let m : s .m + 1 ≤ 9 = omega (arith, p .clients) in omega (arith, mul-le-mul m pointer-bound)
 
-  pub row-bound : rowSize s ≤ 4708
+  pub row-bound : rowSize s ≤ longestRow
   row-bound = let p = passed s h in omega (arith, p .clients, pointers-bound)
 
   pub table-bound : s .m * rowSize s ≤ 37664

@@ -3,20 +3,20 @@ use Prim.Native.Nat.{ℕ, _+_, _-_, _≤_, _<_}
 use native.Mathlib.Omega.{arith}
 use lib.ListN.{length, length-replicate}
 use Rattle.parties.proofs.protocol.formats.MeasureLaws.{passed}
-use Rattle.parties.specs.directory.Room.{Built}
+use Rattle.parties.specs.directory.Room.{longestRow, Built}
 use Rattle.parties.proofs.directory.RoomLaws.{built-length}
 use Rattle.parties.proofs.directory.FreshLaws.{started, fresh-start, fresh-turn, fresh-end}
 use Rattle.parties.proofs.directory.fresh_row.Statement.{statement}
 use Rattle.parties.proofs.directory.fresh_row.Tie as tie
 
 abbrev Inv-loop : tie.InvT-loop
-Inv-loop room₀ pointers i₀ room i = (i ≤ pointers) × (length room ≡ 4708) × Built (started i) room
+Inv-loop room₀ pointers i₀ room i = (i ≤ pointers) × (length room ≡ longestRow) × Built (started i) room
 
 abbrev μ-loop : tie.MeasureT-loop
 μ-loop room₀ pointers i₀ room i = pointers - i
 
 slice-write-room : tie.Need-slice-write-room Inv-loop μ-loop
-slice-write-room c = omega (arith, ap length (c .pre .1), length-replicate {A = ℕ} 4708 0)
+slice-write-room c = omega (arith, ap length (c .pre .1), length-replicate {A = ℕ} longestRow 0)
 
 add-pointers : tie.Need-add-pointers Inv-loop μ-loop
 add-pointers c = omega (arith, passed (c .before .args .s) (c .before .pre .0) .clients)
@@ -49,7 +49,7 @@ loop-again c =
     let f = fresh-turn (l .i) (l .room) (few c) (l .inv .2) in (omega (arith, c .loop-test .taken), built-length (started (l .i + 1)) _ f, f)
 
 same-length : tie.Need-same-length Inv-loop μ-loop
-same-length c = c .before .loop .inv .1 ∙ sym (ap length (c .before .before .before .pre .1) ∙ length-replicate {A = ℕ} 4708 0)
+same-length c = c .before .loop .inv .1 ∙ sym (ap length (c .before .before .before .pre .1) ∙ length-replicate {A = ℕ} longestRow 0)
 
 returns : tie.Need-returns Inv-loop μ-loop
 returns c =

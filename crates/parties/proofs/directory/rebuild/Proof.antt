@@ -4,7 +4,7 @@ use mathlib.Core.List.{List, [], _∷_, _++_}
 use Prim.Native.Nat.{ℕ, _+_, _≤_}
 use native.Mathlib.Omega.{arith}
 use lib.ListN.{length, getD, length-append, length-replicate}
-use Rattle.parties.specs.directory.Room.{Built}
+use Rattle.parties.specs.directory.Room.{longestRow, Built}
 use Rattle.parties.proofs.directory.RoomLaws.{built-length, built-map}
 use Rattle.parties.proofs.directory.RebuildLaws.{writtenPart, frozenPart, indicesPart, indexPart, renewed-length, renewed-parts, rebuild-more}
 use Rattle.parties.proofs.directory.rebuild.Statement.{statement}
@@ -27,7 +27,7 @@ abbrev j : tie.Start → List ℕ
 j c = indexPart (map c) (c .args .fields .now) (c .args .e) (c .args .table .now) (c .args .f)
 
 -- all of them find room
-room : (c : tie.Start) → 1 + length (w c) + length (p c) + length (i c) + length (j c) ≤ 4708
+room : (c : tie.Start) → 1 + length (w c) + length (p c) + length (i c) + length (j c) ≤ longestRow
 room c =
     omega (arith, c .pre .4, renewed-length (map c) (c .args .fields .now) (c .args .e) (c .args .table .now) (c .args .at) (c .args .f))
 
@@ -68,7 +68,7 @@ shared-slice-read-map : tie.Need-shared-slice-read-map
 shared-slice-read-map c = search needs
 
 slice-write-room : tie.Need-slice-write-room
-slice-write-room c = omega (arith, ap length (c .before .before .before .before .pre .1), length-replicate {A = ℕ} 4708 0)
+slice-write-room c = omega (arith, ap length (c .before .before .before .before .pre .1), length-replicate {A = ℕ} longestRow 0)
 
 add-put : tie.Need-add-put
 add-put c = search needs
@@ -106,7 +106,7 @@ put-requires-4 c κs =
     let l = built-length _ _ (x .0) in (e .3, omega (arith, e), f .3, omega (arith, f), omega (arith, room o, l, x .1))
 
 same-length : tie.Need-same-length
-same-length c = built-length _ _ (four (c .before .before)) ∙ sym (ap length (c .before .before .before .before .before .before .before .before .before .before .before .before .before .before .before .before .before .before .before .before .pre .1) ∙ length-replicate {A = ℕ} 4708 0)
+same-length c = built-length _ _ (four (c .before .before)) ∙ sym (ap length (c .before .before .before .before .before .before .before .before .before .before .before .before .before .before .before .before .before .before .before .before .pre .1) ∙ length-replicate {A = ℕ} longestRow 0)
 
 returns : tie.Need-returns
 returns c =
