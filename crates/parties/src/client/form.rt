@@ -12,6 +12,7 @@ use crate::records::bytes::u32_at;
 use crate::records::bytes::zero_run;
 use crate::records::form::Form;
 use crate::records::form::pointer;
+use crate::records::form::pointer_size;
 use crate::records::form::within;
 use crate::records::nodes::count;
 use crate::records::version::version_at;
@@ -29,13 +30,6 @@ ghost use Rattle.parties.specs.protocol.Client.{readReserved, pointerAre
 ghost use Rattle.parties.specs.protocol.Client.{readFetches, readWork, workSize, readClient};
 ghost use Rattle.parties.specs.records.Form.{rest, Formed};
 ghost use Rattle.parties.specs.client.Record.{recordOf, areaSize, workAt, isSome};
-
-pub fn pointer_size(s: Measures) -> usize
-    requires { ⌜ passes s ≡ true ⌝ }
-    ensures { λ r. ⌜ r ≡ pointerSize s ⌝ }
-{
-    7 + 32 * (s.t + s.k)
-}
 
 // Where the work stands in the area.
 pub fn work_at(s: Measures) -> usize

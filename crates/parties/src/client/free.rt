@@ -2,9 +2,9 @@
 use crate::Measures;
 use crate::Version;
 use crate::client::draw::put_version;
-use crate::client::form::pointer_size;
 use crate::message::FREE;
 use crate::records::bytes::move_up;
+use crate::records::form::pointer_size;
 use crate::records::nodes::stands;
 use crate::records::version::same_version;
 use crate::records::version::version_at;

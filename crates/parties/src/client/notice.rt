@@ -2,8 +2,8 @@
 use crate::Measures;
 use crate::ReadingIndex;
 use crate::client::choose::past;
-use crate::client::form::pointer_size;
 use crate::records::bytes::u32_at;
+use crate::records::form::pointer_size;
 use crate::records::form::row_size;
 use crate::records::nodes::with_node;
 ghost use mathlib.Core.Path.{_≡_};

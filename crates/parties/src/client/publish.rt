@@ -1,6 +1,5 @@
 // The pointer that a deposit publishes, and the record of its update.
 use crate::Measures;
-use crate::client::form::pointer_size;
 use crate::client::form::work_at;
 use crate::client::form::work_size;
 use crate::client::pick::pointer_part;
@@ -9,6 +8,7 @@ use crate::records::bytes::copy;
 use crate::records::bytes::move_down;
 use crate::records::bytes::put_u16;
 use crate::records::form::DEPOSIT_MAP;
+use crate::records::form::pointer_size;
 use crate::records::nodes::stands;
 ghost use mathlib.Core.Path.{_≡_};
 ghost use mathlib.Core.Bool.{true, cond};

@@ -11,7 +11,7 @@ ghost use mathlib.Core.Option.{some, none};
 ghost use Prim.Native.Nat.{_+_, _*_, _^_, _≤_};
 ghost use lib.Dec.{ltb};
 ghost use lib.ListN.{length, drop};
-ghost use Rattle.parties.specs.protocol.Measures.{passes, rowSize};
+ghost use Rattle.parties.specs.protocol.Measures.{passes, pointerSize, rowSize};
 ghost use Rattle.parties.specs.protocol.Nodes.{count};
 ghost use Rattle.parties.specs.protocol.Pointer.{readPointer};
 ghost use Rattle.parties.specs.protocol.Format.{readMany};
@@ -181,12 +181,21 @@ pub(crate) fn whole_record(s: Measures, t: &[u8]) -> Parts
     Parts::Sound(e)
 }
 
+// The longest pointer: a version, a map and t + k digests.
+pub(crate) fn pointer_size(s: Measures) -> usize
+    requires { ⌜ passes s ≡ true ⌝ }
+    ensures { λ r. ⌜ r ≡ pointerSize s ⌝ }
+{
+    7 + 32 * (s.t + s.k)
+}
+
 // The bytes of a directory row.
 pub(crate) fn row_size(s: Measures) -> usize
     requires { ⌜ passes s ≡ true ⌝ }
     ensures { λ r. ⌜ r ≡ rowSize s ⌝ }
 {
-    1 + (s.m + 1) * (7 + 32 * (s.t + s.k)) + 4 * s.m + 4
+    let size = pointer_size(s);
+    1 + (s.m + 1) * size + 4 * s.m + 4
 }
 
 // A row of so many bytes.
