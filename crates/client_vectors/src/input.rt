@@ -1,4 +1,4 @@
-// The head of a call.
+// The head of a call. Of the record its phase is lent, and of its area as much as the head says.
 use libc::STDIN_FILENO;
 use parties::Measures;
 ghost use Prim.Native.Nat.{_+_, _≤_, _<_};
@@ -12,7 +12,7 @@ pub struct Call {
     pub measures: Measures,
     pub own: usize,
     pub node: usize,
-    pub area: usize,
+    pub client: usize,
     pub room: usize,
     pub out: usize,
     pub place: usize,
@@ -63,7 +63,7 @@ fn parsed(s: &[u8], more: bool) -> Call
         measures: measures(s),
         own: two(s, 13),
         node: two(s, 15),
-        area: four(s, 17),
+        client: 5 + four(s, 17),
         room: four(s, 21),
         out: four(s, 25),
         place: four(s, 29),

@@ -6,17 +6,20 @@
 //     how many bytes follow (4), and they: a page, rows or a message
 // Kinds: 1 a fresh record, 2 a deposit starts with a page, 3 a reading starts, 4 an update's answer, 5 a scan's answer with rows,
 // 6 a message, 7 they become the record's front.
-// A call whose record is kept goes through `parties::client::event`, any other through `parties::client::turn`.
+// A call goes through `parties::client::turn`, and once more through `parties::client::record`; one whose answer, record, room or output
+// would then be others is followed by a line of words.
 mod call;
-mod events;
+mod forms;
 mod input;
+mod line;
+mod records;
 mod space;
 
 fn main() {
     let mut records_space = space::records();
     let records: &mut [u8] = &mut records_space;
-    let mut area_space = space::one();
-    let area: &mut [u8] = &mut area_space;
+    let mut client_space = space::one();
+    let client: &mut [u8] = &mut client_space;
     let mut bytes_space = space::one();
     let bytes: &mut [u8] = &mut bytes_space;
     let mut room_space = space::one();
@@ -26,7 +29,7 @@ fn main() {
     vectors::poison(records);
     let mut left = 1000000usize;
     while 0 < left {
-        if !call::next(records, area, bytes, room, out) {
+        if !call::next(records, client, bytes, room, out) {
             return;
         }
         left -= 1;

@@ -5,10 +5,10 @@ use Rattle.client_vectors.proofs.main.Statement.{statement}
 use Rattle.client_vectors.proofs.main.Tie as tie
 
 abbrev Inv-loop : tie.InvT-loop
-Inv-loop records₀ area₀ bytes₀ room₀ out₀ left₀ records area bytes room out left = left ≤ 1000000
+Inv-loop records₀ client₀ bytes₀ room₀ out₀ left₀ records client bytes room out left = left ≤ 1000000
 
 abbrev μ-loop : tie.MeasureT-loop
-μ-loop records₀ area₀ bytes₀ room₀ out₀ left₀ records area bytes room out left = left
+μ-loop records₀ client₀ bytes₀ room₀ out₀ left₀ records client bytes room out left = left
 
 records-requires : tie.Need-records-requires Inv-loop μ-loop
 records-requires c κs = search needs
@@ -19,8 +19,8 @@ slice-aggregate-records c = search needs
 one-requires : tie.Need-one-requires Inv-loop μ-loop
 one-requires c κs = search needs
 
-slice-aggregate-area : tie.Need-slice-aggregate-area Inv-loop μ-loop
-slice-aggregate-area c = search needs
+slice-aggregate-client : tie.Need-slice-aggregate-client Inv-loop μ-loop
+slice-aggregate-client c = search needs
 
 one-requires-2 : tie.Need-one-requires-2 Inv-loop μ-loop
 one-requires-2 c κs = search needs
@@ -73,7 +73,7 @@ main-spec =
     records-requires
     slice-aggregate-records
     one-requires
-    slice-aggregate-area
+    slice-aggregate-client
     one-requires-2
     slice-aggregate-bytes
     one-requires-3

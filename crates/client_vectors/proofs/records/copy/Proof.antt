@@ -2,8 +2,8 @@
 use mathlib.Core.Path.{_≡_}
 use lib.ListN.{length}
 use borrow.Author.Needs.{needs}
-use Rattle.client_vectors.proofs.call.copy.Statement.{statement}
-use Rattle.client_vectors.proofs.call.copy.Tie as tie
+use Rattle.client_vectors.proofs.records.copy.Statement.{statement}
+use Rattle.client_vectors.proofs.records.copy.Tie as tie
 
 abbrev Inv-loop : tie.InvT-loop
 Inv-loop dst₀ to src from n i₀ j₀ left₀ dst i j left = length dst ≡ length dst₀
