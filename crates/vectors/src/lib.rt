@@ -1,9 +1,14 @@
 // What the programs that execute vectors have in common: bytes to work on, sums of them, and printing.
 use libc::STDOUT_FILENO;
+ghost use mathlib.Core.Path.{_≡_};
 ghost use Prim.Native.Nat.{_<_};
+ghost use lib.ListN.{length};
+ghost use Rattle.vectors.specs.Bytes.{poisonOf, checksumFrom};
 
 // What a slice holds before a call, so that a byte too many or too few shows.
-pub fn poison(s: &mut [u8]) {
+pub fn poison(s: &mut [u8])
+    ensures { λ _. ⌜ now (s .exit) ≡ poisonOf (length (now (s .entry))) ⌝ }
+{
     let mut i = 0;
     while i < s.len() {
         s[i] = ((i % 256 * 13 + 170) % 256) as u8;
@@ -12,12 +17,14 @@ pub fn poison(s: &mut [u8]) {
 }
 
 fn wide(b: u8) -> usize
-    ensures { λ r. ⌜ r < 256 ⌝ }
+    ensures { λ r. ⌜ (r ≡ b) × (r < 256) ⌝ }
 {
     b as usize
 }
 
-pub fn checksum(s: &[u8]) -> usize {
+pub fn checksum(s: &[u8]) -> usize
+    ensures { λ r. ⌜ r ≡ checksumFrom 0 (now (s .entry)) ⌝ }
+{
     let mut h = 0;
     let mut i = 0;
     while i < s.len() {
@@ -27,6 +34,7 @@ pub fn checksum(s: &[u8]) -> usize {
     h
 }
 
+// These three answer nothing, and what reaches standard output is free: `libc` promises of a write no more than how many bytes it may take.
 pub fn word(s: &[u8]) {
     io::write_all(STDOUT_FILENO, s);
 }

@@ -1,18 +1,22 @@
--- The checksum stays below 2 to the power 32, so that no sum wraps.
+-- What is left to sum, from the sum so far, is the whole sum; it stays below 2 to the power 32, so that no sum wraps.
+use mathlib.Core.Path.{_≡_, refl, sym, _∙_}
+use native.Mathlib.Omega.{arith}
 use Prim.Native.Nat.{_≤_, _<_, _-_}
-use lib.ListN.{length}
+use lib.ListN.{length, drop}
+use Rattle.vectors.specs.Bytes.{checksumFrom}
+use Rattle.vectors.proofs.BytesLaws.{sum-more, sum-all}
 use borrow.Author.Needs.{needs}
 use Rattle.vectors.proofs.checksum.Statement.{statement}
 use Rattle.vectors.proofs.checksum.Tie as tie
 
 abbrev Inv-loop : tie.InvT-loop
-Inv-loop s h₀ i₀ h i = (i ≤ length s) × (h < 4294967296)
+Inv-loop s h₀ i₀ h i = (i ≤ length s) × (h < 4294967296) × (checksumFrom h (drop i s) ≡ checksumFrom 0 s)
 
 abbrev μ-loop : tie.MeasureT-loop
 μ-loop s h₀ i₀ h i = length s - i
 
 loop-holds : tie.Need-loop-holds Inv-loop μ-loop
-loop-holds c = search needs
+loop-holds c = (omega arith, omega arith, refl)
 
 mul-h : tie.Need-mul-h Inv-loop μ-loop
 mul-h c = search needs
@@ -36,10 +40,13 @@ loop-less : tie.Need-loop-less Inv-loop μ-loop
 loop-less c = search needs
 
 loop-again : tie.Need-loop-again Inv-loop μ-loop
-loop-again c = search needs
+loop-again c =
+    let h = c .before .before .before .loop .inv in
+    let s = c .before .before .before .before .before .args .s .now in
+    (omega arith, omega arith, sum-more s (c .before .before .before .loop .i) (c .before .before .before .loop .h) (c .wide .result) (omega arith) (c .wide .ensures .0) ∙ h .2)
 
 returns : tie.Need-returns Inv-loop μ-loop
-returns c = search needs
+returns c = sym (sum-all _ (c .before .loop .i) _ (omega arith)) ∙ c .before .loop .inv .2
 
 pub checksum-spec : {M : Type 1} → statement M
 checksum-spec =
