@@ -5,7 +5,8 @@ use mathlib.Core.List.{List, [], _∷_}
 use mathlib.Core.Option.{Option, none, some}
 use Prim.Native.Nat.{ℕ, zero, suc, _<_, _≤_}
 use native.Mathlib.Omega.{arith}
-use borrow.Author.Tests.{ltb-true, eq-eqb, ne-eqb}
+use native.Mathlib.Decide.{ℕ-discrete, decLe}
+use borrow.Author.Tests.{lt-ltb, le-ltb, ltb-true, eq-eqb, ne-eqb}
 use lib.Dec.{ltb, eqb}
 use lib.ListN.{length, getD}
 use Rattle.lines.specs.declared.read.Line.{Line}
@@ -15,9 +16,16 @@ use Rattle.lines.specs.Words.{words, first, later, final, every, void, o
 use Rattle.lines.specs.Line.{numberOr, numbersOf, PageIs, LineOf}
 use Rattle.lines.specs.Ascii.{ascii}
 use Rattle.lines.specs.Command.{config, read, deposit, other, configOf, depositOf, word, configAsked, readAsked, depositAsked, asked, standLine, Asks}
+use Rattle.lines.specs.Command.{number, isNumber, configFrom, readFrom, depositOr, depositFrom, askedOf}
 use Rattle.lines.proofs.WordsLaws.{same-eq, small, packed-injective}
 
 -- ---- the numbers of a line: 2 ^ 32 stands for a word that is none
+
+pub is-number : (l : Line) (i : ℕ) → number l i ≤ 4294967295 → isNumber l i ≡ true
+is-number l i h = lt-ltb (number l i) limit (omega arith)
+
+pub no-number : (l : Line) (i : ℕ) → 4294967295 < number l i → isNumber l i ≡ false
+no-number l i h = le-ltb (number l i) limit (omega arith)
 
 number-none : (w : List ℕ) → 4294967295 < numberOr (numberOf w) → numberOf w ≡ none
 unfolding numberOf
@@ -90,18 +98,18 @@ config-lacks v i h q = go (v 0) (v 1) (v 2) (v 3) (v 4) refl refl refl refl refl
     go (some m) (some n) (some k) (some t) (some f) a b c d e = absurd (all-some v m n k t f i a b c d e h q)
 
 module _ (p page : List ℕ) (l : Line) (o : LineOf p page l) where
-  pub config-words : (l .words ≡ 6 → ⊥) → Asks (configAsked (words p)) page Command.Other
+  config-words : (l .words ≡ 6 → ⊥) → Asks (configAsked (words p)) page Command.Other
   unfolding configAsked
   config-words h = rw (words-differ p page l o 6 (omega arith) h) tt
 
-  pub config-none : (i : ℕ) → i < 5 → l .words ≡ 6 → 4294967295 < getD (l .numbers) i 0 → Asks (configAsked (words p)) page Command.Other
+  config-none : (i : ℕ) → i < 5 → l .words ≡ 6 → 4294967295 < getD (l .numbers) i 0 → Asks (configAsked (words p)) page Command.Other
   unfolding configAsked
   config-none i h e b =
       let n : length (words p) ≡ 6 = words-count p page l o 6 (omega arith) e in
       let q = config-lacks (λ j. numberOf (word (words p) (suc j))) i h (told-none p page l o i (omega arith) (omega arith) b) in
       rw (eq-eqb (length (words p)) 6 n, q) tt
 
-  pub config-given : l .words ≡ 6 → getD (l .numbers) 0 0 ≤ 4294967295 → getD (l .numbers) 1 0 ≤ 4294967295
+  config-given : l .words ≡ 6 → getD (l .numbers) 0 0 ≤ 4294967295 → getD (l .numbers) 1 0 ≤ 4294967295
       → getD (l .numbers) 2 0 ≤ 4294967295 → getD (l .numbers) 3 0 ≤ 4294967295 → getD (l .numbers) 4 0 ≤ 4294967295
       → Asks (configAsked (words p)) page
       (Command.Config (getD (l .numbers) 0 0) (getD (l .numbers) 1 0) (getD (l .numbers) 2 0) (getD (l .numbers) 3 0) (getD (l .numbers) 4 0))
@@ -117,24 +125,59 @@ module _ (p page : List ℕ) (l : Line) (o : LineOf p page l) where
         told-some p page l o 4 (omega arith) (omega arith) f,
       ) (refl, refl, refl, refl, refl)
 
+  config-line : Asks (configAsked (words p)) page (configFrom l)
+  config-line = go (ℕ-discrete (l .words) 6) (fits 0) (fits 1) (fits 2) (fits 3) (fits 4)
+    where
+      fits : (i : ℕ) → Dec (number l i ≤ 4294967295)
+      fits i = decLe (number l i) 4294967295
+
+      none-at : (i : ℕ) → i < 5 → l .words ≡ 6 → (number l i ≤ 4294967295 → ⊥) → Asks (configAsked (words p)) page Command.Other
+      none-at i h e n = config-none i h e (omega arith)
+
+      is : (i : ℕ) → number l i ≤ 4294967295 → isNumber l i ≡ true
+      is i h = is-number l i h
+
+      no-at : (i : ℕ) → (number l i ≤ 4294967295 → ⊥) → isNumber l i ≡ false
+      no-at i h = no-number l i (omega arith)
+
+      go : Dec (l .words ≡ 6) → Dec (number l 0 ≤ 4294967295) → Dec (number l 1 ≤ 4294967295) → Dec (number l 2 ≤ 4294967295) → Dec (number l 3 ≤ 4294967295)
+          → Dec (number l 4 ≤ 4294967295) → Asks (configAsked (words p)) page (configFrom l)
+      go (no e) m n k t f = rw (ne-eqb (l .words) 6 e) (config-words e)
+      go (yes e) (no m) n k t f = rw (eq-eqb (l .words) 6 e, no-at 0 m) (none-at 0 (omega arith) e m)
+      go (yes e) (yes m) (no n) k t f = rw (eq-eqb (l .words) 6 e, is 0 m, no-at 1 n) (none-at 1 (omega arith) e n)
+      go (yes e) (yes m) (yes n) (no k) t f = rw (eq-eqb (l .words) 6 e, is 0 m, is 1 n, no-at 2 k) (none-at 2 (omega arith) e k)
+      go (yes e) (yes m) (yes n) (yes k) (no t) f = rw (eq-eqb (l .words) 6 e, is 0 m, is 1 n, is 2 k, no-at 3 t) (none-at 3 (omega arith) e t)
+      go (yes e) (yes m) (yes n) (yes k) (yes t) (no f) =
+          rw (eq-eqb (l .words) 6 e, is 0 m, is 1 n, is 2 k, is 3 t, no-at 4 f) (none-at 4 (omega arith) e f)
+      go (yes e) (yes m) (yes n) (yes k) (yes t) (yes f) =
+          rw (eq-eqb (l .words) 6 e, is 0 m, is 1 n, is 2 k, is 3 t, is 4 f) (config-given e m n k t f)
+
 -- ---- read
 
 module _ (p page : List ℕ) (l : Line) (o : LineOf p page l) where
-  pub read-words : (l .words ≡ 2 → ⊥) → Asks (readAsked (words p)) page Command.Other
+  read-words : (l .words ≡ 2 → ⊥) → Asks (readAsked (words p)) page Command.Other
   unfolding readAsked
   read-words h = rw (words-differ p page l o 2 (omega arith) h) tt
 
-  pub read-none : l .words ≡ 2 → 4294967295 < getD (l .numbers) 0 0 → Asks (readAsked (words p)) page Command.Other
+  read-none : l .words ≡ 2 → 4294967295 < getD (l .numbers) 0 0 → Asks (readAsked (words p)) page Command.Other
   unfolding readAsked
   read-none e b =
       let n : length (words p) ≡ 2 = words-count p page l o 2 (omega arith) e in
       rw (eq-eqb (length (words p)) 2 n, told-none p page l o 0 (omega arith) (omega arith) b) tt
 
-  pub read-given : l .words ≡ 2 → getD (l .numbers) 0 0 ≤ 4294967295 → Asks (readAsked (words p)) page (Command.Read (getD (l .numbers) 0 0))
+  read-given : l .words ≡ 2 → getD (l .numbers) 0 0 ≤ 4294967295 → Asks (readAsked (words p)) page (Command.Read (getD (l .numbers) 0 0))
   unfolding readAsked
   read-given e b =
       let n : length (words p) ≡ 2 = words-count p page l o 2 (omega arith) e in
       rw (eq-eqb (length (words p)) 2 n, told-some p page l o 0 (omega arith) (omega arith) b) refl
+
+  read-line : Asks (readAsked (words p)) page (readFrom l)
+  read-line = go (ℕ-discrete (l .words) 2) (decLe (number l 0) 4294967295)
+    where
+      go : Dec (l .words ≡ 2) → Dec (number l 0 ≤ 4294967295) → Asks (readAsked (words p)) page (readFrom l)
+      go (no e) h = rw (ne-eqb (l .words) 2 e) (read-words e)
+      go (yes e) (no h) = rw (eq-eqb (l .words) 2 e, no-number l 0 (omega arith)) (read-none e (omega arith))
+      go (yes e) (yes h) = rw (eq-eqb (l .words) 2 e, is-number l 0 h) (read-given e h)
 
 -- ---- deposit
 
@@ -158,11 +201,11 @@ deposit-page c n none page h = absurd h
 deposit-page c n (some b) page h = (refl, h)
 
 module _ (p page : List ℕ) (l : Line) (o : LineOf p page l) where
-  pub deposit-words : (l .words ≡ 3 → ⊥) → Asks (depositAsked (words p)) page Command.Other
+  deposit-words : (l .words ≡ 3 → ⊥) → Asks (depositAsked (words p)) page Command.Other
   unfolding depositAsked
   deposit-words h = rw (words-differ p page l o 3 (omega arith) h) tt
 
-  pub deposit-none : l .words ≡ 3 → 4294967295 < getD (l .numbers) 0 0 → Asks (depositAsked (words p)) page Command.Other
+  deposit-none : l .words ≡ 3 → 4294967295 < getD (l .numbers) 0 0 → Asks (depositAsked (words p)) page Command.Other
   unfolding depositAsked
   deposit-none e b =
       let n : length (words p) ≡ 3 = words-count p page l o 3 (omega arith) e in
@@ -171,14 +214,14 @@ module _ (p page : List ℕ) (l : Line) (o : LineOf p page l) where
   third-shown : length (words p) ≡ 3 → (g : Page) → l .page ≡ g → PageIs (pageOf (word (words p) 2)) page g
   third-shown n g e = rw (final-third (words p) n, e) at (o .shown)
 
-  pub deposit-nothing : l .words ≡ 3 → l .page ≡ Page.Nothing → Asks (depositAsked (words p)) page Command.Other
+  deposit-nothing : l .words ≡ 3 → l .page ≡ Page.Nothing → Asks (depositAsked (words p)) page Command.Other
   unfolding depositAsked
   deposit-nothing e g =
       let n : length (words p) ≡ 3 = words-count p page l o 3 (omega arith) e in
       let q : pageOf (word (words p) 2) ≡ none = page-none (pageOf (word (words p) 2)) page (third-shown n Page.Nothing g) in
       rw (eq-eqb (length (words p)) 3 n, q, deposit-lacks (numberOf (word (words p) 1))) tt
 
-  pub deposit-given : (b : ℕ) → l .words ≡ 3 → getD (l .numbers) 0 0 ≤ 4294967295 → l .page ≡ Page.Bytes b
+  deposit-given : (b : ℕ) → l .words ≡ 3 → getD (l .numbers) 0 0 ≤ 4294967295 → l .page ≡ Page.Bytes b
       → Asks (depositAsked (words p)) page (Command.Deposit (getD (l .numbers) 0 0) b)
   unfolding depositAsked
   deposit-given b e m g =
@@ -186,7 +229,38 @@ module _ (p page : List ℕ) (l : Line) (o : LineOf p page l) where
       rw (eq-eqb (length (words p)) 3 n, told-some p page l o 0 (omega arith) (omega arith) m)
       (deposit-page (getD (l .numbers) 0 0) b (pageOf (word (words p) 2)) page (third-shown n (Page.Bytes b) g))
 
+  deposit-line : Asks (depositAsked (words p)) page (depositFrom l)
+  deposit-line = go (ℕ-discrete (l .words) 3) (decLe (number l 0) 4294967295)
+    where
+      by : (g : Page) → l .page ≡ g → l .words ≡ 3 → number l 0 ≤ 4294967295 → Asks (depositAsked (words p)) page (depositOr (number l 0) g)
+      by (Page.Bytes n) q e h = deposit-given n e h q
+      by Page.Nothing q e h = deposit-nothing e q
+
+      go : Dec (l .words ≡ 3) → Dec (number l 0 ≤ 4294967295) → Asks (depositAsked (words p)) page (depositFrom l)
+      go (no e) h = rw (ne-eqb (l .words) 3 e) (deposit-words e)
+      go (yes e) (no h) = rw (eq-eqb (l .words) 3 e, no-number l 0 (omega arith)) (deposit-none e (omega arith))
+      go (yes e) (yes h) = rw (eq-eqb (l .words) 3 e, is-number l 0 h) (by (l .page) refl e h)
+
 -- ---- which of them, by the first word's number
+
+module _ (l : Line) where
+  pub of-config : l .name ≡ 390805221435751 → configFrom l ≡ askedOf l
+  unfolding askedOf packed packFrom
+  of-config e = sym (simp (eq-eqb (l .name) 390805221435751 e))
+
+  module _ (c : l .name ≡ 390805221435751 → ⊥) where
+    pub of-read : l .name ≡ 6214213988 → readFrom l ≡ askedOf l
+    unfolding askedOf packed packFrom
+    of-read e = sym (simp (ne-eqb (l .name) 390805221435751 c, eq-eqb (l .name) 6214213988 e))
+
+    module _ (d : l .name ≡ 6214213988 → ⊥) where
+      pub of-deposit : l .name ≡ 100316625289570676 → depositFrom l ≡ askedOf l
+      unfolding askedOf packed packFrom
+      of-deposit e = sym (simp (ne-eqb (l .name) 390805221435751 c, ne-eqb (l .name) 6214213988 d, eq-eqb (l .name) 100316625289570676 e))
+
+      pub of-other : (l .name ≡ 100316625289570676 → ⊥) → Command.Other ≡ askedOf l
+      unfolding askedOf packed packFrom
+      of-other e = sym (simp (ne-eqb (l .name) 390805221435751 c, ne-eqb (l .name) 6214213988 d, ne-eqb (l .name) 100316625289570676 e))
 
 module _ (p page : List ℕ) (l : Line) (o : LineOf p page l) where
   named : (w : List ℕ) → small w → (packed w ≡ 0 → ⊥) → l .name ≡ packed w → first (words p) ≡ w
@@ -199,21 +273,31 @@ module _ (p page : List ℕ) (l : Line) (o : LineOf p page l) where
       go true e = absurd (h (o .called ∙ ap packed (same-eq (first (words p)) w e)))
       go false e = e
 
-  pub asked-config : (r : Command) → l .name ≡ 390805221435751 → Asks (configAsked (words p)) page r → Asks (standLine p) page r
+  asked-config : (r : Command) → l .name ≡ 390805221435751 → Asks (configAsked (words p)) page r → Asks (standLine p) page r
   unfolding standLine asked same every packed packFrom
   asked-config r e a = rw (named (ascii "config") refl (λ z. omega (arith, z)) e) a
 
-  pub asked-read : (r : Command) → l .name ≡ 6214213988 → Asks (readAsked (words p)) page r → Asks (standLine p) page r
+  asked-read : (r : Command) → l .name ≡ 6214213988 → Asks (readAsked (words p)) page r → Asks (standLine p) page r
   unfolding standLine asked same every packed packFrom
   asked-read r e a = rw (named (ascii "read") refl (λ z. omega (arith, z)) e) a
 
-  pub asked-deposit : (r : Command) → l .name ≡ 100316625289570676 → Asks (depositAsked (words p)) page r → Asks (standLine p) page r
+  asked-deposit : (r : Command) → l .name ≡ 100316625289570676 → Asks (depositAsked (words p)) page r → Asks (standLine p) page r
   unfolding standLine asked same every packed packFrom
   asked-deposit r e a = rw (named (ascii "deposit") refl (λ z. omega (arith, z)) e) a
 
-  pub asked-other : (l .name ≡ 390805221435751 → ⊥) → (l .name ≡ 6214213988 → ⊥) → (l .name ≡ 100316625289570676 → ⊥) → Asks (standLine p) page Command.Other
+  asked-other : (l .name ≡ 390805221435751 → ⊥) → (l .name ≡ 6214213988 → ⊥) → (l .name ≡ 100316625289570676 → ⊥) → Asks (standLine p) page Command.Other
   unfolding standLine asked packed packFrom
   asked-other c d e = rw (not-named (ascii "config") c, not-named (ascii "read") d, not-named (ascii "deposit") e) tt
+
+  -- what the code makes of a line is what the line's bytes ask for
+  pub asked-line : Asks (standLine p) page (askedOf l)
+  asked-line = go (ℕ-discrete (l .name) 390805221435751) (ℕ-discrete (l .name) 6214213988) (ℕ-discrete (l .name) 100316625289570676)
+    where
+      go : Dec (l .name ≡ 390805221435751) → Dec (l .name ≡ 6214213988) → Dec (l .name ≡ 100316625289570676) → Asks (standLine p) page (askedOf l)
+      go (yes c) d e = rw (of-config l c) at (asked-config (configFrom l) c (config-line p page l o))
+      go (no c) (yes d) e = rw (of-read l c d) at (asked-read (readFrom l) d (read-line p page l o))
+      go (no c) (no d) (yes e) = rw (of-deposit l c d e) at (asked-deposit (depositFrom l) e (deposit-line p page l o))
+      go (no c) (no d) (no e) = rw (of-other l c d e) at (asked-other c d e)
 
 -- ---- examples, each computed
 

@@ -1,5 +1,5 @@
--- How long a printed line is at most.
-use mathlib.Core.Path.{_≡_}
+-- How long a printed line is, and at most.
+use mathlib.Core.Path.{_≡_, ap, _∙_}
 use mathlib.Core.List.{List, [], _∷_}
 use Prim.Native.Nat.{ℕ, zero, suc, _+_, _*_, _/_, _^_, _<_, _≤_}
 use native.Mathlib.Decide.{decLt}
@@ -7,9 +7,41 @@ use native.Mathlib.Nat.{pow-suc}
 use native.Mathlib.Omega.{arith}
 use borrow.Author.Tests.{lt-ltb, le-ltb}
 use lib.ListN.{length, length-append}
-use Rattle.lines.specs.Text.{decimalWithin}
+use Rattle.io.specs.Digits.{digits, Fewest}
+use Rattle.lines.specs.Text.{decimalWithin, decimalOf}
 use Rattle.lines.specs.Sentences.{spacedNumber, shown, headerLine, refusedLine, depositedLine, nothingLine, pageLine}
-use Rattle.lines.proofs.TextLaws.{hex-length}
+use Rattle.lines.proofs.TextLaws.{hex-length, decimal-digits}
+
+-- ---- how long it is
+
+pub spaced-size : (k n : ℕ) (l : List ℕ) → k ≡ length l → l ≡ digits 10 k n → Fewest 10 1 n k → k + 1 ≡ length (spacedNumber n)
+unfolding spacedNumber
+spaced-size k n l e f g =
+    let h : k ≡ length (decimalOf n) = e ∙ ap length (f ∙ decimal-digits k n g) in omega arith
+
+pub header-size : (m n k t f : ℕ) → length (headerLine m n k t f)
+    ≡ 4 + length (spacedNumber m) + length (spacedNumber n) + length (spacedNumber k) + length (spacedNumber t) + length (spacedNumber f)
+unfolding headerLine
+header-size m n k t f = simp length-append (omega arith)
+
+pub refused-size : (x : ℕ) → length (refusedLine x) ≡ 8 + length (spacedNumber x)
+unfolding refusedLine
+refused-size x = simp length-append (omega arith)
+
+pub deposited-size : (c q : ℕ) → length (depositedLine c q) ≡ 8 + length (spacedNumber c) + length (spacedNumber q)
+unfolding depositedLine
+deposited-size c q = simp length-append (omega arith)
+
+pub nothing-size : (c : ℕ) → length (nothingLine c) ≡ 14 + length (spacedNumber c)
+unfolding nothingLine
+nothing-size c = simp length-append (omega arith)
+
+pub page-size : (c q w : ℕ) (page : List ℕ) → length (pageLine c q w page)
+    ≡ 6 + length (spacedNumber c) + length (spacedNumber q) + length (spacedNumber w) + length (shown page)
+unfolding pageLine
+page-size c q w page = simp length-append (omega arith)
+
+-- ---- how long it is at most
 
 -- a number below 10 ^ d has at most d digits
 decimal-length : (most d n : ℕ) → n < 10 ^ suc d → length (decimalWithin most n) ≤ suc d
@@ -27,7 +59,7 @@ decimal-length (suc most) d n h = go d h (decLt n 10) (λ e. decimal-length most
         let q : n / 10 < 10 ^ suc d = omega arith in
         simp (le-ltb n 10 t, length-append) (omega (arith, tenth d q))
 
-spaced-length : (d n : ℕ) → n < 10 ^ suc d → length (spacedNumber n) ≤ 2 + d
+pub spaced-length : (d n : ℕ) → n < 10 ^ suc d → length (spacedNumber n) ≤ 2 + d
 unfolding spacedNumber
 spaced-length d n h = omega (arith, decimal-length (suc n) d n h)
 

@@ -16,7 +16,8 @@ use Rattle.lines.specs.declared.read.Line.{Line}
 use Rattle.lines.specs.declared.read.Page.{Page}
 use Rattle.lines.specs.Words.{words, first, later, lastFrom, final, every, void, odd, same, limit, digit, decimal, numberOf, hexValue, hexDigit, hexBytes, emptyWord, pageOf, packFrom, packed}
 use Rattle.lines.specs.Line.{numberOr, numbersOf, Kept, PageIs, LineOf}
-use Rattle.lines.specs.Read.{counted, packedWith, capped, valueWith, nameFrom, numberFrom, numbersWith, pageFrom, valueOf, highFrom, Paired, Read}
+use Rattle.lines.specs.Read.{counted, packedWith, capped, valueWith, nameFrom, numberFrom, numbersWith, puts, bytesWith, pageWith, pageFrom}
+use Rattle.lines.specs.Read.{newWord, begun, spaceOf, letterOf, nextOf, nextPage, endedOf, valueOf, highFrom, Paired, Read}
 use Rattle.lines.proofs.WordsLaws.{and-left, and-right, words-space, words-letter, every-more, odd-more, same-eq, decimal-more, high-more, high-below, hex-more, small, pack-more, room, pack-below, packed-injective}
 
 -- ---- a value with one digit more
@@ -50,22 +51,14 @@ value-more w b =
 
 -- ---- a page with one digit more
 
-pub put-even : (t : Bool) (bs more : List ℕ) (n : ℕ) (page : List ℕ) → t ≡ false → Kept bs n page → Kept (cond t more bs) n page
-put-even t bs more n page e k = rw e k
-
-pub put-full : (t : Bool) (bs : List ℕ) (v n : ℕ) (page : List ℕ) → t ≡ true → length page ≤ n → Kept bs n page
-    → Kept (cond t (bs ++ (v ∷ [])) bs) n page
-put-full t bs v n page e h k =
+put-full : (bs : List ℕ) (v n : ℕ) (page : List ℕ) → length page ≤ n → Kept bs n page → Kept (bs ++ (v ∷ [])) n page
+put-full bs v n page h k =
     let s : n ≡ min (length bs) (length page) = k .size in
     let l : length (bs ++ (v ∷ [])) ≡ length bs + 1 = length-append bs (v ∷ []) in
-    let u : Kept (bs ++ (v ∷ [])) n page =
     record { size = omega arith; front = k .front ∙ sym (take-append-le n bs (v ∷ []) (omega arith)) }
-    in
-    rw e u
 
-pub put-more : (t : Bool) (bs : List ℕ) (v n : ℕ) (page : List ℕ) → t ≡ true → n < length page → Kept bs n page
-    → Kept (cond t (bs ++ (v ∷ [])) bs) (n + 1) (set page n v)
-put-more t bs v n page e h k =
+put-more : (bs : List ℕ) (v n : ℕ) (page : List ℕ) → n < length page → Kept bs n page → Kept (bs ++ (v ∷ [])) (n + 1) (set page n v)
+put-more bs v n page h k =
     let s : n ≡ min (length bs) (length page) = k .size in
     let l : length (bs ++ (v ∷ [])) ≡ length bs + 1 = length-append bs (v ∷ []) in
     let m : length (set page n v) ≡ length page = length-set page n v in
@@ -75,8 +68,7 @@ put-more t bs v n page e h k =
     ∙ ap (λ (x : List ℕ). x ++ (v ∷ [])) (k .front ∙ take-all n bs (omega arith))
     ∙ sym (take-all (n + 1) (bs ++ (v ∷ [])) (omega arith))
     in
-    let u : Kept (bs ++ (v ∷ [])) (n + 1) (set page n v) = record { size = omega arith; front = f } in
-    rw e u
+    record { size = omega arith; front = f }
 
 -- ---- a packed word and its length with one byte more
 
@@ -152,37 +144,79 @@ numbers-told (v ∷ ws) w k n numbers e f q = go (decLt (length ws) 6)
         simp (le-leb 2 k (omega arith), le-leb k 7 (omega arith)) ((λ i. set (f i) (z i) (q i)) ∙ numbers-more 6 ws w h)
     go (no h) = simp (le-leb 2 k (omega arith), lt-leb k 7 (omega arith)) (f ∙ numbers-full 6 ws w (omega arith))
 
-number-of : (w : List ℕ) (len value n : ℕ) → len ≡ min 8 (length w) → value ≡ valueOf w → n ≡ numberFrom len value → n ≡ numberOr (numberOf w)
-number-of w len value n a b e = e ∙ (λ i. numberFrom (a i) (b i)) ∙ number-told w
+number-of : (w : List ℕ) (len value : ℕ) → len ≡ min 8 (length w) → value ≡ valueOf w → numberFrom len value ≡ numberOr (numberOf w)
+number-of w len value a b = (λ i. numberFrom (a i) (b i)) ∙ number-told w
+
+-- ---- what the code keeps and hands on, part by part
+
+module _ (odd : Bool) (high n bytes : ℕ) (page : List ℕ) where
+  pub put-none : puts odd high n bytes (length page) ≡ false → (bytes ≡ bytesWith odd high n bytes (length page)) × (page ≡ pageWith odd high n bytes page)
+  put-none e = rw e (refl, refl)
+
+  pub put-one : odd ≡ true → bytes < length page → high < 16 → n < 16
+      → (bytes + 1 ≡ bytesWith odd high n bytes (length page)) × (set page bytes (high * 16 + n) ≡ pageWith odd high n bytes page)
+  put-one e f g h = rw (e, lt-ltb bytes (length page) f, lt-ltb high 16 g, lt-ltb n 16 h) (refl, refl)
+
+pub space-told : (r : Reading) (words name n : ℕ) (numbers : List ℕ) → words ≡ counted (r .words) → name ≡ nameFrom (r .words) (r .name) (r .word)
+    → n ≡ numberFrom (r .len) (r .value) → numbers ≡ numbersWith (r .words) (r .numbers) n → newWord words name numbers ≡ spaceOf r
+space-told r words name n numbers a b e f =
+    let g : numbers ≡ numbersWith (r .words) (r .numbers) (numberFrom (r .len) (r .value)) = f ∙ ap (numbersWith (r .words) (r .numbers)) e in
+    λ i. newWord (a i) (b i) (g i)
+
+pub letter-told : (r s : Reading) (b n room : ℕ) → s .words ≡ r .words → s .name ≡ r .name → s .numbers ≡ r .numbers → s .word ≡ packedWith (r .word) (r .len) b
+    → s .len ≡ counted (r .len) → s .value ≡ valueWith (r .value) b → n ≡ hexValue b → s .hex ≡ (r .hex && ltb n 16) → s .odd ≡ not (r .odd) → s .high ≡ n
+    → s .bytes ≡ bytesWith (r .odd) (r .high) n (r .bytes) room → s ≡ letterOf r b room
+letter-told r s b n room a c d e f g m k l x y =
+    let v : s .high ≡ hexValue b = x ∙ m in
+    let w : s .hex ≡ (r .hex && hexDigit b) = k ∙ ap (λ (z : ℕ). r .hex && ltb z 16) m in
+    let u : s .bytes ≡ bytesWith (r .odd) (r .high) (hexValue b) (r .bytes) room = y ∙ ap (λ (z : ℕ). bytesWith (r .odd) (r .high) z (r .bytes) room) m in
+    λ i. record { words = a i; name = c i; numbers = d i; word = e i; len = f i; value = g i; hex = w i; odd = l i; high = v i; bytes = u i }
+
+pub page-more : (r : Reading) (b n : ℕ) (page after : List ℕ) → n ≡ hexValue b → after ≡ pageWith (r .odd) (r .high) n (r .bytes) page
+    → after ≡ pageWith (r .odd) (r .high) (hexValue b) (r .bytes) page
+page-more r b n page after m e = e ∙ ap (λ (z : ℕ). pageWith (r .odd) (r .high) z (r .bytes) page) m
+
+module _ (r : Reading) (b : ℕ) (page : List ℕ) where
+  pub next-space : b ≡ 32 → (spaceOf r ≡ nextOf r b (length page)) × (page ≡ nextPage r b page)
+  unfolding nextOf nextPage
+  next-space e = (simp (eq-eqb b 32 e), simp (eq-eqb b 32 e))
+
+  pub next-letter : (b ≡ 32 → ⊥)
+      → (letterOf r b (length page) ≡ nextOf r b (length page)) × (pageWith (r .odd) (r .high) (hexValue b) (r .bytes) page ≡ nextPage r b page)
+  unfolding nextOf nextPage
+  next-letter e = (simp (ne-eqb b 32 e), simp (ne-eqb b 32 e))
+
+pub ended-told : (r : Reading) (l : Line) (n : ℕ) → l .words ≡ r .words → l .name ≡ nameFrom (r .words) (r .name) (r .word)
+    → n ≡ numberFrom (r .len) (r .value) → l .numbers ≡ numbersWith (r .words) (r .numbers) n → l .page ≡ pageFrom r → l ≡ endedOf r
+unfolding endedOf
+ended-told r l n a b e f g =
+    let h : l .numbers ≡ numbersWith (r .words) (r .numbers) (numberFrom (r .len) (r .value)) = f ∙ ap (numbersWith (r .words) (r .numbers)) e in
+    λ i. record { words = a i; name = b i; numbers = h i; page = g i }
 
 -- ---- what is kept, from the start and with each byte more
 
-pub begin-read : (page : List ℕ) (r : Reading) → r .words ≡ 1 → r .name ≡ 0
-    → r .numbers ≡ limit ∷ limit ∷ limit ∷ limit ∷ limit ∷ limit ∷ [] → r .word ≡ 1 → r .len ≡ 0 → r .value ≡ 0 → r .hex ≡ true
-    → r .odd ≡ false → r .high ≡ 0 → r .bytes ≡ 0 → Read [] r page
-unfolding words numbersOf every packed packFrom valueOf decimal odd highFrom hexBytes
-begin-read page r a b c d e f g h k n =
+pub begun-read : (page : List ℕ) → Read [] begun page
+unfolding begun words numbersOf every packed packFrom valueOf decimal odd highFrom hexBytes
+begun-read page =
     record {
       ended = [];
       under = [];
       whole = refl;
-      count = a;
+      count = refl;
       opened = refl;
-      called = b;
-      given = c;
+      called = refl;
+      given = refl;
       bytes = refl;
-      word = d;
-      long = e;
-      value = f;
-      hex = g;
-      pairs = λ t. record { half = h; high = k; kept = record { size = n ∙ omega arith; front = rw n } };
+      word = refl;
+      long = refl;
+      value = refl;
+      hex = refl;
+      pairs = λ t. record { half = refl; high = refl; kept = record { size = omega arith; front = refl } };
     }
 
-pub space-read : (p page : List ℕ) (r s : Reading) (m : ℕ) → s .words ≡ counted (r .words) → s .name ≡ nameFrom (r .words) (r .name) (r .word)
-    → m ≡ numberFrom (r .len) (r .value) → s .numbers ≡ numbersWith (r .words) (r .numbers) m → s .word ≡ 1 → s .len ≡ 0 → s .value ≡ 0
-    → s .hex ≡ true → s .odd ≡ false → s .high ≡ 0 → s .bytes ≡ 0 → Read p r page → Read (p ++ (32 ∷ [])) s page
+space-read : (p page : List ℕ) (r : Reading) → Read p r page → Read (p ++ (32 ∷ [])) (spaceOf r) page
 unfolding every packed packFrom valueOf decimal odd highFrom hexBytes
-space-read p page r s m a b z c d e f g h k n o =
+space-read p page r o =
     let ws = o .ended in
     let w = o .under in
     let l : length (ws ++ (w ∷ [])) ≡ length ws + 1 = length-append ws (w ∷ []) in
@@ -190,69 +224,80 @@ space-read p page r s m a b z c d e f g h k n o =
       ended = ws ++ (w ∷ []);
       under = [];
       whole = words-space p ∙ ap (λ (x : List (List ℕ)). x ++ ([] ∷ [])) (o .whole);
-      count = a ∙ ap counted (o .count) ∙ counted-min (length ws + 1) ∙ ap (λ (x : ℕ). min 8 (x + 1)) (sym l);
+      count = ap counted (o .count) ∙ counted-min (length ws + 1) ∙ ap (λ (x : ℕ). min 8 (x + 1)) (sym l);
       opened = first-told ws w (o .opened) (o .bytes);
       called =
-          b ∙ name-told ws w (r .words) (r .name) (r .word) (o .count) (o .called) (o .word)
+          name-told ws w (r .words) (r .name) (r .word) (o .count) (o .called) (o .word)
           ∙ sym (simp (ne-eqb (length (ws ++ (w ∷ []))) 0 (λ y. omega arith)));
-      given =
-          c ∙ numbers-told ws w (r .words) m (r .numbers) (o .count) (o .given) (number-of w (r .len) (r .value) m (o .long) (o .value) z);
+      given = numbers-told ws w (r .words) (numberFrom (r .len) (r .value)) (r .numbers) (o .count) (o .given) (number-of w (r .len) (r .value) (o .long) (o .value));
       bytes = refl;
-      word = d;
-      long = e;
-      value = f;
-      hex = g;
-      pairs = λ t. record { half = h; high = k; kept = record { size = n ∙ omega arith; front = rw n } };
+      word = refl;
+      long = refl;
+      value = refl;
+      hex = refl;
+      pairs = λ t. record { half = refl; high = refl; kept = record { size = omega arith; front = refl } };
     }
 
--- the bytes of the page after a byte that is no space, as `put` leaves them
-abbrev pub Puts : Reading → ℕ → ℕ → List ℕ → List ℕ → Type 0
-Puts r n m page after =
-    (bs : List ℕ) → r .high < 16 → n < 16 → Kept bs (r .bytes) page → Kept (cond (r .odd) (bs ++ ((r .high * 16 + n) ∷ [])) bs) m after
+-- a byte goes into the page
+put-read : (t : Bool) (bs : List ℕ) (high n bytes : ℕ) (page : List ℕ) → high < 16 → n < 16 → Kept bs bytes page
+    → Kept (cond t (bs ++ ((high * 16 + n) ∷ [])) bs) (bytesWith t high n bytes (length page)) (pageWith t high n bytes page)
+put-read false bs high n bytes page h l k = k
+put-read true bs high n bytes page h l k = go (decLt bytes (length page))
+  where
+    go : Dec (bytes < length page)
+        → Kept (bs ++ ((high * 16 + n) ∷ [])) (bytesWith true high n bytes (length page)) (pageWith true high n bytes page)
+    go (yes r) = rw (lt-ltb bytes (length page) r, lt-ltb high 16 h, lt-ltb n 16 l) (put-more bs (high * 16 + n) bytes page r k)
+    go (no r) = rw (le-ltb bytes (length page) (omega arith)) (put-full bs (high * 16 + n) bytes page (omega arith) k)
 
-pairs-more : (w : List ℕ) (r s : Reading) (b : ℕ) (page after : List ℕ) → s .odd ≡ not (r .odd) → s .high ≡ hexValue b
-    → Puts r (hexValue b) (s .bytes) page after → hexDigit b ≡ true → every hexDigit w ≡ true → Paired w r page → Paired (w ++ (b ∷ [])) s after
-pairs-more w r s b page after f g t d e o =
+pairs-more : (w : List ℕ) (r : Reading) (b : ℕ) (page : List ℕ) → hexDigit b ≡ true → every hexDigit w ≡ true → Paired w r page
+    → Paired (w ++ (b ∷ [])) (letterOf r b (length page)) (pageWith (r .odd) (r .high) (hexValue b) (r .bytes) page)
+pairs-more w r b page d e o =
     let h : highFrom 0 w < 16 = high-below 0 w (omega arith) e in
     let v : r .high ≡ highFrom 0 w = o .high in
-    let k = t (hexBytes w) (omega arith) (ltb-true (hexValue b) 16 d) (o .kept) in
+    let k = put-read (r .odd) (hexBytes w) (r .high) (hexValue b) (r .bytes) page (omega arith) (ltb-true (hexValue b) 16 d) (o .kept) in
     let q : cond (r .odd) (hexBytes w ++ ((r .high * 16 + hexValue b) ∷ [])) (hexBytes w) ≡ hexBytes (w ++ (b ∷ [])) =
     (λ i. cond (o .half i) (hexBytes w ++ ((v i * 16 + hexValue b) ∷ [])) (hexBytes w)) ∙ hex-more 0 w b
     in
     record {
-      half = f ∙ ap not (o .half) ∙ sym (odd-more w b);
-      high = g ∙ sym (high-more 0 w b);
+      half = ap not (o .half) ∙ sym (odd-more w b);
+      high = sym (high-more 0 w b);
       kept = rw q at k;
     }
 
-pub letter-read : (p : List ℕ) (r s : Reading) (b n : ℕ) (page after : List ℕ) → b < 256 → (b ≡ 32 → ⊥) → s .words ≡ r .words
-    → s .name ≡ r .name → s .numbers ≡ r .numbers → s .word ≡ packedWith (r .word) (r .len) b → s .len ≡ counted (r .len)
-    → s .value ≡ valueWith (r .value) b → n ≡ hexValue b → s .hex ≡ (r .hex && ltb n 16) → s .odd ≡ not (r .odd) → s .high ≡ n
-    → Puts r n (s .bytes) page after → Read p r page → Read (p ++ (b ∷ [])) s after
-letter-read p r s b n page after u h a c d e f g m k l x t o =
+letter-read : (p : List ℕ) (r : Reading) (b : ℕ) (page : List ℕ) → b < 256 → (b ≡ 32 → ⊥) → Read p r page
+    → Read (p ++ (b ∷ [])) (letterOf r b (length page)) (pageWith (r .odd) (r .high) (hexValue b) (r .bytes) page)
+letter-read p r b page u h o =
     let ws = o .ended in
     let w = o .under in
     let y : every hexDigit (w ++ (b ∷ [])) ≡ (every hexDigit w && hexDigit b) = every-more hexDigit w b in
-    let t' : Puts r (hexValue b) (s .bytes) page after = rw m at t in
     record {
       ended = ws;
       under = w ++ (b ∷ []);
       whole = words-letter b h p ws w (o .whole);
-      count = a ∙ o .count;
+      count = o .count;
       opened = o .opened;
-      called = c ∙ o .called;
-      given = d ∙ o .given;
+      called = o .called;
+      given = o .given;
       bytes = every-more (λ x. ltb x 256) w b ∙ (λ i. o .bytes i && lt-ltb b 256 u i);
-      word = e ∙ (λ i. packedWith (o .word i) (o .long i) b) ∙ packed-more w b (o .bytes);
-      long = f ∙ ap counted (o .long) ∙ counted-min (length w) ∙ ap (min 8) (sym (length-append w (b ∷ [])));
-      value = g ∙ ap (λ (v : ℕ). valueWith v b) (o .value) ∙ value-more w b;
-      hex = k ∙ (λ i. o .hex i && ltb (m i) 16) ∙ sym y;
+      word = (λ i. packedWith (o .word i) (o .long i) b) ∙ packed-more w b (o .bytes);
+      long = ap counted (o .long) ∙ counted-min (length w) ∙ ap (min 8) (sym (length-append w (b ∷ [])));
+      value = ap (λ (v : ℕ). valueWith v b) (o .value) ∙ value-more w b;
+      hex = (λ i. o .hex i && hexDigit b) ∙ sym y;
       pairs =
           λ z.
           let q : (every hexDigit w && hexDigit b) ≡ true = sym y ∙ z in
           let v : every hexDigit w ≡ true = and-left (every hexDigit w) (hexDigit b) q in
-          pairs-more w r s b page after l (x ∙ m) t' (and-right (every hexDigit w) (hexDigit b) q) v (o .pairs v);
+          pairs-more w r b page (and-right (every hexDigit w) (hexDigit b) q) v (o .pairs v);
     }
+
+-- one byte more of the line
+pub next-read : (p : List ℕ) (r : Reading) (b : ℕ) (page : List ℕ) → b < 256 → Read p r page → Read (p ++ (b ∷ [])) (nextOf r b (length page)) (nextPage r b page)
+unfolding nextOf nextPage
+next-read p r b page u o = go (ℕ-discrete b 32)
+  where
+    go : Dec (b ≡ 32) → Read (p ++ (b ∷ [])) (cond (eqb b 32) (spaceOf r) (letterOf r b (length page))) (cond (eqb b 32) page (pageWith (r .odd) (r .high) (hexValue b) (r .bytes) page))
+    go (yes e) = rw e (space-read p page r o)
+    go (no e) = rw (ne-eqb b 32 e) (letter-read p r b page u e o)
 
 -- ---- the line's end
 
@@ -309,23 +354,20 @@ page-told w page r s a l x k = go (ℕ-discrete (r .word) 1535139411065)
         rw (ne-eqb (r .word) 1535139411065 e, not-empty w (λ q. e (a ∙ q)), z)
         (page-pick w page (every hexDigit w) (odd w) (void w) (r .bytes) (r .hex) (r .odd) x (λ t. k t .half) (λ t. k t .kept))
 
-pub line-read : (p page : List ℕ) (r : Reading) (l : Line) (m : ℕ) → l .words ≡ r .words → l .name ≡ nameFrom (r .words) (r .name) (r .word)
-    → m ≡ numberFrom (r .len) (r .value) → l .numbers ≡ numbersWith (r .words) (r .numbers) m → l .page ≡ pageFrom r → Read p r page → LineOf p page l
-line-read p page r l m a b z c d o =
+pub ended-read : (p page : List ℕ) (r : Reading) → Read p r page → LineOf p page (endedOf r)
+unfolding endedOf
+ended-read p page r o =
     let ws = o .ended in
     let w = o .under in
     let n : length (words p) ≡ length ws + 1 = ap length (o .whole) ∙ length-append ws (w ∷ []) in
     let f : final (words p) ≡ w = ap final (o .whole) ∙ last-end [] ws w in
     let g : PageIs (pageOf w) page (pageFrom r) = page-told w page r (o .bytes) (o .word) (o .long) (o .hex) (o .pairs) in
     record {
-      count = a ∙ o .count ∙ ap (min 8) (sym n);
+      count = o .count ∙ ap (min 8) (sym n);
       bytes = ap (λ (x : List (List ℕ)). every (λ b. ltb b 256) (first x)) (o .whole) ∙ first-told ws w (o .opened) (o .bytes);
-      called = b ∙ name-told ws w (r .words) (r .name) (r .word) (o .count) (o .called) (o .word) ∙ ap (λ (x : List (List ℕ)). packed (first x)) (sym (o .whole));
+      called = name-told ws w (r .words) (r .name) (r .word) (o .count) (o .called) (o .word) ∙ ap (λ (x : List (List ℕ)). packed (first x)) (sym (o .whole));
       given =
-          c ∙ numbers-told ws w (r .words) m (r .numbers) (o .count) (o .given) (number-of w (r .len) (r .value) m (o .long) (o .value) z)
+          numbers-told ws w (r .words) (numberFrom (r .len) (r .value)) (r .numbers) (o .count) (o .given) (number-of w (r .len) (r .value) (o .long) (o .value))
           ∙ ap (λ (x : List (List ℕ)). numbersOf 6 (later x)) (sym (o .whole));
-      shown = rw (f, d) g;
+      shown = rw f g;
     }
-
-pub byte-read : (p : List ℕ) (r : Reading) (b : ℕ) (page : List ℕ) → b ≡ 32 → Read (p ++ (32 ∷ [])) r page → Read (p ++ (b ∷ [])) r page
-byte-read p r b page e o = rw e o

@@ -1,16 +1,15 @@
 -- Laws of bytes put into a text.
-use mathlib.Core.Path.{_≡_, refl, sym, ap, subst, _∙_}
+use mathlib.Core.Path.{_≡_, refl, sym, ap, _∙_}
 use mathlib.Core.List.{List, [], _∷_, _++_, append-assoc}
 use Prim.Native.Nat.{ℕ, zero, suc, _+_, _*_, _/_, _%_, _^_, _<_, _≤_}
 use native.Mathlib.Nat.{add-zero, one-le-pow, pow-suc}
 use native.Mathlib.Numerals.{add-one, unary-clauses}
 use native.Mathlib.Omega.{arith}
-use borrow.Author.Tests.{lt-ltb, le-ltb}
+use borrow.Author.Tests.{lt-ltb, le-ltb, lt-leb, le-leb}
 use lib.ListN.{length, getD, take, drop, set, length-append, length-take, length-drop, take-append-drop}
 use lib.Seq.{take-suc, take-all, drop-cons, set-at, take-at, drop-at, length-take-le, drop-drop}
 use Rattle.io.specs.Digits.{glyph, digits, Fewest}
-use Rattle.lines.specs.Text.{over, Puts, decimalWithin, decimalOf, hexDigit, hexOf}
-use Rattle.lines.specs.Text.Puts.{put, full}
+use Rattle.lines.specs.Text.{over, written, putAt, decimalWithin, decimalOf, hexDigit, hexOf}
 
 pub over-none : (t : List ℕ) (at : ℕ) → over t at [] ≡ t
 unfolding over
@@ -51,6 +50,16 @@ over-join t at b d h =
     ∙ append-assoc (take at t) b (d ++ drop (n + length d) t)
     ∙ ap (λ (s : List ℕ). take at t ++ s) (sym (append-assoc b d (drop (n + length d) t)))
     ∙ ap (λ (k : ℕ). take at t ++ ((b ++ d) ++ drop k t)) e
+
+-- ---- whether they fit
+
+pub put-full : (t : List ℕ) (at : ℕ) (b : List ℕ) → length t < at + length b → written t at ≡ putAt t at b
+unfolding putAt
+put-full t at b h = sym (simp (lt-leb (at + length b) (length t) h))
+
+pub put-fits : (t : List ℕ) (at : ℕ) (b s : List ℕ) (r : ℕ) → at + length b ≤ length t → r ≡ at + length b → s ≡ over t at b → written s r ≡ putAt t at b
+unfolding putAt
+put-fits t at b s r h e f = rw (le-leb (at + length b) (length t) h) (λ i. written (f i) (e i))
 
 -- ---- bytes as they are
 
@@ -106,11 +115,12 @@ hex-more t at b i s u v h l e eu ev =
 pub hex-all : (t : List ℕ) (at : ℕ) (b : List ℕ) (i : ℕ) (s : List ℕ) → length b ≤ i → s ≡ over t at (hexOf (take i b)) → s ≡ over t at (hexOf b)
 hex-all t at b i s h e = e ∙ ap (λ (l : List ℕ). over t at (hexOf l)) (take-all i b h)
 
-pub hex-put : (t : List ℕ) (at : ℕ) (b s : List ℕ) → at + 2 * length b ≤ length t → s ≡ over t at (hexOf b) → Puts t at (hexOf b) s (at + 2 * length b)
-hex-put t at b s h e = put (omega (arith, hex-length b)) (omega (arith, hex-length b)) e
+pub hex-put : (t : List ℕ) (at : ℕ) (b s : List ℕ) → at + 2 * length b ≤ length t → s ≡ over t at (hexOf b)
+    → written s (at + 2 * length b) ≡ putAt t at (hexOf b)
+hex-put t at b s h e = put-fits t at (hexOf b) s (at + 2 * length b) (omega (arith, hex-length b)) (omega (arith, hex-length b)) e
 
-pub hex-full : (t : List ℕ) (at : ℕ) (b : List ℕ) → length t < at + 2 * length b → Puts t at (hexOf b) t at
-hex-full t at b h = full (omega (arith, hex-length b)) refl refl
+pub hex-full : (t : List ℕ) (at : ℕ) (b : List ℕ) → length t < at + 2 * length b → written t at ≡ putAt t at (hexOf b)
+hex-full t at b h = put-full t at (hexOf b) (omega (arith, hex-length b))
 
 -- ---- decimal
 
@@ -138,8 +148,9 @@ digits-within (suc (suc k)) n (suc most) f h =
     simp (le-ltb n 10 t)
     (λ i. digits-within (suc k) (n / 10) most g (omega arith) i ++ (glyph-small (n % 10) (omega arith) i ∷ []))
 
-decimal-digits : (k n : ℕ) → Fewest 10 1 n k → digits 10 k n ≡ decimalOf n
+pub decimal-digits : (k n : ℕ) → Fewest 10 1 n k → digits 10 k n ≡ decimalOf n
 decimal-digits k n f = digits-within k n (suc n) f (omega arith)
 
-pub decimal-put : (t : List ℕ) (at k n : ℕ) (l s : List ℕ) (r : ℕ) → Fewest 10 1 n k → l ≡ digits 10 k n → Puts t at l s r → Puts t at (decimalOf n) s r
-decimal-put t at k n l s r f e p = subst (λ (b : List ℕ). Puts t at b s r) (e ∙ decimal-digits k n f) p
+pub decimal-put : (t : List ℕ) (at k n : ℕ) (l s : List ℕ) (r : ℕ) → Fewest 10 1 n k → l ≡ digits 10 k n → written s r ≡ putAt t at l
+    → written s r ≡ putAt t at (decimalOf n)
+decimal-put t at k n l s r f e p = p ∙ ap (putAt t at) (e ∙ decimal-digits k n f)

@@ -1,13 +1,15 @@
 -- A line of `stand`: its first word says what is asked, and the words after it are numbers and a page.
 use mathlib.Core.Path.{_≡_}
-use mathlib.Core.Bool.{cond}
+use mathlib.Core.Bool.{Bool, cond, _&&_}
 use mathlib.Core.List.{List, []}
 use mathlib.Core.Option.{Option, none, some}
 use Prim.Native.Nat.{ℕ}
-use lib.Dec.{eqb}
-use lib.ListN.{length, getD}
+use lib.Dec.{ltb, eqb}
+use lib.ListN.{length, take, getD}
+use Rattle.lines.specs.declared.read.Line.{Line}
+use Rattle.lines.specs.declared.read.Page.{Page}
 use Rattle.lines.specs.declared.command.Command.{Command}
-use Rattle.lines.specs.Words.{words, first, same, numberOf, pageOf}
+use Rattle.lines.specs.Words.{words, first, same, limit, numberOf, pageOf, packed}
 use Rattle.lines.specs.Line.{Kept}
 use Rattle.lines.specs.Ascii.{ascii}
 
@@ -80,3 +82,41 @@ Asks other page (Command.Config m′ n′ k′ t′ f′) = ⊥
 Asks other page (Command.Read c) = ⊥
 Asks other page (Command.Deposit c b) = ⊥
 Asks other page Command.Other = Unit {0}
+
+-- ---- what the code makes of a line that it was handed, whatever it says
+
+-- the number at a place among those after the first word, and whether it is one
+abbrev pub number : Line → ℕ → ℕ
+number l i = getD (l .numbers) i 0
+
+abbrev pub isNumber : Line → ℕ → Bool
+isNumber l i = ltb (number l i) limit
+
+abbrev pub configFrom : Line → Command
+configFrom l =
+    cond (eqb (l .words) 6 && (isNumber l 0 && (isNumber l 1 && (isNumber l 2 && (isNumber l 3 && isNumber l 4)))))
+    (Command.Config (number l 0) (number l 1) (number l 2) (number l 3) (number l 4))
+    Command.Other
+
+abbrev pub readFrom : Line → Command
+readFrom l = cond (eqb (l .words) 2 && isNumber l 0) (Command.Read (number l 0)) Command.Other
+
+abbrev pub depositOr : ℕ → Page → Command
+depositOr c (Page.Bytes n) = Command.Deposit c n
+depositOr c Page.Nothing = Command.Other
+
+abbrev pub depositFrom : Line → Command
+depositFrom l = cond (eqb (l .words) 3 && isNumber l 0) (depositOr (number l 0) (l .page)) Command.Other
+
+unfoldable pub askedOf : Line → Command
+askedOf l =
+    cond (eqb (l .name) (packed (ascii "config"))) (configFrom l)
+    (cond (eqb (l .name) (packed (ascii "read"))) (readFrom l)
+    (cond (eqb (l .name) (packed (ascii "deposit"))) (depositFrom l) Command.Other))
+
+-- with the bytes of a page, which stand at the front of the slice
+abbrev pub given : Command → List ℕ → Asked
+given (Command.Config m n k t f) page = config m n k t f
+given (Command.Read c) page = read c
+given (Command.Deposit c n) page = deposit c (take n page)
+given Command.Other page = other

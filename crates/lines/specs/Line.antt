@@ -32,7 +32,7 @@ PageIs none page Page.Nothing = Unit {0}
 PageIs (some bytes) page (Page.Bytes n) = Kept bytes n page
 PageIs (some bytes) page Page.Nothing = ⊥
 
--- what was read of the bytes p of a line, without the line feed; of a `Line` and a page that no p gives, what `asked` answers is free
+-- what was read of the bytes p of a line, without the line feed
 pub record LineOf (p page : List ℕ) (l : Line) : Type 0 where
   pub count : l .words ≡ min 8 (length (words p))
   pub bytes : every (λ b. ltb b 256) (first (words p)) ≡ true

@@ -1,11 +1,12 @@
 -- What the code keeps of the front of a line.
 use mathlib.Core.Path.{_≡_}
-use mathlib.Core.Bool.{true, cond, _&&_}
+use mathlib.Core.Bool.{Bool, true, false, cond, not, _&&_}
 use mathlib.Core.List.{List, [], _∷_, _++_}
 use Prim.Native.Nat.{ℕ, _+_, _-_, _*_, min}
 use lib.Dec.{ltb, eqb}
 use lib.ListN.{length, set}
 use Rattle.lines.specs.declared.read.Reading.{Reading}
+use Rattle.lines.specs.declared.read.Line.{Line}
 use Rattle.lines.specs.declared.read.Page.{Page}
 use Rattle.lines.specs.Words.{words, first, later, every, odd, limit, digit, decimal, hexValue, hexDigit, hexBytes, packed, between}
 use Rattle.lines.specs.Line.{numbersOf, Kept}
@@ -34,10 +35,66 @@ numberFrom len value = cond (eqb len 0) limit value
 abbrev pub numbersWith : ℕ → List ℕ → ℕ → List ℕ
 numbersWith words numbers n = cond (between 2 7 words) (set numbers (words - 2) n) numbers
 
+-- two hex digits are a byte: with the second of them it goes into the page, where there is room
+abbrev pub puts : Bool → ℕ → ℕ → ℕ → ℕ → Bool
+puts odd high n bytes room = odd && (ltb bytes room && (ltb high 16 && ltb n 16))
+
+abbrev pub bytesWith : Bool → ℕ → ℕ → ℕ → ℕ → ℕ
+bytesWith odd high n bytes room = cond (puts odd high n bytes room) (bytes + 1) bytes
+
+abbrev pub pageWith : Bool → ℕ → ℕ → ℕ → List ℕ → List ℕ
+pageWith odd high n bytes page = cond (puts odd high n bytes (length page)) (set page bytes (high * 16 + n)) page
+
 abbrev pub pageFrom : Reading → Page
 pageFrom r =
     cond (eqb (r .word) 1535139411065) (Page.Bytes 0)
     (cond (r .hex) (cond (r .odd) Page.Nothing (cond (eqb (r .len) 0) Page.Nothing (Page.Bytes (r .bytes)))) Page.Nothing)
+
+-- ---- what is kept, and what is handed on: of whatever was kept before, and of a page of so many bytes
+
+-- so many words, the last of them empty and under way
+abbrev pub newWord : ℕ → ℕ → List ℕ → Reading
+newWord words name numbers =
+    record { words = words; name = name; numbers = numbers; word = 1; len = 0; value = 0; hex = true; odd = false; high = 0; bytes = 0 }
+
+unfoldable pub begun : Reading
+begun = newWord 1 0 (limit ∷ limit ∷ limit ∷ limit ∷ limit ∷ limit ∷ [])
+
+-- a space ends the word under way
+abbrev pub spaceOf : Reading → Reading
+spaceOf r =
+    newWord (counted (r .words)) (nameFrom (r .words) (r .name) (r .word)) (numbersWith (r .words) (r .numbers) (numberFrom (r .len) (r .value)))
+
+-- any other byte is one more of it
+abbrev pub letterOf : Reading → ℕ → ℕ → Reading
+letterOf r b room =
+    record {
+      words = r .words;
+      name = r .name;
+      numbers = r .numbers;
+      word = packedWith (r .word) (r .len) b;
+      len = counted (r .len);
+      value = valueWith (r .value) b;
+      hex = r .hex && ltb (hexValue b) 16;
+      odd = not (r .odd);
+      high = hexValue b;
+      bytes = bytesWith (r .odd) (r .high) (hexValue b) (r .bytes) room;
+    }
+
+unfoldable pub nextOf : Reading → ℕ → ℕ → Reading
+nextOf r b room = cond (eqb b 32) (spaceOf r) (letterOf r b room)
+
+unfoldable pub nextPage : Reading → ℕ → List ℕ → List ℕ
+nextPage r b page = cond (eqb b 32) page (pageWith (r .odd) (r .high) (hexValue b) (r .bytes) page)
+
+unfoldable pub endedOf : Reading → Line
+endedOf r =
+    record {
+      words = r .words;
+      name = nameFrom (r .words) (r .name) (r .word);
+      numbers = numbersWith (r .words) (r .numbers) (numberFrom (r .len) (r .value));
+      page = pageFrom r;
+    }
 
 -- ---- the word under way
 
@@ -57,7 +114,6 @@ pub record Paired (w : List ℕ) (r : Reading) (page : List ℕ) : Type 0 where
   pub kept : Kept (hexBytes w) (r .bytes) page
 
 -- ---- the front p of a line was read: some words ended, and one is under way
--- of a `Reading` and a page that no p gives, what `next` and `ended` make of them is free, the page's bytes too
 pub record Read (p : List ℕ) (r : Reading) (page : List ℕ) : Type 0 where
   pub ended : List (List ℕ)
   pub under : List ℕ

@@ -2,9 +2,9 @@
 use mathlib.Core.Path.{_≡_, refl}
 use mathlib.Core.List.{List, [], _∷_, _++_}
 use Prim.Native.Nat.{ℕ, _+_, _≤_}
-use lib.ListN.{length, take, drop}
+use lib.ListN.{length}
 use Rattle.lines.specs.Ascii.{ascii}
-use Rattle.lines.specs.Text.{over, decimalWithin, decimalOf, hexOf}
+use Rattle.lines.specs.Text.{over, written, decimalWithin, decimalOf, hexOf}
 
 -- a number after a space
 unfoldable pub spacedNumber : ℕ → List ℕ
@@ -35,19 +35,9 @@ nothingLine c = ascii "READ" ++ spacedNumber c ++ ascii " 0 none -\n"
 unfoldable pub pageLine : ℕ → ℕ → ℕ → List ℕ → List ℕ
 pageLine c sequence writer page = ascii "READ" ++ spacedNumber c ++ spacedNumber sequence ++ spacedNumber writer ++ ascii " " ++ shown page ++ ascii "\n"
 
--- bytes b are put at a place of a text that has room for them, and r is the place after them; in any case r stays within the text
+-- bytes b are put at a place of a text that has room for them, and r is the place after them
 pub record Adds (text : List ℕ) (at : ℕ) (b : List ℕ) (after : List ℕ) (r : ℕ) : Type 0 where
-  pub fits : at + length b ≤ length text → (r ≡ at + length b) × (after ≡ over text at b)
-  pub within : at ≤ length text → r ≤ length text
-  pub same : length after ≡ length text
-
--- a line stands at the front of a text that is long enough, r is its length, and the rest of the text is as it was
--- of a shorter text all bytes afterwards are free, and r is any number within it
-pub record Line (text : List ℕ) (line : List ℕ) (after : List ℕ) (r : ℕ) : Type 0 where
-  pub whole : length line ≤ length text → (r ≡ length line) × (take r after ≡ line) × (drop r after ≡ drop r text)
-  pub within : r ≤ length text
-  -- and within the text afterwards
-  pub counted : r ≡ length (take r after)
+  pub fits : at + length b ≤ length text → written after r ≡ written (over text at b) (at + length b)
 
 -- ---- examples, each computed
 

@@ -1,19 +1,30 @@
--- Words that are printed, and what it is to put them into a text.
-use mathlib.Core.Path.{_≡_}
+-- Words that are printed, and what it is to put them, or a line of them, into a text.
 use mathlib.Core.Bool.{cond}
 use mathlib.Core.List.{List, [], _∷_, _++_}
-use Prim.Native.Nat.{ℕ, zero, suc, _+_, _/_, _%_, _<_, _≤_}
-use lib.Dec.{ltb}
+use Prim.Native.Nat.{ℕ, zero, suc, _+_, _/_, _%_}
+use lib.Dec.{leb, ltb}
 use lib.ListN.{length, take, drop}
 
 -- a text with bytes b over its own from a place on
 unfoldable pub over : List ℕ → ℕ → List ℕ → List ℕ
 over text at b = take at text ++ (b ++ drop (at + length b) text)
 
--- bytes b are put at a place, and r is the place after them; where they do not fit, nothing is put
-pub data Puts (text : List ℕ) (at : ℕ) (b : List ℕ) (after : List ℕ) (r : ℕ) : Type 0 where
-  put : at + length b ≤ length text → r ≡ at + length b → after ≡ over text at b → Puts text at b after r
-  full : length text < at + length b → r ≡ at → after ≡ text → Puts text at b after r
+-- a text, and the number that is answered
+pub record Written : Type 0 where
+  pub text : List ℕ
+  pub answer : ℕ
+
+abbrev pub written : List ℕ → ℕ → Written
+written text answer = record { text = text; answer = answer }
+
+-- bytes b are put at a place, and the answer is the place after them; where they do not fit, the text stays as it was, and the answer is the place
+unfoldable pub putAt : List ℕ → ℕ → List ℕ → Written
+putAt text at b = cond (leb (at + length b) (length text)) (written (over text at b) (at + length b)) (written text at)
+
+-- a line is put at the front of a text, and the answer is its length; where it does not fit, the text stays as it was, and the answer is 0, which is
+-- no line's length
+unfoldable pub putLine : List ℕ → List ℕ → Written
+putLine text line = cond (leb (length line) (length text)) (written (line ++ drop (length line) text) (length line)) (written text 0)
 
 -- a number in decimal: one digit below 10, else the digits of its tenth and then its last digit; at most so many digits
 unfoldable pub decimalWithin : ℕ → ℕ → List ℕ

@@ -1,11 +1,8 @@
 // What a line of `stand` asks for.
 use crate::read::Line;
 use crate::read::Page;
-ghost use mathlib.Core.List.{List};
-ghost use Prim.Native.Nat.{ℕ};
-ghost use Rattle.lines.specs.Line.{LineOf};
-ghost use Rattle.lines.specs.Words.{words};
-ghost use Rattle.lines.specs.Command.{Asks, configAsked, readAsked, depositAsked, standLine};
+ghost use mathlib.Core.Path.{_≡_};
+ghost use Rattle.lines.specs.Command.{configFrom, readFrom, depositFrom, askedOf};
 
 pub enum Command {
     // m, n, k, t and F.
@@ -19,7 +16,7 @@ pub enum Command {
 
 // All words after the first are numbers: 2^32 stands for a word that is none.
 fn config(l: Line) -> Command
-    ensures { λ r. ⌜ ((p page : List ℕ) → LineOf p page l → Asks (configAsked (words p)) page r) ⌝ }
+    ensures { λ r. ⌜ r ≡ configFrom l ⌝ }
 {
     let v = l.numbers;
     if l.words != 6 {
@@ -50,7 +47,7 @@ fn config(l: Line) -> Command
 }
 
 fn read(l: Line) -> Command
-    ensures { λ r. ⌜ ((p page : List ℕ) → LineOf p page l → Asks (readAsked (words p)) page r) ⌝ }
+    ensures { λ r. ⌜ r ≡ readFrom l ⌝ }
 {
     let v = l.numbers;
     if l.words != 2 {
@@ -63,7 +60,7 @@ fn read(l: Line) -> Command
 }
 
 fn deposit(l: Line) -> Command
-    ensures { λ r. ⌜ ((p page : List ℕ) → LineOf p page l → Asks (depositAsked (words p)) page r) ⌝ }
+    ensures { λ r. ⌜ r ≡ depositFrom l ⌝ }
 {
     let v = l.numbers;
     if l.words != 3 {
@@ -81,7 +78,7 @@ fn deposit(l: Line) -> Command
 
 // The names are packed words: `config`, `read`, `deposit`.
 pub fn asked(l: Line) -> Command
-    ensures { λ r. ⌜ ((p page : List ℕ) → LineOf p page l → Asks (standLine p) page r) ⌝ }
+    ensures { λ r. ⌜ r ≡ askedOf l ⌝ }
 {
     if l.name == 390805221435751 {
         return config(l);

@@ -1,12 +1,11 @@
 // A line of text of any length, read byte by byte: its words, as numbers, and the last one as a page.
 ghost use mathlib.Core.Path.{_≡_};
-ghost use mathlib.Core.Bool.{cond, _&&_};
-ghost use mathlib.Core.List.{List, [], _∷_, _++_};
-ghost use Prim.Native.Nat.{ℕ, _+_, _*_, _<_};
+ghost use mathlib.Core.Bool.{_&&_};
+ghost use Prim.Native.Nat.{_<_};
 ghost use lib.Dec.{ltb};
+ghost use lib.ListN.{length};
 ghost use Rattle.lines.specs.Words.{between as within, hexValue};
-ghost use Rattle.lines.specs.Line.{Kept, LineOf};
-ghost use Rattle.lines.specs.Read.{Read, counted, packedWith, valueWith, nameFrom, numberFrom, numbersWith, pageFrom};
+ghost use Rattle.lines.specs.Read.{counted, packedWith, valueWith, bytesWith, pageWith, nameFrom, numberFrom, numbersWith, begun, spaceOf, letterOf, nextOf, nextPage, pageFrom, endedOf};
 
 // What was read of a line so far.
 pub struct Reading {
@@ -131,7 +130,7 @@ fn hex_with(hex: bool, n: u8) -> bool
 
 // The second hex digit of a byte: the byte goes into the page where there is room.
 fn put(odd: bool, high: u8, n: u8, bytes: usize, page: &mut [u8]) -> usize
-    ensures { λ r. ⌜ ((bs : List ℕ) → high < 16 → n < 16 → Kept bs bytes (now (page .entry)) → Kept (cond odd (bs ++ ((high * 16 + n) ∷ [])) bs) r (now (page .exit))) ⌝ }
+    ensures { λ r. ⌜ (r ≡ bytesWith odd high n bytes (length (now (page .entry)))) × (now (page .exit) ≡ pageWith odd high n bytes (now (page .entry))) ⌝ }
 {
     if !odd {
         return bytes;
@@ -185,7 +184,7 @@ fn numbers_with(words: usize, numbers: [u64; 6], n: u64) -> [u64; 6]
 }
 
 pub fn begin() -> Reading
-    ensures { λ r. ⌜ ((page : List ℕ) → Read [] r page) ⌝ }
+    ensures { λ r. ⌜ r ≡ begun ⌝ }
 {
     let numbers = [4294967296u64; 6];
     Reading {
@@ -204,7 +203,7 @@ pub fn begin() -> Reading
 
 // The word under way ends, and an empty one begins.
 fn space(r: Reading) -> Reading
-    ensures { λ s. ⌜ ((p page : List ℕ) → Read p r page → Read (p ++ (32 ∷ [])) s page) ⌝ }
+    ensures { λ s. ⌜ s ≡ spaceOf r ⌝ }
 {
     let old = r.numbers;
     let words = count(r.words);
@@ -227,7 +226,7 @@ fn space(r: Reading) -> Reading
 
 // One byte more of the word under way.
 fn letter(r: Reading, b: u8, page: &mut [u8]) -> Reading
-    ensures { λ s. ⌜ ((p : List ℕ) → (b ≡ 32 → ⊥) → Read p r (now (page .entry)) → Read (p ++ (b ∷ [])) s (now (page .exit))) ⌝ }
+    ensures { λ s. ⌜ (s ≡ letterOf r b (length (now (page .entry)))) × (now (page .exit) ≡ pageWith (r .odd) (r .high) (hexValue b) (r .bytes) (now (page .entry))) ⌝ }
 {
     let numbers = r.numbers;
     let word = packed_with(r.word, r.len, b);
@@ -252,7 +251,7 @@ fn letter(r: Reading, b: u8, page: &mut [u8]) -> Reading
 
 // One byte more of the line.
 pub fn next(r: Reading, b: u8, page: &mut [u8]) -> Reading
-    ensures { λ s. ⌜ ((p : List ℕ) → Read p r (now (page .entry)) → Read (p ++ (b ∷ [])) s (now (page .exit))) ⌝ }
+    ensures { λ s. ⌜ (s ≡ nextOf r b (length (now (page .entry)))) × (now (page .exit) ≡ nextPage r b (now (page .entry))) ⌝ }
 {
     if b == 32 {
         return space(r);
@@ -282,7 +281,7 @@ fn page_from(r: Reading) -> Page
 
 // The line ended: the word under way ends too.
 pub fn ended(r: Reading) -> Line
-    ensures { λ l. ⌜ ((p page : List ℕ) → Read p r page → LineOf p page l) ⌝ }
+    ensures { λ l. ⌜ l ≡ endedOf r ⌝ }
 {
     let old = r.numbers;
     let name = name_from(r.words, r.name, r.word);

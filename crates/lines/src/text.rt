@@ -2,9 +2,10 @@
 ghost use mathlib.Core.Path.{_≡_};
 ghost use mathlib.Core.List.{[], _∷_};
 ghost use Prim.Native.Nat.{_+_, _*_, _<_, _≤_};
+ghost use lib.Dec.{leb};
 ghost use lib.ListN.{length};
-ghost use Rattle.lines.specs.Text.{over, Puts, decimalOf, hexDigit, hexOf};
-ghost use Rattle.lines.specs.Sentences.{spacedNumber, shown, headerLine, refusedLine, depositedLine, nothingLine, pageLine, Adds, Line};
+ghost use Rattle.lines.specs.Text.{over, written, putAt, putLine, decimalOf, hexDigit, hexOf};
+ghost use Rattle.lines.specs.Sentences.{spacedNumber, shown, headerLine, refusedLine, depositedLine, nothingLine, pageLine, Adds};
 
 // Bytes that fit.
 fn copy(text: &mut [u8], at: usize, b: &[u8])
@@ -18,7 +19,7 @@ fn copy(text: &mut [u8], at: usize, b: &[u8])
 
 // Bytes as they are.
 pub fn bytes(text: &mut [u8], at: usize, b: &[u8]) -> usize
-    ensures { λ r. ⌜ Puts (now (text .entry)) at (now (b .entry)) (now (text .exit)) r ⌝ }
+    ensures { λ r. ⌜ written (now (text .exit)) r ≡ putAt (now (text .entry)) at (now (b .entry)) ⌝ }
 {
     if text.len() < at {
         return at;
@@ -31,7 +32,7 @@ pub fn bytes(text: &mut [u8], at: usize, b: &[u8]) -> usize
 }
 
 pub fn byte(text: &mut [u8], at: usize, b: u8) -> usize
-    ensures { λ r. ⌜ Puts (now (text .entry)) at (b ∷ []) (now (text .exit)) r ⌝ }
+    ensures { λ r. ⌜ written (now (text .exit)) r ≡ putAt (now (text .entry)) at (b ∷ []) ⌝ }
 {
     if text.len() <= at {
         return at;
@@ -61,7 +62,7 @@ fn spell(text: &mut [u8], at: usize, b: &[u8])
 
 // Bytes in hexadecimal, uppercase.
 pub fn hex(text: &mut [u8], at: usize, b: &[u8]) -> usize
-    ensures { λ r. ⌜ Puts (now (text .entry)) at (hexOf (now (b .entry))) (now (text .exit)) r ⌝ }
+    ensures { λ r. ⌜ written (now (text .exit)) r ≡ putAt (now (text .entry)) at (hexOf (now (b .entry))) ⌝ }
 {
     if text.len() < at {
         return at;
@@ -76,7 +77,7 @@ pub fn hex(text: &mut [u8], at: usize, b: &[u8]) -> usize
 
 // A number in decimal, without leading zeros.
 pub fn decimal(text: &mut [u8], at: usize, x: u64) -> usize
-    ensures { λ r. ⌜ Puts (now (text .entry)) at (decimalOf x) (now (text .exit)) r ⌝ }
+    ensures { λ r. ⌜ written (now (text .exit)) r ≡ putAt (now (text .entry)) at (decimalOf x) ⌝ }
 {
     let mut digits = [0u8; 20];
     let n = io::decimal(x, &mut digits);
@@ -93,7 +94,7 @@ fn spaced(text: &mut [u8], at: usize, x: u64) -> usize
 
 // A page in hexadecimal, or a word where it has no bytes.
 fn show(text: &mut [u8], at: usize, b: &[u8]) -> usize
-    ensures { λ r. ⌜ Puts (now (text .entry)) at (shown (now (b .entry))) (now (text .exit)) r ⌝ }
+    ensures { λ r. ⌜ written (now (text .exit)) r ≡ putAt (now (text .entry)) at (shown (now (b .entry))) ⌝ }
 {
     if b.len() == 0 {
         return bytes(text, at, b"empty");
@@ -101,10 +102,38 @@ fn show(text: &mut [u8], at: usize, b: &[u8]) -> usize
     hex(text, at, b)
 }
 
+// How many bytes a number takes after a space.
+fn width(x: u64) -> usize
+    ensures { λ r. ⌜ (r ≡ length (spacedNumber x)) × (r ≤ 21) ⌝ }
+{
+    let mut digits = [0u8; 20];
+    io::decimal(x, &mut digits) + 1
+}
+
+// Whether a page fits into so many bytes.
+fn show_fits(b: &[u8], room: usize) -> bool
+    ensures { λ r. ⌜ r ≡ leb (length (shown (now (b .entry)))) room ⌝ }
+{
+    if b.len() == 0 {
+        return 5 <= room;
+    }
+    // halved, as twice a length could wrap
+    b.len() <= room / 2
+}
+
 // The measures, in front of all other lines.
 pub fn header(text: &mut [u8], m: usize, n: usize, k: usize, t: usize, f: usize) -> usize
-    ensures { λ r. ⌜ Line (now (text .entry)) (headerLine m n k t f) (now (text .exit)) r ⌝ }
+    ensures { λ r. ⌜ written (now (text .exit)) r ≡ putLine (now (text .entry)) (headerLine m n k t f) ⌝ }
 {
+    let size = 4
+        + width(m as u64)
+        + width(n as u64)
+        + width(k as u64)
+        + width(t as u64)
+        + width(f as u64);
+    if text.len() < size {
+        return 0;
+    }
     let a = bytes(text, 0, b"AWE");
     let b = spaced(text, a, m as u64);
     let c = spaced(text, b, n as u64);
@@ -116,8 +145,11 @@ pub fn header(text: &mut [u8], m: usize, n: usize, k: usize, t: usize, f: usize)
 
 // A refusal, by its number.
 pub fn refused(text: &mut [u8], x: usize) -> usize
-    ensures { λ r. ⌜ Line (now (text .entry)) (refusedLine x) (now (text .exit)) r ⌝ }
+    ensures { λ r. ⌜ written (now (text .exit)) r ≡ putLine (now (text .entry)) (refusedLine x) ⌝ }
 {
+    if text.len() < 8 + width(x as u64) {
+        return 0;
+    }
     let a = bytes(text, 0, b"REFUSED");
     let b = spaced(text, a, x as u64);
     byte(text, b, b'\n')
@@ -125,8 +157,11 @@ pub fn refused(text: &mut [u8], x: usize) -> usize
 
 // A deposit that ended.
 pub fn deposited(text: &mut [u8], c: usize, sequence: u32) -> usize
-    ensures { λ r. ⌜ Line (now (text .entry)) (depositedLine c sequence) (now (text .exit)) r ⌝ }
+    ensures { λ r. ⌜ written (now (text .exit)) r ≡ putLine (now (text .entry)) (depositedLine c sequence) ⌝ }
 {
+    if text.len() < 8 + width(c as u64) + width(sequence as u64) {
+        return 0;
+    }
     let a = bytes(text, 0, b"DEPOSIT");
     let b = spaced(text, a, c as u64);
     let d = spaced(text, b, sequence as u64);
@@ -135,8 +170,11 @@ pub fn deposited(text: &mut [u8], c: usize, sequence: u32) -> usize
 
 // A reading that found nothing.
 pub fn read_nothing(text: &mut [u8], c: usize) -> usize
-    ensures { λ r. ⌜ Line (now (text .entry)) (nothingLine c) (now (text .exit)) r ⌝ }
+    ensures { λ r. ⌜ written (now (text .exit)) r ≡ putLine (now (text .entry)) (nothingLine c) ⌝ }
 {
+    if text.len() < 14 + width(c as u64) {
+        return 0;
+    }
     let a = bytes(text, 0, b"READ");
     let b = spaced(text, a, c as u64);
     bytes(text, b, b" 0 none -\n")
@@ -144,8 +182,15 @@ pub fn read_nothing(text: &mut [u8], c: usize) -> usize
 
 // A reading that found a page.
 pub fn read_page(text: &mut [u8], c: usize, sequence: u32, writer: u8, page: &[u8]) -> usize
-    ensures { λ r. ⌜ Line (now (text .entry)) (pageLine c sequence writer (now (page .entry))) (now (text .exit)) r ⌝ }
+    ensures { λ r. ⌜ written (now (text .exit)) r ≡ putLine (now (text .entry)) (pageLine c sequence writer (now (page .entry))) ⌝ }
 {
+    let rest = 6 + width(c as u64) + width(sequence as u64) + width(writer as u64);
+    if text.len() < rest {
+        return 0;
+    }
+    if !show_fits(page, text.len() - rest) {
+        return 0;
+    }
     let a = bytes(text, 0, b"READ");
     let b = spaced(text, a, c as u64);
     let d = spaced(text, b, sequence as u64);

@@ -1,41 +1,42 @@
-use native.Mathlib.Omega.{arith}
-use Rattle.lines.proofs.CommandLaws.{config-words, config-none, config-given}
+use mathlib.Core.Path.{sym}
+use borrow.Author.Tests.{eq-eqb, ne-eqb}
+use Rattle.lines.proofs.CommandLaws.{is-number, no-number}
 use borrow.Author.Needs.{needs}
 use Rattle.lines.proofs.command.config.Statement.{statement}
 use Rattle.lines.proofs.command.config.Tie as tie
 
 returns : tie.Need-returns
-returns c = λ p page o. config-words p page (c .before .before .before .args .l) o (c .if1 .taken)
+returns c = let l = c .before .before .before .args .l in sym (simp (ne-eqb (l .words) 6 (c .if1 .taken)))
 
 array-read-if2 : tie.Need-array-read-if2
 array-read-if2 c = search needs
 
 returns-2 : tie.Need-returns-2
-returns-2 c = λ p page o. config-none p page (c .before .before .before .before .args .l) o 0 (omega arith) (c .before .if1 .left) (c .if2 .taken)
+returns-2 c = let l = c .before .before .before .before .args .l in sym (simp (eq-eqb (l .words) 6 (c .before .if1 .left), no-number l 0 (c .if2 .taken)))
 
 array-read-if3 : tie.Need-array-read-if3
 array-read-if3 c = search needs
 
 returns-3 : tie.Need-returns-3
-returns-3 c = λ p page o. config-none p page (c .before .before .before .before .before .args .l) o 1 (omega arith) (c .before .before .if1 .left) (c .if3 .taken)
+returns-3 c = let l = c .before .before .before .before .before .args .l in sym (simp (eq-eqb (l .words) 6 (c .before .before .if1 .left), is-number l 0 (c .before .if2 .left), no-number l 1 (c .if3 .taken)))
 
 array-read-if4 : tie.Need-array-read-if4
 array-read-if4 c = search needs
 
 returns-4 : tie.Need-returns-4
-returns-4 c = λ p page o. config-none p page (c .before .before .before .before .before .before .args .l) o 2 (omega arith) (c .before .before .before .if1 .left) (c .if4 .taken)
+returns-4 c = let l = c .before .before .before .before .before .before .args .l in sym (simp (eq-eqb (l .words) 6 (c .before .before .before .if1 .left), is-number l 0 (c .before .before .if2 .left), is-number l 1 (c .before .if3 .left), no-number l 2 (c .if4 .taken)))
 
 array-read-if5 : tie.Need-array-read-if5
 array-read-if5 c = search needs
 
 returns-5 : tie.Need-returns-5
-returns-5 c = λ p page o. config-none p page (c .before .before .before .before .before .before .before .args .l) o 3 (omega arith) (c .before .before .before .before .if1 .left) (c .if5 .taken)
+returns-5 c = let l = c .before .before .before .before .before .before .before .args .l in sym (simp (eq-eqb (l .words) 6 (c .before .before .before .before .if1 .left), is-number l 0 (c .before .before .before .if2 .left), is-number l 1 (c .before .before .if3 .left), is-number l 2 (c .before .if4 .left), no-number l 3 (c .if5 .taken)))
 
 array-read-if6 : tie.Need-array-read-if6
 array-read-if6 c = search needs
 
 returns-6 : tie.Need-returns-6
-returns-6 c = λ p page o. config-none p page (c .before .before .before .before .before .before .before .before .args .l) o 4 (omega arith) (c .before .before .before .before .before .if1 .left) (c .if6 .taken)
+returns-6 c = let l = c .before .before .before .before .before .before .before .before .args .l in sym (simp (eq-eqb (l .words) 6 (c .before .before .before .before .before .if1 .left), is-number l 0 (c .before .before .before .before .if2 .left), is-number l 1 (c .before .before .before .if3 .left), is-number l 2 (c .before .before .if4 .left), is-number l 3 (c .before .if5 .left), no-number l 4 (c .if6 .taken)))
 
 array-read-t6 : tie.Need-array-read-t6
 array-read-t6 c = search needs
@@ -53,7 +54,7 @@ array-read-t32 : tie.Need-array-read-t32
 array-read-t32 c = search needs
 
 returns-7 : tie.Need-returns-7
-returns-7 c = λ p page o. config-given p page (c .before .before .before .before .before .before .before .before .args .l) o (c .before .before .before .before .before .if1 .left) (c .before .before .before .before .if2 .left) (c .before .before .before .if3 .left) (c .before .before .if4 .left) (c .before .if5 .left) (c .if6 .left)
+returns-7 c = let l = c .before .before .before .before .before .before .before .before .args .l in sym (simp (eq-eqb (l .words) 6 (c .before .before .before .before .before .if1 .left), is-number l 0 (c .before .before .before .before .if2 .left), is-number l 1 (c .before .before .before .if3 .left), is-number l 2 (c .before .before .if4 .left), is-number l 3 (c .before .if5 .left), is-number l 4 (c .if6 .left)))
 
 pub config-spec : {M : Type 1} → statement M
 config-spec =

@@ -1,5 +1,5 @@
 use mathlib.Core.Path.{refl}
-use Rattle.lines.proofs.ReadLaws.{line-read}
+use Rattle.lines.proofs.ReadLaws.{ended-told}
 use borrow.Author.Needs.{needs}
 use Rattle.lines.proofs.read.ended.Statement.{statement}
 use Rattle.lines.proofs.read.ended.Tie as tie
@@ -17,7 +17,7 @@ page-from-requires : tie.Need-page-from-requires
 page-from-requires c κs = search needs
 
 returns : tie.Need-returns
-returns c = λ p page. line-read p page (c .before .before .before .before .before .args .r) _ _ refl (c .before .before .before .name-from .ensures) (c .before .before .number-from .ensures) (c .before .numbers-with .ensures) (c .page-from .ensures)
+returns c = ended-told (c .before .before .before .before .before .args .r) _ _ refl (c .before .before .before .name-from .ensures) (c .before .before .number-from .ensures) (c .before .numbers-with .ensures) (c .page-from .ensures)
 
 pub ended-spec : {M : Type 1} → statement M
 ended-spec =

@@ -1,7 +1,5 @@
 use mathlib.Core.Path.{refl}
-use Prim.Native.Nat.{_<_}
-use native.Mathlib.Omega.{arith}
-use Rattle.lines.proofs.ReadLaws.{letter-read}
+use Rattle.lines.proofs.ReadLaws.{letter-told, page-more}
 use borrow.Author.Needs.{needs}
 use Rattle.lines.proofs.read.letter.Statement.{statement}
 use Rattle.lines.proofs.read.letter.Tie as tie
@@ -29,9 +27,12 @@ same-length c = search needs
 
 returns : tie.Need-returns
 returns c =
-    λ p e.
-    let h : c .before .before .before .before .before .before .before .before .before .before .before .before .args .b < 256 = omega arith in
-    letter-read p (c .before .before .before .before .before .before .before .before .before .before .before .before .args .r) _ (c .before .before .before .before .before .before .before .before .before .before .before .before .args .b) _ _ _ h e refl refl refl (c .before .before .before .before .before .before .before .before .before .packed-with .ensures) (c .before .before .before .before .before .before .before .before .count .ensures) (c .before .before .before .before .before .before .before .value-with .ensures) (c .before .before .before .before .before .before .nibble .ensures) (c .before .before .before .before .before .hex-with .ensures) refl refl (c .before .before .before .put .ensures)
+    let a = c .before .before .before .before .before .before .before .before .before .before .before .before .args in
+    let n = c .before .before .before .before .before .before .nibble .ensures in
+    let k = c .before .before .before .put .ensures in (
+      letter-told (a .r) _ _ _ _ refl refl refl (c .before .before .before .before .before .before .before .before .before .packed-with .ensures) (c .before .before .before .before .before .before .before .before .count .ensures) (c .before .before .before .before .before .before .before .value-with .ensures) n (c .before .before .before .before .before .hex-with .ensures) refl refl (k .0),
+      page-more (a .r) (a .b) _ (a .page .now) _ n (k .1),
+    )
 
 pub letter-spec : {M : Type 1} → statement M
 letter-spec =

@@ -1,4 +1,5 @@
-use Rattle.lines.proofs.ReadLaws.{byte-read}
+use mathlib.Core.Path.{_∙_}
+use Rattle.lines.proofs.ReadLaws.{next-space, next-letter}
 use borrow.Author.Needs.{needs}
 use Rattle.lines.proofs.read.next.Statement.{statement}
 use Rattle.lines.proofs.read.next.Tie as tie
@@ -7,7 +8,10 @@ space-requires : tie.Need-space-requires
 space-requires c κs = search needs
 
 returns : tie.Need-returns
-returns c = λ p o. byte-read p _ (c .before .before .before .args .b) _ (c .before .if1 .taken) (c .space .ensures p _ o)
+returns c =
+    let a = c .before .before .before .args in
+    let h = next-space (a .r) (a .b) (a .page .now) (c .before .if1 .taken) in
+    (c .space .ensures ∙ h .0, h .1)
 
 letter-requires : tie.Need-letter-requires
 letter-requires c κs = search needs
@@ -16,7 +20,10 @@ same-length : tie.Need-same-length
 same-length c = search needs
 
 returns-2 : tie.Need-returns-2
-returns-2 c = λ p o. c .before .before .letter .ensures p (c .before .before .before .before .if1 .left) o
+returns-2 c =
+    let a = c .before .before .before .before .before .before .args in
+    let h = next-letter (a .r) (a .b) (a .page .now) (c .before .before .before .before .if1 .left) in
+    (c .before .before .letter .ensures .0 ∙ h .0, c .before .before .letter .ensures .1 ∙ h .1)
 
 pub next-spec : {M : Type 1} → statement M
 next-spec = tie.close (tie.spec space-requires returns letter-requires same-length returns-2)

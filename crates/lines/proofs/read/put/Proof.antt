@@ -1,21 +1,28 @@
-use borrow.Author.Tests.{not-true, not-false}
-use native.Mathlib.Omega.{arith}
-use Rattle.lines.proofs.ReadLaws.{put-even, put-full, put-more}
+use borrow.Author.Tests.{not-true, not-false, lt-ltb, le-ltb}
 use borrow.Author.Needs.{needs}
+use lib.ListN.{length}
+use Rattle.lines.proofs.ReadLaws.{put-none, put-one}
 use Rattle.lines.proofs.read.put.Statement.{statement}
 use Rattle.lines.proofs.read.put.Tie as tie
 
 returns : tie.Need-returns
-returns c = λ bs h l k. put-even (c .before .args .odd) bs _ _ _ (not-true (c .before .args .odd) (c .if1 .taken)) k
+returns c =
+    let a = c .before .args in put-none (a .odd) (a .high) (a .n) (a .bytes) (a .page .now) (simp (not-true (a .odd) (c .if1 .taken)))
 
 returns-2 : tie.Need-returns-2
-returns-2 c = λ bs h l k. put-full (c .before .before .args .odd) bs _ _ _ (not-false (c .before .before .args .odd) (c .before .if1 .left)) (c .if2 .taken) k
+returns-2 c =
+    let a = c .before .before .args in
+    put-none (a .odd) (a .high) (a .n) (a .bytes) (a .page .now) (simp (not-false (a .odd) (c .before .if1 .left), le-ltb (a .bytes) (length (a .page .now)) (c .if2 .taken)))
 
 returns-3 : tie.Need-returns-3
-returns-3 c = λ bs h l k. absurd (omega arith)
+returns-3 c =
+    let a = c .before .before .before .args in
+    put-none (a .odd) (a .high) (a .n) (a .bytes) (a .page .now) (simp (not-false (a .odd) (c .before .before .if1 .left), lt-ltb (a .bytes) (length (a .page .now)) (c .before .if2 .left), le-ltb (a .high) 16 (c .if3 .taken)))
 
 returns-4 : tie.Need-returns-4
-returns-4 c = λ bs h l k. absurd (omega arith)
+returns-4 c =
+    let a = c .before .before .before .before .args in
+    put-none (a .odd) (a .high) (a .n) (a .bytes) (a .page .now) (simp (not-false (a .odd) (c .before .before .before .if1 .left), lt-ltb (a .bytes) (length (a .page .now)) (c .before .before .if2 .left), lt-ltb (a .high) 16 (c .before .if3 .left), le-ltb (a .n) 16 (c .if4 .taken)))
 
 mul-page : tie.Need-mul-page
 mul-page c = search needs
@@ -33,7 +40,9 @@ same-length : tie.Need-same-length
 same-length c = search needs
 
 returns-5 : tie.Need-returns-5
-returns-5 c = λ bs h l k. put-more (c .before .before .before .before .args .odd) bs _ _ _ (not-false (c .before .before .before .before .args .odd) (c .before .before .before .if1 .left)) (c .before .before .if2 .left) k
+returns-5 c =
+    let a = c .before .before .before .before .args in
+    put-one (a .odd) (a .high) (a .n) (a .bytes) (a .page .now) (not-false (a .odd) (c .before .before .before .if1 .left)) (c .before .before .if2 .left) (c .before .if3 .left) (c .if4 .left)
 
 pub put-spec : {M : Type 1} → statement M
 put-spec =

@@ -1,5 +1,4 @@
-use mathlib.Core.Path.{refl}
-use Rattle.lines.proofs.ReadLaws.{space-read}
+use Rattle.lines.proofs.ReadLaws.{space-told}
 use borrow.Author.Needs.{needs}
 use Rattle.lines.proofs.read.space.Statement.{statement}
 use Rattle.lines.proofs.read.space.Tie as tie
@@ -17,7 +16,7 @@ numbers-with-requires : tie.Need-numbers-with-requires
 numbers-with-requires c κs = search needs
 
 returns : tie.Need-returns
-returns c = λ p page. space-read p page (c .before .before .before .before .before .args .r) _ _ (c .before .before .before .count .ensures) (c .before .before .name-from .ensures) (c .before .number-from .ensures) (c .numbers-with .ensures) refl refl refl refl refl refl refl
+returns c = space-told (c .before .before .before .before .before .args .r) _ _ _ _ (c .before .before .before .count .ensures) (c .before .before .name-from .ensures) (c .before .number-from .ensures) (c .numbers-with .ensures)
 
 pub space-spec : {M : Type 1} → statement M
 space-spec =

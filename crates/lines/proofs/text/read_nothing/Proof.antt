@@ -1,9 +1,21 @@
 -- The parts are put one after another, the last at z.
-use borrow.Author.Needs.{needs}
+use native.Mathlib.Omega.{arith}
 use Rattle.lines.specs.Sentences.{nothingLine}
-use Rattle.lines.proofs.SentencesLaws.{adds-one, adds-join, adds-more, line-of}
+use Rattle.lines.proofs.LengthLaws.{nothing-size}
+use Rattle.lines.proofs.SentencesLaws.{adds-one, adds-join, adds-more, line-fits, line-full, nothing-parts}
+use borrow.Author.Needs.{needs}
 use Rattle.lines.proofs.text.read_nothing.Statement.{statement}
 use Rattle.lines.proofs.text.read_nothing.Tie as tie
+
+width-requires : tie.Need-width-requires
+width-requires c κs = search needs
+
+add-if1 : tie.Need-add-if1
+add-if1 c = search needs
+
+returns : tie.Need-returns
+returns c =
+    let a = c .before .before .before .args in line-full (a .text .now) (nothingLine (a .c)) (omega (arith, nothing-size (a .c)))
 
 slice-aggregate-bytes : tie.Need-slice-aggregate-bytes
 slice-aggregate-bytes c = search needs
@@ -23,24 +35,26 @@ bytes-requires-2 c κs = search needs
 same-length : tie.Need-same-length
 same-length c = search needs
 
-returns : tie.Need-returns
-unfolding nothingLine
-returns c =
+returns-2 : tie.Need-returns-2
+returns-2 c =
     let z = c .before .before in
     let y = z .before .before .before .before .before in
     let x = y .before .before .before .before in
-    let a = adds-one (x .bytes .ensures) in
+    let a = adds-one _ _ _ _ _ (x .bytes .ensures) in
     let b = adds-join a (y .spaced .ensures) in
-    line-of (adds-more b (z .bytes2 .ensures))
+    let s = c .before .before .before .before .before .before .before .before .before .before .before .before .before .before .before .before .before .args in line-fits (nothingLine (s .c)) _ (omega (arith, nothing-size (s .c))) (nothing-parts (s .c)) (adds-more _ _ _ b (z .bytes2 .ensures))
 
 pub read-nothing-spec : {M : Type 1} → statement M
 read-nothing-spec =
     tie.close
     (tie.spec
+    width-requires
+    add-if1
+    returns
     slice-aggregate-bytes
     bytes-requires
     spaced-requires
     slice-aggregate-bytes-2
     bytes-requires-2
     same-length
-    returns)
+    returns-2)

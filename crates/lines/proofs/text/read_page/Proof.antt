@@ -1,9 +1,50 @@
 -- The parts are put one after another, the last at z.
+use mathlib.Core.Path.{sym, _∙_}
+use native.Mathlib.Omega.{arith}
+use lib.ListN.{length}
+use borrow.Author.Tests.{not-true, not-false, leb-true, leb-false}
+use Rattle.lines.specs.Sentences.{pageLine, shown}
+use Rattle.lines.proofs.LengthLaws.{page-size}
+use Rattle.lines.proofs.SentencesLaws.{adds-one, adds-join, adds-more, line-fits, line-full, page-parts}
 use borrow.Author.Needs.{needs}
-use Rattle.lines.specs.Sentences.{pageLine}
-use Rattle.lines.proofs.SentencesLaws.{adds-one, adds-join, adds-more, line-of}
 use Rattle.lines.proofs.text.read_page.Statement.{statement}
 use Rattle.lines.proofs.text.read_page.Tie as tie
+
+width-requires : tie.Need-width-requires
+width-requires c κs = search needs
+
+add-rest : tie.Need-add-rest
+add-rest c = search needs
+
+width-requires-2 : tie.Need-width-requires-2
+width-requires-2 c κs = search needs
+
+add-rest-2 : tie.Need-add-rest-2
+add-rest-2 c = search needs
+
+width-requires-3 : tie.Need-width-requires-3
+width-requires-3 c κs = search needs
+
+add-rest-3 : tie.Need-add-rest-3
+add-rest-3 c = search needs
+
+returns : tie.Need-returns
+returns c =
+    let a = c .before .before .before .before .before .before .args in
+    line-full (a .text .now) (pageLine (a .c) (a .sequence) (a .writer) (a .page .now)) (omega (arith, page-size (a .c) (a .sequence) (a .writer) (a .page .now)))
+
+sub-show-fits : tie.Need-sub-show-fits
+sub-show-fits c = search needs
+
+show-fits-requires : tie.Need-show-fits-requires
+show-fits-requires c κs = search needs
+
+returns-2 : tie.Need-returns-2
+returns-2 c =
+    let a = c .before .before .before .before .before .before .before .before .args in
+    let f = c .before .show-fits in
+    let h = leb-false (length (shown (a .page .now))) _ (sym (f .ensures) ∙ not-true (f .result) (c .if2 .taken)) in
+    line-full (a .text .now) (pageLine (a .c) (a .sequence) (a .writer) (a .page .now)) (omega (arith, h, page-size (a .c) (a .sequence) (a .writer) (a .page .now)))
 
 slice-aggregate-bytes : tie.Need-slice-aggregate-bytes
 slice-aggregate-bytes c = search needs
@@ -32,9 +73,8 @@ byte-requires-2 c κs = search needs
 same-length : tie.Need-same-length
 same-length c = search needs
 
-returns : tie.Need-returns
-unfolding pageLine
-returns c =
+returns-3 : tie.Need-returns-3
+returns-3 c =
     let z = c .before .before in
     let y = z .before .before .before .before in
     let x = y .before .before .before .before in
@@ -42,18 +82,32 @@ returns c =
     let v = w .before .before .before .before in
     let u = v .before .before .before .before in
     let t = u .before .before .before .before in
-    let a = adds-one (t .bytes .ensures) in
+    let a = adds-one _ _ _ _ _ (t .bytes .ensures) in
     let b = adds-join a (u .spaced .ensures) in
     let d = adds-join b (v .spaced2 .ensures) in
     let e = adds-join d (w .spaced3 .ensures) in
-    let f = adds-more e (x .byte .ensures) in
-    let g = adds-more f (y .show .ensures) in
-    line-of (adds-more g (z .byte2 .ensures))
+    let f = adds-more _ _ _ e (x .byte .ensures) in
+    let g = adds-more _ _ _ f (y .show .ensures) in
+    let s = c .before .before .before .before .before .before .before .before .before .before .before .before .before .before .before .before .before .before .before .before .before .before .before .before .before .before .before .before .before .before .before .before .before .before .before .before .before .args in
+    let o = c .before .before .before .before .before .before .before .before .before .before .before .before .before .before .before .before .before .before .before .before .before .before .before .before .before .before .before .before .before in
+    let p = o .before .before in
+    let h = leb-true (length (shown (s .page .now))) _ (sym (o .before .show-fits .ensures) ∙ not-false (o .before .show-fits .result) (o .if2 .left)) in
+    line-fits (pageLine (s .c) (s .sequence) (s .writer) (s .page .now)) _ (omega (arith, h, page-size (s .c) (s .sequence) (s .writer) (s .page .now), p .if1 .left, p .before .width3 .ensures .0, p .before .before .width2 .ensures .0, p .before .before .before .width .ensures .0)) (page-parts (s .c) (s .sequence) (s .writer) (s .page .now)) (adds-more _ _ _ g (z .byte2 .ensures))
 
 pub read-page-spec : {M : Type 1} → statement M
 read-page-spec =
     tie.close
     (tie.spec
+    width-requires
+    add-rest
+    width-requires-2
+    add-rest-2
+    width-requires-3
+    add-rest-3
+    returns
+    sub-show-fits
+    show-fits-requires
+    returns-2
     slice-aggregate-bytes
     bytes-requires
     spaced-requires
@@ -63,4 +117,4 @@ read-page-spec =
     show-requires
     byte-requires-2
     same-length
-    returns)
+    returns-3)

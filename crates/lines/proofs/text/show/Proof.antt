@@ -13,7 +13,7 @@ same-length : tie.Need-same-length
 same-length c = search needs
 
 returns : tie.Need-returns
-returns c = show-none _ (c .before .before .before .before .before .if1 .taken) (c .before .before .bytes .ensures)
+returns c = show-none _ _ _ _ _ (c .before .before .before .before .before .if1 .taken) (c .before .before .bytes .ensures)
 
 hex-requires : tie.Need-hex-requires
 hex-requires c κs = search needs
@@ -22,7 +22,7 @@ same-length-2 : tie.Need-same-length-2
 same-length-2 c = search needs
 
 returns-2 : tie.Need-returns-2
-returns-2 c = show-some _ (c .before .before .before .before .if1 .left) (c .before .before .hex .ensures)
+returns-2 c = show-some _ _ _ _ _ (c .before .before .before .before .if1 .left) (c .before .before .hex .ensures)
 
 pub show-spec : {M : Type 1} → statement M
 show-spec =

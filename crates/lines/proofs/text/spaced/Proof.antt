@@ -15,7 +15,7 @@ same-length c = search needs
 
 returns : tie.Need-returns
 unfolding spacedNumber
-returns c = adds-more (adds-one (c .before .before .before .before .before .before .byte .ensures)) (c .before .before .decimal .ensures)
+returns c = adds-more _ _ _ (adds-one _ _ _ _ _ (c .before .before .before .before .before .before .byte .ensures)) (c .before .before .decimal .ensures)
 
 pub spaced-spec : {M : Type 1} → statement M
 spaced-spec = tie.close (tie.spec byte-requires decimal-requires same-length returns)
