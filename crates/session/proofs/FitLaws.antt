@@ -1,14 +1,15 @@
--- In a session whose `config` was taken the text has room for every line, so that of `Line` only the case of a whole line occurs. Of a client's answer
+-- In a session whose `config` was taken the text has room for every line, so that of `putLine` only the case of a line that fits occurs. Of a client's answer
 -- this asks that its numbers fit their types and its page the measures (`Bounded`).
 use mathlib.Core.Path.{_≡_, refl, sym, ap, _∙_}
 use mathlib.Core.Bool.{Bool, true, false, cond}
-use mathlib.Core.List.{List}
+use mathlib.Core.List.{List, _++_}
 use mathlib.Core.Option.{some, none}
 use Prim.Native.Nat.{ℕ, _+_, _-_, _*_, _<_, _≤_}
 use native.Mathlib.Omega.{arith}
-use borrow.Author.Tests.{leb-true}
+use borrow.Author.Tests.{leb-true, le-leb}
 use lib.Dec.{leb, ltb}
-use lib.ListN.{length, take, drop, length-append, length-take, length-drop, take-append-drop}
+use lib.ListN.{length, take, drop, length-append, length-take, length-drop}
+use lib.Seq.{take-at}
 use Rattle.parties.specs.declared.Measures.{Measures}
 use Rattle.parties.specs.declared.Version.{Version}
 use Rattle.parties.specs.protocol.Measures.{passes}
@@ -20,12 +21,13 @@ use Rattle.parties.specs.records.Answer.{number}
 use Rattle.title.specs.Memory.{memorySize}
 use Rattle.parties.specs.declared.ClientAnswer.{ClientAnswer}
 use Rattle.runs.specs.declared.answer.Happened.{Happened}
-use Rattle.lines.specs.Sentences.{headerLine, refusedLine, Line}
+use Rattle.lines.specs.Text.{Written, written, putLine}
+use Rattle.lines.specs.Sentences.{headerLine, refusedLine}
 use Rattle.lines.proofs.WordsLaws.{and-left, and-right}
 use Rattle.lines.proofs.LengthLaws.{header-length, refused-length, deposited-length, nothing-length, page-length}
 use Rattle.session.specs.declared.session.Session.{Session}
 use Rattle.session.specs.declared.session.Lengths.{Lengths}
-use Rattle.session.specs.Say.{clientLine, happenedLine, Says}
+use Rattle.session.specs.Say.{clientLine, happenedLine, putTold}
 use Rattle.session.specs.Session.{small, ample, Reply, refuses, opens, Replies}
 
 -- slices that suffice have a text of so many bytes
@@ -107,12 +109,14 @@ module _ (s : Measures) (ok : passes s ≡ true) where
 abbrev Whole : List ℕ → List ℕ → List ℕ → ℕ → Type 0
 Whole line text after r = (r ≡ length line) × (take r after ≡ line) × (length after ≡ length text)
 
-whole : (line text after : List ℕ) (r : ℕ) → Line text line after r → length line ≤ length text → Whole line text after r
+whole : (line text after : List ℕ) (r : ℕ) → written after r ≡ putLine text line → length line ≤ length text → Whole line text after r
+unfolding putLine
 whole line text after r x h =
-    let w = x .whole h in
-    let a : length (take r after) + length (drop r after) ≡ length after = sym (length-append (take r after) (drop r after)) ∙ ap length (take-append-drop r after) in
-    let b : length (take r after) ≡ length line = ap length (w .1) in
-    let d : length (drop r after) ≡ length text - r = ap length (w .2) ∙ length-drop r text in (w .0, w .1, omega (arith, a, b, d, w .0))
+    let w : written after r ≡ written (line ++ drop (length line) text) (length line) = x ∙ simp (le-leb (length line) (length text) h) in
+    let a : r ≡ length line = ap (λ (z : Written). z .answer) w in
+    let e : after ≡ line ++ drop (length line) text = ap (λ (z : Written). z .text) w in
+    let n : length after ≡ length text = ap length e ∙ simp (length-append, length-drop) (omega arith) in
+    (a, ap (take r) e ∙ take-at line (drop (length line) text) r (sym a), n)
 
 opened : (p q r t : Bool) (a : Reply) (memory : List ℕ)
     → cond p (cond q (cond r (cond t a (refuses 2 memory)) (refuses 2 memory)) (refuses 2 memory)) (refuses 1 memory) .stage ≡ 1
@@ -125,22 +129,22 @@ opened false q r t a memory e = absurd (omega arith)
 
 -- of a `config` that is taken
 pub header-whole : (s : Measures) (l : Lengths) (memory text memory′ text′ : List ℕ) (y : Session) (len : ℕ) → l .text ≡ length text
-    → opens s l memory .stage ≡ 1 → Replies (opens s l memory) text memory′ text′ y len
+    → opens s l memory .stage ≡ 1 → Replies (opens s l memory) s text memory′ text′ y len
     → Whole (headerLine (s .m) (s .n) (s .k) (s .t) (s .f)) text text′ len × (2 * (s .k * s .f) + 32 ≤ length text′)
 unfolding opens
 header-whole s l memory text memory′ text′ y len e g w =
     let o = opened (passes s) (small s) (ample s l) (leb (memorySize s) (length memory)) _ memory g in
-    let i : Line text (headerLine (s .m) (s .n) (s .k) (s .t) (s .f)) text′ len = rw (o .0, o .1, o .2, o .3) at (w .line) in
+    let i : written text′ len ≡ putLine text (headerLine (s .m) (s .n) (s .k) (s .t) (s .f)) = rw (o .0, o .1, o .2, o .3) at (w .line) in
     let f = text-enough s l (o .2) in
     let v = whole _ text text′ len i (omega (arith, header-fits s (o .0) (o .1))) in (v, omega (arith, v .2))
 
 -- of an answer, in a text that has room
 module _ (s : Measures) (ok : passes s ≡ true) (text after : List ℕ) (r : ℕ) (room : 2 * (s .k * s .f) + 32 ≤ length text) where
-  pub refused-whole : (x : ℕ) → x < 10 → Line text (refusedLine x) after r → Whole (refusedLine x) text after r
+  pub refused-whole : (x : ℕ) → x < 10 → written after r ≡ putLine text (refusedLine x) → Whole (refusedLine x) text after r
   refused-whole x h i = whole _ text after r i (omega (arith, refused-fits s ok x h))
 
   pub told-whole : (c : ℕ) → c < 4294967296 → (what : Happened) → ((a : ClientAnswer) → what ≡ Happened.ByClient a → Bounded s a) → (out l : List ℕ)
-      → happenedLine c what out ≡ some l → Says (happenedLine c what out) text after r → Whole l text after r
+      → happenedLine c what out ≡ some l → written after r ≡ putTold text (happenedLine c what out) → Whole l text after r
   told-whole c h what b out l e i =
       let f = line-fits s ok c h out l what b e in
-      let j : Line text l after r = rw e at i in whole l text after r j (omega arith)
+      let j : written after r ≡ putLine text l = rw e at i in whole l text after r j (omega arith)

@@ -1,7 +1,7 @@
 -- Laws of what a line of a session prints.
 use mathlib.Core.Path.{_≡_, refl, sym, ap, _∙_}
 use mathlib.Core.Bool.{Bool, true, false, cond, _&&_}
-use mathlib.Core.List.{List, [], _∷_}
+use mathlib.Core.List.{List, [], _∷_, _++_}
 use Prim.Native.Nat.{ℕ, _+_, _-_, _*_, _<_, _≤_, min}
 use native.Mathlib.Decide.{decLe}
 use native.Mathlib.Nat.{mul-le-mul}
@@ -34,16 +34,22 @@ use Rattle.runs.proofs.SendLaws.{least-taken}
 use Rattle.runs.proofs.EventLaws.{needed-room}
 use Rattle.runs.proofs.StartLaws.{deposit-long}
 use Rattle.lines.specs.declared.command.Command.{Command}
+use Rattle.lines.specs.declared.read.Reading.{Reading}
+use Rattle.lines.specs.declared.read.Line.{Line}
 use Rattle.lines.proofs.command.Command.{the-type}
 use Rattle.lines.specs.Line.{Kept}
-use Rattle.lines.specs.Command.{Asked, Asks}
-use Rattle.lines.specs.Sentences.{headerLine, refusedLine, Line}
+use Rattle.lines.specs.Read.{endedOf, Read}
+use Rattle.lines.specs.Command.{Asked, Asks, standLine, askedOf, given}
+use Rattle.lines.specs.Text.{written, putLine}
+use Rattle.lines.specs.Sentences.{headerLine, refusedLine}
+use Rattle.lines.proofs.ReadLaws.{next-read, ended-read}
+use Rattle.lines.proofs.CommandLaws.{asked-line}
 use Rattle.session.specs.declared.session.Session.{Session}
 use Rattle.session.specs.declared.session.Lengths.{Lengths}
 use Rattle.session.specs.declared.settle.Settled.{Settled}
 use Rattle.session.specs.Settle.{Desk, lend, desk, Settles}
-use Rattle.session.specs.Session.{small, ample, NewLine, Reply, refuses, opens, firstReply, configOf, Replies, First}
-use Rattle.session.specs.Session.{Reads, Deposits as StartsDeposit, Operates, Refuses, deposited, Later}
+use Rattle.session.specs.Session.{Held, newLine, deskOf, asks, small, ample, lengths, Reply, refuses, opens, firstReply, firstMeasures, Replies, First}
+use Rattle.session.specs.Session.{Reads, Deposits as StartsDeposit, Operates, Refuses, Later, Ends, within, taken}
 use Rattle.session.proofs.SessionLaws.{fresh-long}
 
 pub small-not : (s : Measures) → 3 < s .m → false ≡ small s
@@ -143,126 +149,144 @@ module _ (s : Measures) (l : Lengths) (memory : List ℕ) where
 
 -- ---- a reply
 
-pub replied : (w v : Reply) (text memory′ text′ : List ℕ) (y : Session) (n len : ℕ) → w ≡ v → Line text (v .line) text′ n → memory′ ≡ v .memory
-    → len ≡ n → NewLine y (v .stage) → y .used ≡ 0 → Replies w text memory′ text′ y len
-replied w v text memory′ text′ y n len e l m q g u = rw (e, q) (record { line = l; memory = m; next = g; used = u })
+pub replied : (w v : Reply) (s : Measures) (text memory′ text′ : List ℕ) (y : Session) (n len : ℕ) → w ≡ v → written text′ n ≡ putLine text (v .line)
+    → memory′ ≡ v .memory → len ≡ n → y ≡ newLine (v .stage) s 0 → Replies w s text memory′ text′ y len
+replied w v s text memory′ text′ y n len e l m q g = rw (e, q) (record { line = l; memory = m; next = g })
 
--- ---- what a line asks for
+-- ---- what the line that ended asks for
 
-module _ (a : Asked) (page : List ℕ) (r : Command) where
-  pub asks-config : (m n k t f : ℕ) → r ≡ Command.Config m n k t f → Asks a page r → a ≡ Asked.config m n k t f
-  asks-config = by a
-    where
-      by : (b : Asked) (m n k t f : ℕ) → r ≡ Command.Config m n k t f → Asks b page r → b ≡ Asked.config m n k t f
-      by (Asked.config m′ n′ k′ t′ f′) m n k t f e h =
-          let g : (m ≡ m′) × (n ≡ n′) × (k ≡ k′) × (t ≡ t′) × (f ≡ f′) = rw e at h in rw (g .0, g .1, g .2, g .3, g .4) refl
-      by (Asked.read c) m n k t f e h = absurd (rw e at h)
-      by (Asked.deposit c bytes) m n k t f e h = absurd (rw e at h)
-      by Asked.other m n k t f e h = absurd (rw e at h)
+pub asked-is : (r : Reading) (l : Line) (a : Command) → l ≡ endedOf r → a ≡ askedOf l → askedOf (endedOf r) ≡ a
+asked-is r l a e f = ap askedOf (sym e) ∙ sym f
 
-  pub asks-read : (c : ℕ) → r ≡ Command.Read c → Asks a page r → a ≡ Asked.read c
-  asks-read = by a
-    where
-      by : (b : Asked) (c : ℕ) → r ≡ Command.Read c → Asks b page r → b ≡ Asked.read c
-      by (Asked.config m n k t f) c e h = absurd (rw e at h)
-      by (Asked.read c′) c e h =
-          let g : c ≡ c′ = rw e at h in rw g refl
-      by (Asked.deposit c′ bytes) c e h = absurd (rw e at h)
-      by Asked.other c e h = absurd (rw e at h)
+-- ---- a first line
 
--- of a deposit: its bytes
-pub record Deposits (a : Asked) (page : List ℕ) (c n : ℕ) : Type 0 where
-  pub bytes : List ℕ
-  pub asked : a ≡ Asked.deposit c bytes
-  pub kept : Kept bytes n page
-
-pub asks-deposit : (a : Asked) (page : List ℕ) (r : Command) (c n : ℕ) → r ≡ Command.Deposit c n → Asks a page r → Deposits a page c n
-asks-deposit (Asked.config m n′ k t f) page r c n e h = absurd (rw e at h)
-asks-deposit (Asked.read c′) page r c n e h = absurd (rw e at h)
-asks-deposit (Asked.deposit c′ bytes) page r c n e h =
-    let g : (c ≡ c′) × Kept bytes n page = rw e at h in record { bytes = bytes; asked = rw (g .0) refl; kept = g .1 }
-asks-deposit Asked.other page r c n e h = absurd (rw e at h)
+module _ (r : Command) (page : List ℕ) (x : Measures) (l : Lengths) (memory text memory′ text′ : List ℕ) (y : Session) (len : ℕ) where
+  pub first-config : (s : Measures) → r ≡ Command.Config (s .m) (s .n) (s .k) (s .t) (s .f) → Replies (opens s l memory) s text memory′ text′ y len
+      → First (given r page) x l memory text memory′ text′ y len
+  first-config s e w = rw e w
 
 abbrev noConfig : List ℕ
 noConfig = 1 ∷ 2 ∷ 3 ∷ []
 
-pub first-other : (a : Asked) (page : List ℕ) (r : Command) (l : Lengths) (memory : List ℕ) → OneOf noConfig (tagOf the-type r) → Asks a page r
-    → firstReply a l memory ≡ refuses 4 memory
-first-other (Asked.config m n k t f) page (Command.Config m′ n′ k′ t′ f′) l memory o h = absurd (miss noConfig 0 tt o)
-first-other (Asked.config m n k t f) page (Command.Read c) l memory o h = absurd h
-first-other (Asked.config m n k t f) page (Command.Deposit c b) l memory o h = absurd h
-first-other (Asked.config m n k t f) page Command.Other l memory o h = absurd h
-first-other (Asked.read c) page r l memory o h = refl
-first-other (Asked.deposit c bytes) page r l memory o h = refl
-first-other Asked.other page r l memory o h = refl
-
--- a first line that is a `config`
-pub first-config : (a : Asked) (s : Measures) (l : Lengths) (memory text memory′ text′ : List ℕ) (y : Session) (len : ℕ) → a ≡ configOf s
-    → Replies (opens s l memory) text memory′ text′ y len → y .measures ≡ s → First a l memory text memory′ text′ y len
-first-config a s l memory text memory′ text′ y len e w m = rw e (record { reply = w; measures = λ o. rw m refl })
-
-pub first-refused : (a : Asked) (l : Lengths) (memory text text′ : List ℕ) (y : Session) (n len : ℕ) → firstReply a l memory ≡ refuses 4 memory
-    → Line text (refusedLine 4) text′ n → len ≡ n → NewLine y 2 → y .used ≡ 0 → First a l memory text memory text′ y len
-first-refused a l memory text text′ y n len e i q g u =
-    record { reply = replied (firstReply a l memory) (refuses 4 memory) text memory text′ y n len e i refl q g u; measures = λ o. absurd (omega (arith, o, g .stage)) }
+pub first-other : (r : Command) (page : List ℕ) (x : Measures) (l : Lengths) (memory text memory′ text′ : List ℕ) (y : Session) (len : ℕ)
+    → OneOf noConfig (tagOf the-type r) → Replies (refuses 4 memory) x text memory′ text′ y len → First (given r page) x l memory text memory′ text′ y len
+first-other (Command.Config m n k t f) page x l memory text memory′ text′ y len o w = absurd (miss noConfig 0 tt o)
+first-other (Command.Read c) page x l memory text memory′ text′ y len o w = w
+first-other (Command.Deposit c n) page x l memory text memory′ text′ y len o w = w
+first-other Command.Other page x l memory text memory′ text′ y len o w = w
 
 -- ---- a later line
 
-module _ (s : Measures) (page : List ℕ) (x y : Desk) where
-  pub later-reads : (a : Asked) (c : ℕ) → a ≡ Asked.read c → Operates s c (Reads s c (x .used) (x .lent)) x y → Later a s page x y
-  later-reads a c e o = rw e o
+module _ (r : Command) (page : List ℕ) (s : Measures) (x y : Desk) where
+  pub later-reads : (c : ℕ) → r ≡ Command.Read c → Operates s c (Reads s c (x .used) (x .lent)) x y → Later (given r page) s x y
+  later-reads c e o = rw e o
 
-  pub later-deposits : (a : Asked) (c n : ℕ) → Deposits a page c n
-      → ((bytes : List ℕ) → Kept bytes n page → Operates s c (StartsDeposit s c (x .used) (deposited s page bytes) (x .lent)) x y) → Later a s page x y
-  later-deposits a c n d o = rw (d .asked) (o (d .bytes) (d .kept))
+  pub later-deposits : (c n : ℕ) → r ≡ Command.Deposit c n → Operates s c (StartsDeposit s c (x .used) (take n page) (x .lent)) x y → Later (given r page) s x y
+  later-deposits c n e o = rw e o
 
 abbrev noOperation : List ℕ
 noOperation = 0 ∷ 3 ∷ []
 
-pub later-other : (s : Measures) (page : List ℕ) (x y : Desk) (a : Asked) (r : Command) → OneOf noOperation (tagOf the-type r) → Asks a page r
-    → Refuses 4 x y → Later a s page x y
-later-other s page x y (Asked.config m n k t f) r o h z = z
-later-other s page x y (Asked.read c) (Command.Config m n k t f) o h z = absurd h
-later-other s page x y (Asked.read c) (Command.Read c′) o h z = absurd (miss noOperation 1 tt o)
-later-other s page x y (Asked.read c) (Command.Deposit c′ b) o h z = absurd h
-later-other s page x y (Asked.read c) Command.Other o h z = absurd h
-later-other s page x y (Asked.deposit c bytes) (Command.Config m n k t f) o h z = absurd h
-later-other s page x y (Asked.deposit c bytes) (Command.Read c′) o h z = absurd h
-later-other s page x y (Asked.deposit c bytes) (Command.Deposit c′ b) o h z = absurd (miss noOperation 2 tt o)
-later-other s page x y (Asked.deposit c bytes) Command.Other o h z = absurd h
-later-other s page x y Asked.other r o h z = z
+pub later-other : (r : Command) (page : List ℕ) (s : Measures) (x y : Desk) → OneOf noOperation (tagOf the-type r) → Refuses 4 x y → Later (given r page) s x y
+later-other (Command.Config m n k t f) page s x y o z = z
+later-other (Command.Read c) page s x y o z = absurd (miss noOperation 1 tt o)
+later-other (Command.Deposit c n) page s x y o z = absurd (miss noOperation 2 tt o)
+later-other Command.Other page s x y o z = z
 
-pub refused-again : (x : Lent) (text text′ : List ℕ) (n k used used′ len : ℕ) → len ≡ k → used′ ≡ used → Line text (refusedLine n) text′ k
+pub refused-again : (x : Lent) (text text′ : List ℕ) (n k used used′ len : ℕ) → len ≡ k → used′ ≡ used → written text′ k ≡ putLine text (refusedLine n)
     → Refuses n (desk x used text 0) (desk x used′ text′ len)
 refused-again x text text′ n k used used′ len e u l = record { line = rw e l; lent = refl; used = u }
 
+-- ---- a line of bytes p: what is kept of it asks for what p asks for
+
+module _ (l : Lengths) (memory : List ℕ) (x s : Measures) where
+  first-line : (a : Asked) (page : List ℕ) (r : Command) → Asks a page r
+      → (firstReply (given r page) l memory ≡ firstReply (within s page a) l memory) × (firstMeasures (given r page) x ≡ firstMeasures (within s page a) x)
+  first-line (Asked.config m n k t f) page (Command.Config m′ n′ k′ t′ f′) h = rw (h .0, h .1, h .2, h .3, h .4) (refl, refl)
+  first-line (Asked.config m n k t f) page (Command.Read c) h = absurd h
+  first-line (Asked.config m n k t f) page (Command.Deposit c b) h = absurd h
+  first-line (Asked.config m n k t f) page Command.Other h = absurd h
+  first-line (Asked.read c) page (Command.Config m n k t f) h = absurd h
+  first-line (Asked.read c) page (Command.Read c′) h = (refl, refl)
+  first-line (Asked.read c) page (Command.Deposit c′ b) h = absurd h
+  first-line (Asked.read c) page Command.Other h = absurd h
+  first-line (Asked.deposit c bytes) page (Command.Config m n k t f) h = absurd h
+  first-line (Asked.deposit c bytes) page (Command.Read c′) h = absurd h
+  first-line (Asked.deposit c bytes) page (Command.Deposit c′ n) h = (refl, refl)
+  first-line (Asked.deposit c bytes) page Command.Other h = absurd h
+  first-line Asked.other page (Command.Config m n k t f) h = absurd h
+  first-line Asked.other page (Command.Read c) h = absurd h
+  first-line Asked.other page (Command.Deposit c n) h = absurd h
+  first-line Asked.other page Command.Other h = (refl, refl)
+
 -- the part of the slice that is deposited: the bytes that were given, as far as there was room
-kept-page : (given page : List ℕ) (bytes n : ℕ) → Kept given bytes page → n ≡ min bytes (length page) → take n page ≡ take (length page) given
-kept-page given page bytes n k e =
-    let z : n ≡ bytes = omega (arith, e, k .size) in
-    let w : n ≡ min (length page) (length given) = omega (arith, e, k .size) in
-    rw (z, k .front) (rw z at (least-taken (length page) n given w))
+kept-page : (bytes page : List ℕ) (n : ℕ) → Kept bytes n page → take n page ≡ take (length page) bytes
+kept-page bytes page n k =
+    let w : n ≡ min (length page) (length bytes) = omega (arith, k .size) in k .front ∙ least-taken (length page) n bytes w
 
 -- if more were given, the page is too long for the measures either way
-pub kept-starts : (s : Measures) (c used bytes n : ℕ) (given page memory post memory′ post′ : List ℕ) (turn : Turn) → Kept given bytes page → n ≡ min bytes (length page)
-    → Happens s honestAll (deposit c (take n page)) c 1 used (lend memory post [] []) (lend memory′ post′ [] []) turn
-    → Happens s honestAll (deposit c (deposited s page given)) c 1 used (lend memory post [] []) (lend memory′ post′ [] []) turn
-kept-starts s c used bytes n given page memory post memory′ post′ turn k e h = go (ltb (s .k * s .f - 4) (length page)) refl
+kept-starts : (s : Measures) (c used n : ℕ) (bytes page : List ℕ) (x y : Lent) (turn : Turn) → Kept bytes n page
+    → StartsDeposit s c used (take n page) x y turn → StartsDeposit s c used (cond (ltb (s .k * s .f - 4) (length page)) bytes (take (length page) bytes)) x y turn
+kept-starts s c used n bytes page x y turn k h = go (ltb (s .k * s .f - 4) (length page)) refl
   where
-    part : Happens s honestAll (deposit c (take (length page) given)) c 1 used (lend memory post [] []) (lend memory′ post′ [] []) turn
-    part = rw (kept-page given page bytes n k e) at h
+    by : (b : List ℕ) → Happens s honestAll (deposit c b) c 1 used (alone x) (alone y) turn → StartsDeposit s c used b x y turn
+    by b e = record { event = e; room = h .room; out = h .out }
 
-    whole : s .k * s .f - 4 < length page → Dec (length given ≤ length page) → Happens s honestAll (deposit c given) c 1 used (lend memory post [] []) (lend memory′ post′ [] []) turn
-    whole w (yes l) = rw (take-all (length page) given l) at part
+    part : Happens s honestAll (deposit c (take (length page) bytes)) c 1 used (alone x) (alone y) turn
+    part = rw (kept-page bytes page n k) at (h .event)
+
+    whole : s .k * s .f - 4 < length page → Dec (length bytes ≤ length page) → Happens s honestAll (deposit c bytes) c 1 used (alone x) (alone y) turn
+    whole w (yes l) = rw (take-all (length page) bytes l) at part
     whole w (no l) =
-        let m : length page ≤ length given = omega arith in
-        let a : s .k * s .f - 4 < length (take (length page) given) = omega (arith, length-take-le (length page) given m) in
-        let b : s .k * s .f - 4 < length given = omega arith in deposit-long s honestAll c used (lend memory post [] []) (lend memory′ post′ [] []) (take (length page) given) given a b turn part
+        let m : length page ≤ length bytes = omega arith in
+        let a : s .k * s .f - 4 < length (take (length page) bytes) = omega (arith, length-take-le (length page) bytes m) in
+        let b : s .k * s .f - 4 < length bytes = omega arith in deposit-long s honestAll c used (alone x) (alone y) (take (length page) bytes) bytes a b turn part
 
-    go : (b : Bool) → ltb (s .k * s .f - 4) (length page) ≡ b
-        → Happens s honestAll (deposit c (cond b given (take (length page) given))) c 1 used (lend memory post [] []) (lend memory′ post′ [] []) turn
-    go true q = whole (ltb-true (s .k * s .f - 4) (length page) q) (decLe (length given) (length page))
-    go false q = part
+    go : (b : Bool) → ltb (s .k * s .f - 4) (length page) ≡ b → StartsDeposit s c used (cond b bytes (take (length page) bytes)) x y turn
+    go true q = by bytes (whole (ltb-true (s .k * s .f - 4) (length page) q) (decLe (length bytes) (length page)))
+    go false q = by (take (length page) bytes) part
+
+module _ (s : Measures) (x y : Desk) where
+  later-line : (a : Asked) (page : List ℕ) (r : Command) → Asks a page r → Later (given r page) s x y → Later (within s page a) s x y
+  later-line (Asked.config m n k t f) page (Command.Config m′ n′ k′ t′ f′) h z = z
+  later-line (Asked.config m n k t f) page (Command.Read c) h z = absurd h
+  later-line (Asked.config m n k t f) page (Command.Deposit c b) h z = absurd h
+  later-line (Asked.config m n k t f) page Command.Other h z = absurd h
+  later-line (Asked.read c) page (Command.Config m n k t f) h z = absurd h
+  later-line (Asked.read c) page (Command.Read c′) h z = rw h at z
+  later-line (Asked.read c) page (Command.Deposit c′ b) h z = absurd h
+  later-line (Asked.read c) page Command.Other h z = absurd h
+  later-line (Asked.deposit c bytes) page (Command.Config m n k t f) h z = absurd h
+  later-line (Asked.deposit c bytes) page (Command.Read c′) h z = absurd h
+  later-line (Asked.deposit c bytes) page (Command.Deposit c′ n) h z =
+      let o : Operates s c (StartsDeposit s c (x .used) (take n page) (x .lent)) x y = rw (h .0) at z in
+      record { turn = o .turn; mid = o .mid; starts = kept-starts s c (x .used) n bytes page (x .lent) (o .mid) (o .turn) (h .1) (o .starts); settles = o .settles }
+  later-line (Asked.deposit c bytes) page Command.Other h z = absurd h
+  later-line Asked.other page (Command.Config m n k t f) h z = absurd h
+  later-line Asked.other page (Command.Read c) h z = absurd h
+  later-line Asked.other page (Command.Deposit c n) h z = absurd h
+  later-line Asked.other page Command.Other h z = z
+
+-- so, where the front p of a line was read, its end is as p says
+pub ends-line : (p : List ℕ) (x y : Held) (len : ℕ) → Read p (x .session .reading) (x .page) → Ends x (asks x) y len
+    → Ends x (within (x .session .measures) (x .page) (standLine p)) y len
+ends-line p x y len h e =
+    let l = endedOf (x .session .reading) in
+    let q : Asks (standLine p) (x .page) (askedOf l) = asked-line p (x .page) l (ended-read p (x .page) (x .session .reading) h) in
+    record {
+      page = e .page;
+      first = λ z.
+          let f = e .first z in
+          let g = first-line (lengths x) (x .lent .memory) (x .session .measures) (x .session .measures) (standLine p) (x .page) (askedOf l) q in
+          (rw (g .0, g .1) at (f .0), f .1, f .2, f .3);
+      later = λ z.
+          let f = e .later z in (later-line (x .session .measures) (deskOf x 0) (deskOf y len) (standLine p) (x .page) (askedOf l) q (f .0), f .1);
+      over = e .over;
+    }
+
+-- and each byte more is read
+pub taken-read : (p : List ℕ) (x : Held) (b : ℕ) → b < 256 → Read p (x .session .reading) (x .page) → Read (p ++ (b ∷ [])) (taken x b .session .reading) (taken x b .page)
+taken-read p x b u h = next-read p (x .session .reading) b (x .page) u h
 
 -- an operation, from its start on
 module _ (s : Measures) (c used : ℕ) (before mid end : Lent) (turn : Turn) (text text′ : List ℕ) (r : Settled) (used′ len : ℕ)

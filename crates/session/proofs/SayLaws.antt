@@ -6,7 +6,8 @@ use Prim.Native.Nat.{ℕ, min}
 use denote.Enum.Declared.{tagOf}
 use types.Run.{OneOf, miss}
 use lib.ListN.{length, take}
-use Rattle.lines.specs.Sentences.{refusedLine, depositedLine, nothingLine, pageLine, Line}
+use Rattle.lines.specs.Text.{written, putLine}
+use Rattle.lines.specs.Sentences.{refusedLine, depositedLine, nothingLine, pageLine}
 use Rattle.parties.specs.declared.Version.{Version}
 use Rattle.parties.specs.records.Answer.{number}
 use Rattle.parties.specs.declared.Refusal.{Refusal}
@@ -15,11 +16,11 @@ use Rattle.parties.proofs.ClientAnswer.{the-type as the-client-type}
 use Rattle.runs.specs.declared.answer.Happened.{Happened}
 use Rattle.runs.proofs.answer.Happened.{the-type}
 use Rattle.runs.proofs.SendLaws.{least-taken}
-use Rattle.session.specs.Say.{clientLine, happenedLine, Says}
+use Rattle.session.specs.Say.{clientLine, happenedLine, putTold}
 
 -- a line that is the one to be told
-pub as-told : {o : Option (List ℕ)} {l text after : List ℕ} {r : ℕ} → o ≡ some l → Line text l after r → Says o text after r
-as-told {o} {l} {text} {after} {r} e x = rw e x
+pub as-told : (o : Option (List ℕ)) (l text after : List ℕ) (r : ℕ) → o ≡ some l → written after r ≡ putLine text l → written after r ≡ putTold text o
+as-told o l text after r e x = rw e x
 
 -- ---- an answer's line
 
@@ -48,8 +49,8 @@ module _ (c : ℕ) (what : Happened) (out : List ℕ) where
   pub happened-refused : (r : Refusal) (n : ℕ) → what ≡ Happened.Refused r → n ≡ number r → happenedLine c what out ≡ some (refusedLine n)
   happened-refused r n e f = rw (e, f) refl
 
-  pub happened-client : (a : ClientAnswer) (text after : List ℕ) (r : ℕ) → what ≡ Happened.ByClient a → Says (clientLine c a out) text after r
-      → Says (happenedLine c what out) text after r
+  pub happened-client : (a : ClientAnswer) (text after : List ℕ) (r : ℕ) → what ≡ Happened.ByClient a → written after r ≡ putTold text (clientLine c a out)
+      → written after r ≡ putTold text (happenedLine c what out)
   happened-client a text after r e x = rw e x
 
 -- the answers with no line
@@ -80,5 +81,5 @@ happened-silent c (Happened.ByClient a) out k = absurd (miss quiet 3 tt k)
 happened-silent c (Happened.ByServer a) out k = refl
 
 -- nothing is told
-pub untold : {o : Option (List ℕ)} (text : List ℕ) → o ≡ none → Says o text text 0
-untold {o} text e = rw e (refl, refl)
+pub untold : (o : Option (List ℕ)) (text : List ℕ) → o ≡ none → written text 0 ≡ putTold text o
+untold o text e = rw e refl

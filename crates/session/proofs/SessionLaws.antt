@@ -26,10 +26,11 @@ use Rattle.runs.specs.Happens.{Happens}
 use Rattle.runs.specs.Oldest.{honestAll}
 use Rattle.runs.proofs.RunClaim.{fresh-after}
 use Rattle.runs.proofs.OldestLaws.{Continues, continues-more, happens-continues, lent-more}
+use Rattle.lines.proofs.ReadLaws.{begun-read}
 use Rattle.session.specs.declared.session.Session.{Session}
 use Rattle.session.specs.declared.settle.Settled.{Settled}
 use Rattle.session.specs.Settle.{Settles}
-use Rattle.session.specs.Session.{Runs, Held, LiveIn, held, Feeds, FeedsAll, FeedsInput}
+use Rattle.session.specs.Session.{Runs, Live, newLine, started, Held, LiveIn, held, Feeds, FeedsAll, FeedsInput}
 use Rattle.session.proofs.SettleLaws.{settles-continue}
 
 -- ---- a run begins
@@ -45,6 +46,10 @@ fresh-long s memory a k ok e f = go (decLe (memorySize s) (length memory))
         let g : serves k ≡ refuses 2 = sym (ap served e) ∙ f ∙ sym (fresh-refused s memory 2 (short ok (omega arith)) .0) in
         let z : _≡_ {A = ℕ} 0 1 = cc in absurd (omega arith)
 
+-- before the first line there is none
+pub started-live : (memory post page : List ℕ) → Live started memory post page
+started-live memory post page = record { runs = λ e. absurd (omega arith); line = []; read = begun-read page }
+
 pub fresh-runs : (x : Session) (s : Measures) (memory after post : List ℕ) (a : Service) (k : ℕ) → x .measures ≡ s → x .used ≡ 0 → passes s ≡ true
     → a ≡ Service.Served k → served a ≡ memoryFresh s memory .answer → after ≡ memoryFresh s memory .memory → Runs x after post
 fresh-runs x s memory after post a k m u ok e f g =
@@ -56,6 +61,15 @@ fresh-runs x s memory after post a k m u ok e f g =
           rw (m, u, g)
           (fresh-after s honestAll (memoryFresh s memory .memory) post (fresh-serves s ok honestAll memory (fresh-long s memory a k ok e f)));
     }
+
+-- a new line is read so far
+pub new-live : (y : Session) (stage : ℕ) (s : Measures) (used : ℕ) (memory post page : List ℕ) → y ≡ newLine stage s used → (stage ≡ 1 → Runs y memory post)
+    → Live y memory post page
+new-live y stage s used memory post page e f =
+    record { runs = λ o. f (sym (ap (λ (x : Session). x .stage) e) ∙ o); line = []; read = rw (ap (λ (x : Session). x .reading) e) (begun-read page) }
+
+pub new-same : (y : Session) (stage : ℕ) (s : Measures) (used : ℕ) → y ≡ newLine stage s used → y ≡ newLine stage s (y .used)
+new-same y stage s used e = e ∙ ap (λ (n : ℕ). newLine stage s n) (sym (ap (λ (x : Session). x .used) e))
 
 -- ---- it goes on
 

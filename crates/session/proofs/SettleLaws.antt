@@ -13,9 +13,10 @@ use Rattle.runs.specs.declared.answer.Turn.{Turn}
 use Rattle.runs.specs.UnderWay.{After}
 use Rattle.runs.specs.Acts.{Lent}
 use Rattle.runs.specs.Oldest.{honestAll}
+use Rattle.lines.specs.Text.{written}
 use Rattle.runs.proofs.OldestLaws.{Continues, continues-same, continues-more, oldest-continues}
 use Rattle.session.specs.declared.settle.Settled.{Settled}
-use Rattle.session.specs.Say.{happenedLine, Says}
+use Rattle.session.specs.Say.{happenedLine, putTold}
 use Rattle.session.specs.Settle.{Desk, desk, Hands, Settles}
 
 -- ---- what a run makes of it
@@ -66,14 +67,14 @@ module _ (s : Measures) (c : ℕ) where
       → ((start : Desk) (n : ℕ) → Hands s c start n y → Hands s c start (n + 1) z) → Settling s c x z (left - 1)
   settling-more x y z left l h f = record { events = h .events + 1; count = omega (arith, h .count); hands = f x (h .events) (h .hands) }
 
-  pub settling-ends : (start : Turn) (x y : Lent) (text said text′ : List ℕ) (len left : ℕ) (r : Settled) → Says (happenedLine c (start .what) (x .out)) text said len
+  pub settling-ends : (start : Turn) (x y : Lent) (text said text′ : List ℕ) (len left : ℕ) (r : Settled) → written said len ≡ putTold text (happenedLine c (start .what) (x .out))
       → Settling s c (desk x (start .used) said len) (desk y (r .used) text′ (r .len)) left
       → (r .used ≡ 0) ⊎ (left ≡ 0) → Settles s c start x text y text′ r
   settling-ends start x y text said text′ len left r o h d =
       record {
         said = said;
         len = len;
-        starts = record { n = len; says = o; length = latest-first len };
+        starts = record { n = len; says = o; lineLength = latest-first len };
         events = h .events;
         most = omega (arith, h .count);
         done = over d;

@@ -1,10 +1,10 @@
 -- The line that tells how an operation ended.
-use mathlib.Core.Path.{_≡_}
 use mathlib.Core.List.{List}
 use mathlib.Core.Option.{Option, some, none}
 use Prim.Native.Nat.{ℕ}
 use lib.ListN.{take}
-use Rattle.lines.specs.Sentences.{refusedLine, depositedLine, nothingLine, pageLine, Line}
+use Rattle.lines.specs.Text.{Written, written, putLine}
+use Rattle.lines.specs.Sentences.{refusedLine, depositedLine, nothingLine, pageLine}
 use Rattle.parties.specs.records.Answer.{number}
 use Rattle.parties.specs.declared.ClientAnswer.{ClientAnswer}
 use Rattle.runs.specs.declared.answer.Happened.{Happened}
@@ -30,7 +30,7 @@ happenedLine c Happened.Taken out = none
 happenedLine c (Happened.ByClient a) out = clientLine c a out
 happenedLine c (Happened.ByServer a) out = none
 
--- it stands at the front of the text; if there is none, the text is as it was
-abbrev pub Says : Option (List ℕ) → List ℕ → List ℕ → ℕ → Type 0
-Says none text after r = (r ≡ 0) × (after ≡ text)
-Says (some l) text after r = Line text l after r
+-- it is put at the front of the text; if there is none, the text stays as it was, and the answer is 0
+abbrev pub putTold : List ℕ → Option (List ℕ) → Written
+putTold text none = written text 0
+putTold text (some l) = putLine text l

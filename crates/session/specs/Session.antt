@@ -17,9 +17,10 @@ use Rattle.runs.specs.UnderWay.{After}
 use Rattle.runs.specs.Acts.{Lent}
 use Rattle.runs.specs.Happens.{needed, Happens}
 use Rattle.runs.specs.Oldest.{honestAll, without, alone}
-use Rattle.lines.specs.Read.{Read}
-use Rattle.lines.specs.Command.{Asked, standLine}
-use Rattle.lines.specs.Sentences.{headerLine, refusedLine, Line}
+use Rattle.lines.specs.Read.{begun as lineBegun, nextOf, nextPage, endedOf, Read}
+use Rattle.lines.specs.Command.{Asked, askedOf, given}
+use Rattle.lines.specs.Text.{written, putLine}
+use Rattle.lines.specs.Sentences.{headerLine, refusedLine}
 use Rattle.session.specs.declared.session.Session.{Session}
 use Rattle.session.specs.declared.session.Lengths.{Lengths}
 use Rattle.session.specs.Settle.{Desk, desk, Settles}
@@ -40,10 +41,12 @@ pub record Live (x : Session) (memory post page : List ℕ) : Type 0 where
   pub read : Read line (x .reading) page
 
 -- a new line is read, and nothing of it yet
-pub record NewLine (y : Session) (at : ℕ) : Type 0 where
-  pub stage : y .stage ≡ at
-  pub closed : y .open ≡ false
-  pub read : (page : List ℕ) → Read [] (y .reading) page
+abbrev pub newLine : ℕ → Measures → ℕ → Session
+newLine stage s used = record { stage = stage; measures = s; used = used; «open» = false; reading = lineBegun }
+
+-- before the first line there are no measures
+abbrev pub started : Session
+started = newLine 0 (record { m = 0; n = 0; k = 0; t = 0; f = 0 }) 0
 
 -- all that a session has from byte to byte
 pub record Held : Type 0 where
@@ -61,6 +64,10 @@ held x lent page text = record { session = x; lent = lent; page = page; text = t
 -- with the length of a line in the text
 abbrev pub deskOf : Held → ℕ → Desk
 deskOf x len = desk (x .lent) (x .session .used) (x .text) len
+
+-- what the line that is read asks for, if it ends here
+abbrev pub asks : Held → Asked
+asks x = given (askedOf (endedOf (x .session .reading))) (x .page)
 
 -- ---- the first line
 
@@ -105,20 +112,21 @@ firstReply (Asked.read c) l memory = refuses 4 memory
 firstReply (Asked.deposit c bytes) l memory = refuses 4 memory
 firstReply Asked.other l memory = refuses 4 memory
 
-abbrev pub configOf : Measures → Asked
-configOf s = Asked.config (s .m) (s .n) (s .k) (s .t) (s .f)
+-- a `config` sets the measures, and any other first line leaves them
+abbrev pub firstMeasures : Asked → Measures → Measures
+firstMeasures (Asked.config m n k t f) s = record { m = m; n = n; k = k; t = t; f = f }
+firstMeasures (Asked.read c) s = s
+firstMeasures (Asked.deposit c bytes) s = s
+firstMeasures Asked.other s = s
 
--- a reply is printed
-pub record Replies (w : Reply) (text memory′ text′ : List ℕ) (y : Session) (len : ℕ) : Type 0 where
-  pub line : Line text (w .line) text′ len
+-- a reply is printed, and the measures are these
+pub record Replies (w : Reply) (s : Measures) (text memory′ text′ : List ℕ) (y : Session) (len : ℕ) : Type 0 where
+  pub line : written text′ len ≡ putLine text (w .line)
   pub memory : memory′ ≡ w .memory
-  pub next : NewLine y (w .stage)
-  pub used : y .used ≡ 0
+  pub next : y ≡ newLine (w .stage) s 0
 
--- and a `config` that is taken has set the measures
-pub record First (a : Asked) (l : Lengths) (memory text memory′ text′ : List ℕ) (y : Session) (len : ℕ) : Type 0 where
-  pub reply : Replies (firstReply a l memory) text memory′ text′ y len
-  pub measures : y .stage ≡ 1 → a ≡ configOf (y .measures)
+abbrev pub First : Asked → Measures → Lengths → List ℕ → List ℕ → List ℕ → List ℕ → Session → ℕ → Type 0
+First a s l memory text memory′ text′ y len = Replies (firstReply a l memory) (firstMeasures a s) text memory′ text′ y len
 
 -- ---- a later line
 
@@ -141,54 +149,53 @@ pub record Operates (s : Measures) (c : ℕ) (Starts : Lent → Turn → Type 0)
 
 -- a refusal, by its number
 pub record Refuses (n : ℕ) (x y : Desk) : Type 0 where
-  pub line : Line (x .text) (refusedLine n) (y .text) (y .len)
+  pub line : written (y .text) (y .len) ≡ putLine (x .text) (refusedLine n)
   pub lent : y .lent ≡ x .lent
   pub used : y .used ≡ x .used
 
--- the bytes that are deposited: all; of a slice that would be too short for the measures, those for which it has room
-abbrev pub deposited : Measures → List ℕ → List ℕ → List ℕ
-deposited s page bytes = cond (ltb (s .k * s .f - 4) (length page)) bytes (take (length page) bytes)
-
 -- a `config`, or a line of another form: 4
-abbrev pub Later : Asked → Measures → List ℕ → Desk → Desk → Type 0
-Later (Asked.config m n k t f) s page x y = Refuses 4 x y
-Later (Asked.read c) s page x y = Operates s c (Reads s c (x .used) (x .lent)) x y
-Later (Asked.deposit c bytes) s page x y = Operates s c (Deposits s c (x .used) (deposited s page bytes) (x .lent)) x y
-Later Asked.other s page x y = Refuses 4 x y
+abbrev pub Later : Asked → Measures → Desk → Desk → Type 0
+Later (Asked.config m n k t f) s x y = Refuses 4 x y
+Later (Asked.read c) s x y = Operates s c (Reads s c (x .used) (x .lent)) x y
+Later (Asked.deposit c bytes) s x y = Operates s c (Deposits s c (x .used) bytes (x .lent)) x y
+Later Asked.other s x y = Refuses 4 x y
 
--- ---- a line p ended, by the stage; the page is as it was
--- of a session whose reading no p gives, nothing of this is promised; free are the measures after a first line that is refused
+-- ---- a line that asks for this ended, by the stage; the page is as it was
 
-pub record Ends (x : Held) (p : List ℕ) (y : Held) (len : ℕ) : Type 0 where
-  pub first : x .session .stage ≡ 0 → First (standLine p) (lengths x) (x .lent .memory) (x .text) (y .lent .memory) (y .text) (y .session) len
+pub record Ends (x : Held) (a : Asked) (y : Held) (len : ℕ) : Type 0 where
+  pub page : y .page ≡ x .page
+  pub first : x .session .stage ≡ 0 → First a (x .session .measures) (lengths x) (x .lent .memory) (x .text) (y .lent .memory) (y .text) (y .session) len
       × (y .lent .post ≡ x .lent .post) × (y .lent .room ≡ x .lent .room) × (y .lent .out ≡ x .lent .out)
-  pub later : x .session .stage ≡ 1 → Later (standLine p) (x .session .measures) (x .page) (deskOf x 0) (deskOf y len)
-      × NewLine (y .session) 1 × (y .session .measures ≡ x .session .measures)
+  pub later : x .session .stage ≡ 1 → Later a (x .session .measures) (deskOf x 0) (deskOf y len)
+      × (y .session ≡ newLine 1 (x .session .measures) (y .session .used))
   pub over : 1 < x .session .stage → (y ≡ x) × (len ≡ 0)
+
+-- of the bytes p of a line it is `standLine p` that is asked for; but of a page, where the slice would be too short for the measures, only the bytes
+-- for which it has room
+abbrev pub within : Measures → List ℕ → Asked → Asked
+within s page (Asked.config m n k t f) = Asked.config m n k t f
+within s page (Asked.read c) = Asked.read c
+within s page (Asked.deposit c bytes) = Asked.deposit c (cond (ltb (s .k * s .f - 4) (length page)) bytes (take (length page) bytes))
+within s page Asked.other = Asked.other
 
 -- ---- a byte b of a line: nothing is printed
 
-pub record Takes (x : Held) (b : ℕ) (y : Held) : Type 0 where
-  pub lent : y .lent ≡ x .lent
-  pub text : y .text ≡ x .text
-  pub stage : y .session .stage ≡ x .session .stage
-  pub measures : y .session .measures ≡ x .session .measures
-  pub used : y .session .used ≡ x .session .used
-  pub opened : y .session .open ≡ true
-  pub read : (p : List ℕ) → Read p (x .session .reading) (x .page) → Read (p ++ (b ∷ [])) (y .session .reading) (y .page)
+abbrev pub taken : Held → ℕ → Held
+taken x b =
+    held (record { stage = x .session .stage; measures = x .session .measures; used = x .session .used; «open» = true; reading = nextOf (x .session .reading) b (length (x .page)) })
+    (x .lent) (nextPage (x .session .reading) b (x .page)) (x .text)
 
 -- ---- a byte of the input: a line feed ends the line; in any case a session stays live
--- of a session whose reading no p gives, a line feed leaves all but the page free, and any other byte the reading and the page
 
 pub record Feeds (x : Held) (b : ℕ) (y : Held) (len : ℕ) : Type 0 where
   pub live : LiveIn x → LiveIn y
-  pub ends : b ≡ 10 → (y .page ≡ x .page) × ((p : List ℕ) → Read p (x .session .reading) (x .page) → Ends x p y len)
-  pub takes : (b ≡ 10 → ⊥) → Takes x b y × (len ≡ 0)
+  pub ends : b ≡ 10 → Ends x (asks x) y len
+  pub takes : (b ≡ 10 → ⊥) → (y ≡ taken x b) × (len ≡ 0)
 
--- its end: a last line may lack its line feed; if no p gives the reading, all but the page is free
+-- its end: a last line may lack its line feed
 pub record Closes (x y : Held) (len : ℕ) : Type 0 where
   pub live : LiveIn x → LiveIn y
-  pub ends : x .session .open ≡ true → (p : List ℕ) → Read p (x .session .reading) (x .page) → Ends x p y len
+  pub ends : x .session .open ≡ true → Ends x (asks x) y len
   pub over : x .session .open ≡ false → (y ≡ x) × (len ≡ 0)
 
 -- bytes of the input, one after the other

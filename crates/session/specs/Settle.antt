@@ -12,8 +12,9 @@ use Rattle.runs.specs.declared.answer.Happened.{Happened}
 use Rattle.runs.specs.declared.answer.Turn.{Turn}
 use Rattle.runs.specs.Acts.{Lent}
 use Rattle.runs.specs.Oldest.{Oldest}
+use Rattle.lines.specs.Text.{written}
 use Rattle.session.specs.declared.settle.Settled.{Settled}
-use Rattle.session.specs.Say.{happenedLine, Says}
+use Rattle.session.specs.Say.{happenedLine, putTold}
 
 -- what is lent, the bytes of parcels under way, the text, and the length of its line
 pub record Desk : Type 0 where
@@ -31,8 +32,8 @@ desk lent used text len = record { lent = lent; used = used; text = text; len = 
 -- the line of an answer, if it has one, takes the place of the one before
 pub record Tells (c : ℕ) (what : Happened) (out text : List ℕ) (len : ℕ) (text′ : List ℕ) (len′ : ℕ) : Type 0 where
   pub n : ℕ
-  pub says : Says (happenedLine c what out) text text′ n
-  pub length : len′ ≡ cond (ltb 0 n) n len
+  pub says : written text′ n ≡ putTold text (happenedLine c what out)
+  pub lineLength : len′ ≡ cond (ltb 0 n) n len
 
 -- so many parcels are handed over, the oldest first; the room and the output have bytes in them
 pub data Hands (s : Measures) (c : ℕ) (x : Desk) : ℕ → Desk → Type 0 where

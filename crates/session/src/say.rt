@@ -6,10 +6,12 @@ use lines::text::refused;
 use parties::ClientAnswer;
 use runs::answer::Happened;
 use runs::least::least;
-ghost use Rattle.session.specs.Say.{clientLine, happenedLine, Says};
+ghost use mathlib.Core.Path.{_≡_};
+ghost use Rattle.lines.specs.Text.{written};
+ghost use Rattle.session.specs.Say.{clientLine, happenedLine, putTold};
 
 fn client(c: usize, a: ClientAnswer, out: &[u8], text: &mut [u8]) -> usize
-    ensures { λ r. ⌜ Says (clientLine c a (now (out .entry))) (now (text .entry)) (now (text .exit)) r ⌝ }
+    ensures { λ r. ⌜ written (now (text .exit)) r ≡ putTold (now (text .entry)) (clientLine c a (now (out .entry))) ⌝ }
 {
     match a {
         ClientAnswer::Refused(r) => refused(text, r.number()),
@@ -29,9 +31,9 @@ fn client(c: usize, a: ClientAnswer, out: &[u8], text: &mut [u8]) -> usize
     }
 }
 
-// The line's length, or 0 if client c's operation goes on.
+// The line's length, or 0 if client c's operation goes on or the line does not fit.
 pub fn say(c: usize, what: Happened, out: &[u8], text: &mut [u8]) -> usize
-    ensures { λ r. ⌜ Says (happenedLine c what (now (out .entry))) (now (text .entry)) (now (text .exit)) r ⌝ }
+    ensures { λ r. ⌜ written (now (text .exit)) r ≡ putTold (now (text .entry)) (happenedLine c what (now (out .entry))) ⌝ }
 {
     match what {
         Happened::Refused(r) => refused(text, r.number()),

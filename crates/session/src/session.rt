@@ -16,15 +16,15 @@ use runs::event::reading;
 use runs::least::least;
 use title::fresh::fresh;
 ghost use mathlib.Core.Path.{_≡_};
-ghost use mathlib.Core.Bool.{true, false};
+ghost use mathlib.Core.Bool.{true};
 ghost use mathlib.Core.List.{List};
 ghost use Prim.Native.Nat.{ℕ};
+ghost use lib.ListN.{take};
 ghost use Rattle.parties.specs.protocol.Measures.{passes};
-ghost use Rattle.lines.specs.Line.{Kept};
-ghost use Rattle.lines.specs.Read.{Read};
-ghost use Rattle.lines.specs.Command.{standLine};
+ghost use Rattle.lines.specs.Read.{endedOf};
+ghost use Rattle.lines.specs.Command.{askedOf, given};
 ghost use Rattle.session.specs.Settle.{lend, desk};
-ghost use Rattle.session.specs.Session.{Runs, Live, NewLine, held, small as fits, ample as suffice, opens, Replies, First, Reads, Deposits, Operates, deposited, Later, Ends, Feeds, Closes};
+ghost use Rattle.session.specs.Session.{Runs, Live, newLine, started, held, small as fits, ample as suffice, opens, Replies, First, Reads, Deposits, Operates, Later, Ends, Feeds, Closes};
 
 pub struct Session {
     // 0 before the first line, 1 after a `config`, 2 after a first line that was refused.
@@ -53,7 +53,7 @@ pub struct Lengths {
 }
 
 pub fn start() -> Session
-    ensures { λ r. ⌜ NewLine r 0 × ((memory post page : List ℕ) → Live r memory post page) ⌝ }
+    ensures { λ r. ⌜ r ≡ started ⌝ }
 {
     Session {
         stage: 0,
@@ -72,8 +72,7 @@ pub fn start() -> Session
 
 // A new line is read.
 fn at_stage(stage: u8, measures: Measures, used: usize, len: usize) -> Answer
-    ensures { λ r. ⌜ (r .len ≡ len) × NewLine (r .session) stage × (r .session .measures ≡ measures) × (r .session .used ≡ used)
-        × ((memory post page : List ℕ) → (stage ≡ 1 → Runs (r .session) memory post) → Live (r .session) memory post page) ⌝ }
+    ensures { λ r. ⌜ (r .len ≡ len) × (r .session ≡ newLine stage measures used) ⌝ }
 {
     Answer {
         session: Session {
@@ -132,7 +131,7 @@ fn ample(s: Measures, l: Lengths) -> bool
 // Measures out of bounds come before those that are too big.
 fn config(s: Measures, l: Lengths, memory: &mut [u8], text: &mut [u8]) -> Answer
     ensures { λ r. ⌜ ((post page : List ℕ) → Live (r .session) (now (memory .exit)) post page)
-        × Replies (opens s l (now (memory .entry))) (now (text .entry)) (now (memory .exit)) (now (text .exit)) (r .session) (r .len) × (r .session .measures ≡ s) ⌝ }
+        × Replies (opens s l (now (memory .entry))) s (now (text .entry)) (now (memory .exit)) (now (text .exit)) (r .session) (r .len) ⌝ }
 {
     if !s.pass() {
         let n = refused(text, 1);
@@ -161,7 +160,7 @@ fn config(s: Measures, l: Lengths, memory: &mut [u8], text: &mut [u8]) -> Answer
 // The first line.
 fn first(x: Session, l: Lengths, memory: &mut [u8], text: &mut [u8]) -> Answer
     ensures { λ r. ⌜ ((post page : List ℕ) → Live (r .session) (now (memory .exit)) post page)
-        × ((p page : List ℕ) → Read p (x .reading) page → First (standLine p) l (now (memory .entry)) (now (text .entry)) (now (memory .exit)) (now (text .exit)) (r .session) (r .len)) ⌝ }
+        × ((page : List ℕ) → First (given (askedOf (endedOf (x .reading))) page) (x .measures) l (now (memory .entry)) (now (text .entry)) (now (memory .exit)) (now (text .exit)) (r .session) (r .len)) ⌝ }
 {
     let r = x.reading;
     match asked(ended(r)) {
@@ -188,7 +187,7 @@ fn read(
         × Operates s c (Reads s c used (lend (now (memory .entry)) (now (post .entry)) (now (room .entry)) (now (out .entry))))
         (desk (lend (now (memory .entry)) (now (post .entry)) (now (room .entry)) (now (out .entry))) used (now (text .entry)) 0)
         (desk (lend (now (memory .exit)) (now (post .exit)) (now (room .exit)) (now (out .exit))) (r .session .used) (now (text .exit)) (r .len))
-        × NewLine (r .session) 1 × (r .session .measures ≡ s) ⌝ }
+        × (r .session ≡ newLine 1 s (r .session .used)) ⌝ }
 {
     let turn = reading(s, c, memory, room, post, used);
     let e = settle(s, c, turn, memory, room, out, post, text);
@@ -208,10 +207,10 @@ fn put(
     text: &mut [u8],
 ) -> Answer
     ensures { λ r. ⌜ ((sheet : List ℕ) (x : Session) → x .measures ≡ s → x .used ≡ used → Runs x (now (memory .entry)) (now (post .entry)) → Live (r .session) (now (memory .exit)) (now (post .exit)) sheet)
-        × ((given : List ℕ) → Kept given bytes (now (page .entry)) → Operates s c (Deposits s c used (deposited s (now (page .entry)) given) (lend (now (memory .entry)) (now (post .entry)) (now (room .entry)) (now (out .entry))))
+        × Operates s c (Deposits s c used (take bytes (now (page .entry))) (lend (now (memory .entry)) (now (post .entry)) (now (room .entry)) (now (out .entry))))
         (desk (lend (now (memory .entry)) (now (post .entry)) (now (room .entry)) (now (out .entry))) used (now (text .entry)) 0)
-        (desk (lend (now (memory .exit)) (now (post .exit)) (now (room .exit)) (now (out .exit))) (r .session .used) (now (text .exit)) (r .len)))
-        × NewLine (r .session) 1 × (r .session .measures ≡ s) ⌝ }
+        (desk (lend (now (memory .exit)) (now (post .exit)) (now (room .exit)) (now (out .exit))) (r .session .used) (now (text .exit)) (r .len))
+        × (r .session ≡ newLine 1 s (r .session .used)) ⌝ }
 {
     let n = least(bytes, page.len());
     let turn = deposit(s, c, memory, &page[..n], post, used);
@@ -230,10 +229,10 @@ fn later(
     text: &mut [u8],
 ) -> Answer
     ensures { λ r. ⌜ (x .stage ≡ 1 → Live x (now (memory .entry)) (now (post .entry)) (now (page .entry)) → Live (r .session) (now (memory .exit)) (now (post .exit)) (now (page .entry)))
-        × ((p : List ℕ) → Read p (x .reading) (now (page .entry)) → Later (standLine p) (x .measures) (now (page .entry))
+        × Later (given (askedOf (endedOf (x .reading))) (now (page .entry))) (x .measures)
         (desk (lend (now (memory .entry)) (now (post .entry)) (now (room .entry)) (now (out .entry))) (x .used) (now (text .entry)) 0)
-        (desk (lend (now (memory .exit)) (now (post .exit)) (now (room .exit)) (now (out .exit))) (r .session .used) (now (text .exit)) (r .len)))
-        × NewLine (r .session) 1 × (r .session .measures ≡ x .measures) ⌝ }
+        (desk (lend (now (memory .exit)) (now (post .exit)) (now (room .exit)) (now (out .exit))) (r .session .used) (now (text .exit)) (r .len))
+        × (r .session ≡ newLine 1 (x .measures) (r .session .used)) ⌝ }
 {
     let r = x.reading;
     let s = x.measures;
@@ -260,8 +259,9 @@ fn line(
     text: &mut [u8],
 ) -> Answer
     ensures { λ r. ⌜ (Live x (now (memory .entry)) (now (post .entry)) (now (page .entry)) → Live (r .session) (now (memory .exit)) (now (post .exit)) (now (page .entry)))
-        × ((p : List ℕ) → Read p (x .reading) (now (page .entry)) → Ends (held x (lend (now (memory .entry)) (now (post .entry)) (now (room .entry)) (now (out .entry))) (now (page .entry)) (now (text .entry))) p
-        (held (r .session) (lend (now (memory .exit)) (now (post .exit)) (now (room .exit)) (now (out .exit))) (now (page .entry)) (now (text .exit))) (r .len)) ⌝ }
+        × Ends (held x (lend (now (memory .entry)) (now (post .entry)) (now (room .entry)) (now (out .entry))) (now (page .entry)) (now (text .entry)))
+        (given (askedOf (endedOf (x .reading))) (now (page .entry)))
+        (held (r .session) (lend (now (memory .exit)) (now (post .exit)) (now (room .exit)) (now (out .exit))) (now (page .entry)) (now (text .exit))) (r .len) ⌝ }
 {
     if x.stage == 0 {
         let l = Lengths {

@@ -24,7 +24,7 @@ same-length c = search needs
 returns : tie.Need-returns
 returns c =
     let a = c .before .before .before .before .before .before .before .before .before .before .args in
-    as-told (happened-refused (a .c) (a .what) (a .out .now) _ _ (c .before .before .before .before .before .before .what .given .1) (c .before .before .before .number .ensures)) (c .before .before .refused .ensures)
+    as-told _ _ _ _ _ (happened-refused (a .c) (a .what) (a .out .now) _ _ (c .before .before .before .before .before .before .what .given .1) (c .before .before .before .number .ensures)) (c .before .before .refused .ensures)
 
 same-length-2 : tie.Need-same-length-2
 same-length-2 c = search needs
@@ -35,7 +35,7 @@ returns-2 c =
 
 returns-3 : tie.Need-returns-3
 returns-3 c =
-    let a = c .before .before .before .args in untold (a .text .now) (happened-silent (a .c) (a .what) (a .out .now) (c .match .keys3))
+    let a = c .before .before .before .args in untold _ (a .text .now) (happened-silent (a .c) (a .what) (a .out .now) (c .match .keys3))
 
 pub say-spec : {M : Type 1} → statement M
 say-spec =

@@ -1,5 +1,4 @@
 use mathlib.Core.Path.{refl}
-use mathlib.Core.List.{[]}
 use borrow.Author.Needs.{needs}
 use Rattle.session.proofs.session.at_stage.Statement.{statement}
 use Rattle.session.proofs.session.at_stage.Tie as tie
@@ -8,7 +7,7 @@ begin-requires : tie.Need-begin-requires
 begin-requires c κs = search needs
 
 returns : tie.Need-returns
-returns c = (refl, record { stage = refl; closed = refl; read = c .begin .ensures }, refl, refl, λ memory post page f. record { runs = f; line = []; read = c .begin .ensures page })
+returns c = (refl, rw (c .begin .ensures) refl)
 
 pub at-stage-spec : {M : Type 1} → statement M
 at-stage-spec = tie.close (tie.spec begin-requires returns)

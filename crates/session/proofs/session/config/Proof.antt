@@ -1,12 +1,13 @@
-use mathlib.Core.Path.{_≡_, sym, _∙_, refl}
+use mathlib.Core.Path.{_≡_, sym, ap, _∙_, refl}
 use mathlib.Core.Bool.{true}
 use native.Mathlib.Omega.{arith}
 use borrow.Author.Tests.{not-false, not-true}
 use borrow.Author.Needs.{needs}
 use Rattle.parties.specs.protocol.Measures.{passes}
+use Rattle.session.specs.declared.session.Session.{Session}
 use Rattle.session.specs.Session.{small, ample}
 use Rattle.session.proofs.LineLaws.{opens-measures, opens-big, opens-scarce, opens-short, opens-taken, replied}
-use Rattle.session.proofs.SessionLaws.{fresh-runs}
+use Rattle.session.proofs.SessionLaws.{new-live, fresh-runs}
 use Rattle.session.proofs.session.config.Statement.{statement}
 use Rattle.session.proofs.session.config.Tie as tie
 
@@ -35,9 +36,8 @@ returns : tie.Need-returns
 returns c =
     let a = c .at-stage .ensures in
     let no = sym (c .before .before .before .before .before .before .pass .ensures) ∙ not-true (c .before .before .before .before .before .before .pass .result) (c .before .before .before .before .before .if1 .taken) in (
-      λ post page. a .4 _ post page (λ e. absurd (omega arith)),
-      replied _ _ _ _ _ _ _ _ (opens-measures _ _ _ no) (c .before .before .before .refused .ensures) refl (a .0) (a .1) (a .3),
-      a .2,
+      λ post page. new-live _ _ _ _ _ post page (a .1) (λ e. absurd (omega arith)),
+      replied _ _ _ _ _ _ _ _ _ (opens-measures _ _ _ no) (c .before .before .before .refused .ensures) refl (a .0) (a .1),
     )
 
 small-requires : tie.Need-small-requires
@@ -56,9 +56,8 @@ returns-2 : tie.Need-returns-2
 returns-2 c =
     let a = c .at-stage2 .ensures in
     let no = sym (c .before .before .before .before .before .before .small .ensures) ∙ not-true (c .before .before .before .before .before .before .small .result) (c .before .before .before .before .before .if2 .taken) in (
-      λ post page. a .4 _ post page (λ e. absurd (omega arith)),
-      replied _ _ _ _ _ _ _ _ (opens-big _ _ _ (passing (c .before .before .before .before .before .before .before)) no) (c .before .before .before .refused2 .ensures) refl (a .0) (a .1) (a .3),
-      a .2,
+      λ post page. new-live _ _ _ _ _ post page (a .1) (λ e. absurd (omega arith)),
+      replied _ _ _ _ _ _ _ _ _ (opens-big _ _ _ (passing (c .before .before .before .before .before .before .before)) no) (c .before .before .before .refused2 .ensures) refl (a .0) (a .1),
     )
 
 ample-requires : tie.Need-ample-requires
@@ -77,9 +76,8 @@ returns-3 : tie.Need-returns-3
 returns-3 c =
     let a = c .at-stage3 .ensures in
     let no = sym (c .before .before .before .before .before .before .ample .ensures) ∙ not-true (c .before .before .before .before .before .before .ample .result) (c .before .before .before .before .before .if3 .taken) in (
-      λ post page. a .4 _ post page (λ e. absurd (omega arith)),
-      replied _ _ _ _ _ _ _ _ (opens-scarce _ _ _ (passing (c .before .before .before .before .before .before .before .before .before)) (fitting (c .before .before .before .before .before .before .before)) no) (c .before .before .before .refused3 .ensures) refl (a .0) (a .1) (a .3),
-      a .2,
+      λ post page. new-live _ _ _ _ _ post page (a .1) (λ e. absurd (omega arith)),
+      replied _ _ _ _ _ _ _ _ _ (opens-scarce _ _ _ (passing (c .before .before .before .before .before .before .before .before .before)) (fitting (c .before .before .before .before .before .before .before)) no) (c .before .before .before .refused3 .ensures) refl (a .0) (a .1),
     )
 
 fresh-requires : tie.Need-fresh-requires
@@ -118,9 +116,8 @@ returns-4 c =
     let f = c .before .before .before .before .before .before .before .before .before .before .before .fresh in
     let g = c .before .before .before .before .before .before .before .before .before .before .before .before .before .before .before .before .before .before .before .before .before .args in
     let o = opens-short (g .s) (g .l) (g .memory .now) (f .result) _ _ (passing (c .before .before .before .before .before .before .before .before .before .before .before .before .before .before .before .before .before)) (fitting (c .before .before .before .before .before .before .before .before .before .before .before .before .before .before .before)) (sufficing (c .before .before .before .before .before .before .before .before .before .before .before .before .before)) (c .before .before .before .before .before .before .before .x .given .1) (f .ensures .0) (c .before .before .before .before .number .ensures) in (
-      λ post page. a .4 _ post page (λ e. absurd (omega arith)),
-      replied _ _ _ _ _ _ _ _ (o .0) (c .before .before .before .refused4 .ensures) (f .ensures .1 ∙ o .1) (a .0) (a .1) (a .3),
-      a .2,
+      λ post page. new-live _ _ _ _ _ post page (a .1) (λ e. absurd (omega arith)),
+      replied _ _ _ _ _ _ _ _ _ (o .0) (c .before .before .before .refused4 .ensures) (f .ensures .1 ∙ o .1) (a .0) (a .1),
     )
 
 same-length-6 : tie.Need-same-length-6
@@ -136,9 +133,8 @@ returns-5 c =
     let g = c .before .before .before .before .before .before .before .before .before .before .before .before .before .before .before .before .before .before .before .args in
     let ok = passing (c .before .before .before .before .before .before .before .before .before .before .before .before .before .before .before) in
     let t = c .before .before .before .before .before .enum-told .given .1 in (
-      λ post page. a .4 _ post page (λ e. fresh-runs _ _ (g .memory .now) _ post (f .result) _ (a .2) (a .3) ok t (f .ensures .0) (f .ensures .1)),
-      replied _ _ _ _ _ _ _ _ (opens-taken (g .s) (g .l) (g .memory .now) (f .result) _ ok (fitting (c .before .before .before .before .before .before .before .before .before .before .before .before .before)) (sufficing (c .before .before .before .before .before .before .before .before .before .before .before)) t (f .ensures .0)) (c .before .before .before .header .ensures) (f .ensures .1) (a .0) (a .1) (a .3),
-      a .2,
+      λ post page. new-live _ _ _ _ _ post page (a .1) (λ e. fresh-runs _ (g .s) (g .memory .now) _ post (f .result) _ (ap (λ (y : Session). y .measures) (a .1)) (ap (λ (y : Session). y .used) (a .1)) ok t (f .ensures .0) (f .ensures .1)),
+      replied _ _ _ _ _ _ _ _ _ (opens-taken (g .s) (g .l) (g .memory .now) (f .result) _ ok (fitting (c .before .before .before .before .before .before .before .before .before .before .before .before .before)) (sufficing (c .before .before .before .before .before .before .before .before .before .before .before)) t (f .ensures .0)) (c .before .before .before .header .ensures) (f .ensures .1) (a .0) (a .1),
     )
 
 pub config-spec : {M : Type 1} → statement M

@@ -1,7 +1,8 @@
+use mathlib.Core.Path.{refl, _∙_}
 use native.Mathlib.Omega.{arith}
 use borrow.Author.Needs.{needs}
-use Rattle.lines.specs.Command.{standLine}
-use Rattle.session.proofs.LineLaws.{asks-config, first-other, first-config, first-refused}
+use Rattle.session.proofs.LineLaws.{asked-is, replied, first-other, first-config}
+use Rattle.session.proofs.SessionLaws.{new-live}
 use Rattle.session.proofs.session.first.Statement.{statement}
 use Rattle.session.proofs.session.first.Tie as tie
 
@@ -31,19 +32,19 @@ same-length-2 c = search needs
 
 returns : tie.Need-returns
 returns c =
-    let k = c .before .before .before .before .config .ensures in (
-      k .0,
-      λ p page h. first-config _ _ _ _ _ _ _ _ _ (asks-config _ page (c .before .before .before .before .before .before .before .before .before .before .asked .result) _ _ _ _ _ (c .before .before .before .before .before .before .before .before .m .given .1) (c .before .before .before .before .before .before .before .before .before .before .asked .ensures p page (c .before .before .before .before .before .before .before .before .before .before .before .ended .ensures p page h))) (k .1) (k .2),
-    )
+    let k = c .before .before .before .before .config .ensures in
+    let a = c .before .before .before .before .before .before .before .before .before .before in
+    (k .0, λ page. first-config _ page _ _ _ _ _ _ _ _ _ (asked-is _ _ _ (a .before .ended .ensures) (a .asked .ensures) ∙ c .before .before .before .before .before .before .before .before .m .given .1) (k .1))
 
 same-length-3 : tie.Need-same-length-3
 same-length-3 c = search needs
 
 returns-2 : tie.Need-returns-2
 returns-2 c =
-    let a = c .at-stage .ensures in (
-      λ post page. a .4 _ post page (λ e. absurd (omega arith)),
-      λ p page h. first-refused (standLine p) _ _ _ _ _ _ _ (first-other (standLine p) page (c .before .before .before .before .before .before .before .asked .result) _ _ (c .before .before .before .before .before .before .match .keys2) (c .before .before .before .before .before .before .before .asked .ensures p page (c .before .before .before .before .before .before .before .before .ended .ensures p page h))) (c .before .before .before .refused .ensures) (a .0) (a .1) (a .3),
+    let a = c .at-stage .ensures in
+    let k = c .before .before .before .before .before .before .before in (
+      λ post page. new-live _ _ _ _ _ post page (a .1) (λ e. absurd (omega arith)),
+      λ page. rw (asked-is _ _ _ (k .before .ended .ensures) (k .asked .ensures)) (first-other (k .asked .result) page _ _ _ _ _ _ _ _ (c .before .before .before .before .before .before .match .keys2) (replied _ _ _ _ _ _ _ _ _ refl (c .before .before .before .refused .ensures) refl (a .0) (a .1))),
     )
 
 pub first-spec : {M : Type 1} → statement M

@@ -1,8 +1,8 @@
-use mathlib.Core.Path.{refl}
+use mathlib.Core.Path.{refl, ap, _∙_}
 use borrow.Author.Needs.{needs}
-use Rattle.lines.specs.Command.{standLine}
-use Rattle.session.proofs.LineLaws.{asks-read, asks-deposit, later-reads, later-deposits, later-other, refused-again}
-use Rattle.session.proofs.SessionLaws.{runs-same}
+use Rattle.session.specs.declared.session.Session.{Session}
+use Rattle.session.proofs.LineLaws.{asked-is, later-reads, later-deposits, later-other, refused-again}
+use Rattle.session.proofs.SessionLaws.{new-live, new-same, runs-same}
 use Rattle.session.proofs.session.later.Statement.{statement}
 use Rattle.session.proofs.session.later.Tie as tie
 
@@ -48,11 +48,11 @@ same-length-5 c = search needs
 returns : tie.Need-returns
 returns c =
     let k = c .before .before .before .before .before .before .before .before .before .before .read .ensures in
+    let m = c .before .before .before .before .before .before .before .before .before .before .before .before .before .before .before .before .before in
     let g = c .before .before .before .before .before .before .before .before .before .before .before .before .before .before .before .before .before .before .before .before .before .before .before .before .before .before .before .before .before .args in (
       λ e l. k .0 _ _ refl refl (l .runs e),
-      λ p h. later-reads _ (g .page .now) _ _ (standLine p) _ (asks-read (standLine p) (g .page .now) (c .before .before .before .before .before .before .before .before .before .before .before .before .before .before .before .before .before .before .before .asked .result) _ (c .before .before .before .before .before .before .before .before .before .before .before .before .before .before .before .before .before .c .given .1) (c .before .before .before .before .before .before .before .before .before .before .before .before .before .before .before .before .before .before .before .asked .ensures p (g .page .now) (c .before .before .before .before .before .before .before .before .before .before .before .before .before .before .before .before .before .before .before .before .ended .ensures p (g .page .now) h))) (k .1),
+      later-reads _ (g .page .now) _ _ _ _ (asked-is _ _ _ (m .before .before .before .ended .ensures) (m .before .before .asked .ensures) ∙ m .c .given .1) (k .1),
       k .2,
-      k .3,
     )
 
 same-length-6 : tie.Need-same-length-6
@@ -73,11 +73,11 @@ same-length-10 c = search needs
 returns-2 : tie.Need-returns-2
 returns-2 c =
     let k = c .before .before .before .before .before .before .before .before .before .before .put .ensures in
+    let m = c .before .before .before .before .before .before .before .before .before .before .before .before .before .before .before .before .before in
     let g = c .before .before .before .before .before .before .before .before .before .before .before .before .before .before .before .before .before .before .before .before .before .before .before .before .before .before .before .before .before .args in (
       λ e l. k .0 _ _ refl refl (l .runs e),
-      λ p h. later-deposits _ (g .page .now) _ _ (standLine p) _ _ (asks-deposit (standLine p) (g .page .now) (c .before .before .before .before .before .before .before .before .before .before .before .before .before .before .before .before .before .before .before .asked .result) _ _ (c .before .before .before .before .before .before .before .before .before .before .before .before .before .before .before .before .before .c2 .given .1) (c .before .before .before .before .before .before .before .before .before .before .before .before .before .before .before .before .before .before .before .asked .ensures p (g .page .now) (c .before .before .before .before .before .before .before .before .before .before .before .before .before .before .before .before .before .before .before .before .ended .ensures p (g .page .now) h))) (k .1),
+      later-deposits _ (g .page .now) _ _ _ _ _ (asked-is _ _ _ (m .before .before .before .ended .ensures) (m .before .before .asked .ensures) ∙ m .c2 .given .1) (k .1),
       k .2,
-      k .3,
     )
 
 same-length-11 : tie.Need-same-length-11
@@ -86,11 +86,12 @@ same-length-11 c = search needs
 returns-3 : tie.Need-returns-3
 returns-3 c =
     let a = c .at-stage .ensures in
-    let g = c .before .before .before .before .before .before .before .before .before .before .before .before .before .before .before .before .args in (
-      λ e l. a .4 _ _ _ (λ f. runs-same _ _ _ _ (a .2) (a .3) (l .runs e)),
-      λ p h. later-other _ (g .page .now) _ _ (standLine p) (c .before .before .before .before .before .before .asked .result) (c .before .before .before .before .before .match .keys3) (c .before .before .before .before .before .before .asked .ensures p (g .page .now) (c .before .before .before .before .before .before .before .ended .ensures p (g .page .now) h)) (refused-again _ _ _ _ _ _ _ _ (a .0) (a .3) (c .before .before .before .refused .ensures)),
-      a .1,
-      a .2,
+    let k = c .before .before .before .before .before .before in
+    let g = c .before .before .before .before .before .before .before .before .before .before .before .before .before .before .before .before .args in
+    let u = ap (λ (y : Session). y .used) (a .1) in (
+      λ e l. new-live _ _ _ _ _ _ _ (a .1) (λ f. runs-same _ _ _ _ (ap (λ (y : Session). y .measures) (a .1)) u (l .runs e)),
+      rw (asked-is _ _ _ (k .before .ended .ensures) (k .asked .ensures)) (later-other (k .asked .result) (g .page .now) _ _ _ (c .before .before .before .before .before .match .keys3) (refused-again _ _ _ _ _ _ _ _ (a .0) u (c .before .before .before .refused .ensures))),
+      new-same _ _ _ _ (a .1),
     )
 
 pub later-spec : {M : Type 1} → statement M

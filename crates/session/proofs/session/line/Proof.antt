@@ -17,7 +17,7 @@ returns : tie.Need-returns
 returns c =
     let k = c .before .before .before .before .first .ensures in (
       λ l. k .0 _ _,
-      λ p h. record { first = λ e. (k .1 p _ h, refl, refl, refl); later = λ e. absurd (omega arith); over = λ e. absurd (omega arith) },
+      record { page = refl; first = λ e. (k .1 _, refl, refl, refl); later = λ e. absurd (omega arith); over = λ e. absurd (omega arith) },
     )
 
 later-requires : tie.Need-later-requires
@@ -42,13 +42,13 @@ returns-2 : tie.Need-returns-2
 returns-2 c =
     let k = c .before .before .before .before .before .before .before .before .before .before .later .ensures in (
       λ l. k .0 (c .before .before .before .before .before .before .before .before .before .before .before .before .before .before .before .before .if2 .taken) l,
-      λ p h. record { first = λ e. absurd (omega arith); later = λ e. (k .1 p h, k .2, k .3); over = λ e. absurd (omega arith) },
+      record { page = refl; first = λ e. absurd (omega arith); later = λ e. (k .1, k .2); over = λ e. absurd (omega arith) },
     )
 
 returns-3 : tie.Need-returns-3
 returns-3 c = (
   λ l. l,
-  λ p h. record { first = λ e. absurd (omega arith); later = λ e. absurd (omega arith); over = λ e. (refl, refl) },
+  record { page = refl; first = λ e. absurd (omega arith); later = λ e. absurd (omega arith); over = λ e. (refl, refl) },
 )
 
 pub line-spec : {M : Type 1} → statement M

@@ -1,10 +1,12 @@
-use mathlib.Core.Path.{sym, refl}
+use mathlib.Core.Path.{sym, ap, refl}
 use native.Mathlib.Omega.{arith}
 use lib.Seq.{length-take-le}
 use borrow.Author.Needs.{needs}
 use Rattle.runs.specs.Oldest.{honestAll}
-use Rattle.session.proofs.LineLaws.{kept-starts, deposits}
-use Rattle.session.proofs.SessionLaws.{front-bytes, operation-runs}
+use Rattle.runs.proofs.SendLaws.{least-taken}
+use Rattle.session.specs.declared.session.Session.{Session}
+use Rattle.session.proofs.LineLaws.{deposits}
+use Rattle.session.proofs.SessionLaws.{new-live, new-same, front-bytes, operation-runs}
 use Rattle.session.proofs.session.put.Statement.{statement}
 use Rattle.session.proofs.session.put.Tie as tie
 
@@ -45,10 +47,9 @@ returns c =
     let e = c .before .before .before .before .before .before .before .before .before .before .before .settle .ensures in
     let g = c .before .before .before .before .before .before .before .before .before .before .before .before .before .before .before .before .before .before .before .before .before .before .before .before .before .before .before .before .before .before .before .before .args in
     let l = c .before .before .before .before .before .before .before .before .before .before .before .before .before .before .before .before .before .before .before .before .before .before .before .before .before .least in (
-      λ page x m u h. a .4 _ _ page (λ q. operation-runs x _ _ _ _ _ _ _ _ _ _ _ _ _ _ m u h (a .2) (a .3) o (front-bytes (l .result) (g .page .now) (λ i. c .before .before .before .before .before .before .before .before .before .before .before .before .before .before .before .before .before .before .before .before .before .before .before .before .before .before .before .shared-slice-known .given i .fits)) refl refl e),
-      λ given k. deposits _ _ _ _ _ _ _ _ _ _ _ _ e (a .3) (a .0) _ (kept-starts _ _ _ _ _ given (g .page .now) _ _ _ _ _ k (l .ensures .0) (o honestAll)) refl refl,
-      a .1,
-      a .2,
+      λ page x m u h. new-live _ _ _ _ _ _ page (a .1) (λ q. operation-runs x _ _ _ _ _ _ _ _ _ _ _ _ _ _ m u h (ap (λ (y : Session). y .measures) (a .1)) (ap (λ (y : Session). y .used) (a .1)) o (front-bytes (l .result) (g .page .now) (λ i. c .before .before .before .before .before .before .before .before .before .before .before .before .before .before .before .before .before .before .before .before .before .before .before .before .before .before .before .shared-slice-known .given i .fits)) refl refl e),
+      rw (sym (least-taken _ _ (g .page .now) (l .ensures .0))) (deposits _ _ _ _ _ _ _ _ _ _ _ _ e (ap (λ (y : Session). y .used) (a .1)) (a .0) _ (o honestAll) refl refl),
+      new-same _ _ _ _ (a .1),
     )
 
 pub put-spec : {M : Type 1} → statement M

@@ -1,8 +1,9 @@
-use mathlib.Core.Path.{refl}
+use mathlib.Core.Path.{refl, ap}
 use native.Mathlib.Omega.{arith}
 use borrow.Author.Needs.{needs}
+use Rattle.session.specs.declared.session.Session.{Session}
 use Rattle.session.proofs.LineLaws.{reads}
-use Rattle.session.proofs.SessionLaws.{operation-runs}
+use Rattle.session.proofs.SessionLaws.{new-live, new-same, operation-runs}
 use Rattle.session.proofs.session.read.Statement.{statement}
 use Rattle.session.proofs.session.read.Tie as tie
 
@@ -35,10 +36,9 @@ returns c =
     let a = c .at-stage .ensures in
     let o = c .before .before .before .before .before .before .before .before .before .before .before .before .before .before .before .before .before .before .before .before .before .before .before .reading .ensures in
     let e = c .before .before .before .before .before .before .before .before .before .before .before .settle .ensures in (
-      λ page x m u h. a .4 _ _ page (λ g. operation-runs x _ _ _ _ _ _ _ _ _ _ _ _ _ _ m u h (a .2) (a .3) o (λ i. c .before .before .before .before .before .before .before .before .before .before .before .before .before .before .before .before .before .before .before .before .before .before .before .before .before .before .before .before .before .before .slice-known2 .given i .fits) refl refl e),
-      reads _ _ _ _ _ _ _ _ _ _ _ _ e (a .3) (a .0) o refl,
-      a .1,
-      a .2,
+      λ page x m u h. new-live _ _ _ _ _ _ page (a .1) (λ g. operation-runs x _ _ _ _ _ _ _ _ _ _ _ _ _ _ m u h (ap (λ (y : Session). y .measures) (a .1)) (ap (λ (y : Session). y .used) (a .1)) o (λ i. c .before .before .before .before .before .before .before .before .before .before .before .before .before .before .before .before .before .before .before .before .before .before .before .before .before .before .before .before .before .before .slice-known2 .given i .fits) refl refl e),
+      reads _ _ _ _ _ _ _ _ _ _ _ _ e (ap (λ (y : Session). y .used) (a .1)) (a .0) o refl,
+      new-same _ _ _ _ (a .1),
     )
 
 pub read-spec : {M : Type 1} → statement M
