@@ -12,3 +12,4 @@ pub mod PickLaws
 pub mod ReplyLaws
 pub mod HandLaws
 pub mod EventShows
+pub mod SentLengths
