@@ -1,6 +1,6 @@
 -- Laws of the tests before an event at a client.
 use mathlib.Core.Path.{_≡_, refl, sym, ap, subst, _∙_}
-use mathlib.Core.Bool.{Bool, true, false, true≢false}
+use mathlib.Core.Bool.{Bool, true, false, true≢false, cond, _&&_}
 use mathlib.Core.List.{List}
 use mathlib.Core.Option.{Option, some, none}
 use Prim.Native.Nat.{ℕ, _+_, _^_, _<_, _≤_}
@@ -10,6 +10,7 @@ use borrow.Author.Tests.{le-leb, lt-leb}
 use lib.Dec.{leb}
 use lib.ListN.{length, length-append}
 use Rattle.coding.specs.Bytes.{Bytes}
+use Rattle.coding.proofs.Cases.{and-true}
 use Rattle.parties.specs.declared.Measures.{Measures}
 use Rattle.parties.specs.protocol.Format.{Read, writeNumber}
 use Rattle.parties.specs.protocol.Measures.{passes}
@@ -39,7 +40,40 @@ long-record s p area = go (decLe (areaSize s) (length area))
     go (no h) =
         lt-leb (clientSize s) (length (recordOf p area)) (omega (arith, record-length p area)) ∙ sym (lt-leb (areaSize s) (length area) (omega arith))
 
+-- tests of which the code makes some at once
+pub two-fail : (m a b r : Bool) → r ≡ (m && a) → r ≡ false → false ≡ (m && (a && b))
+two-fail true a b r e f = ap (λ (x : Bool). x && b) (sym f ∙ e)
+two-fail false a b r e f = refl
+
+pub two-hold : (m a b r : Bool) → r ≡ (m && a) → r ≡ true → b ≡ (m && (a && b))
+two-hold true a b r e f = ap (λ (x : Bool). x && b) (sym f ∙ e)
+two-hold false a b r e f = absurd (true≢false (sym f ∙ e))
+
+pub three-fail : (m a b c r : Bool) → r ≡ (m && (a && b)) → r ≡ false → false ≡ (m && (a && (b && c)))
+three-fail true a b c r e f = two-fail a b c r e f
+three-fail false a b c r e f = refl
+
+pub three-hold : (m a b c r : Bool) → r ≡ (m && (a && b)) → r ≡ true → c ≡ (m && (a && (b && c)))
+three-hold true a b c r e f = two-hold a b c r e f
+three-hold false a b c r e f = absurd (true≢false (sym f ∙ e))
+
+-- with the rows between area and room
+pub rows-fail : (m a w b r : Bool) → r ≡ (m && (a && b)) → r ≡ false → false ≡ (m && (a && (w && b)))
+rows-fail true true true b r e f = sym f ∙ e
+rows-fail true true false b r e f = refl
+rows-fail true false w b r e f = refl
+rows-fail false a w b r e f = refl
+
+pub rows-hold : (m a w b r : Bool) → r ≡ (m && (a && b)) → r ≡ true → w ≡ (m && (a && (w && b)))
+rows-hold true true true b r e f = sym f ∙ e
+rows-hold true true false b r e f = refl
+rows-hold true false w b r e f = absurd (true≢false (sym f ∙ e))
+rows-hold false a w b r e f = absurd (true≢false (sym f ∙ e))
+
 module _ (s : Measures) (enough within : Bool) (e : ClientEnd) (refuse : ClientAnswer → ClientEnd) where
+  pub guarded-measures : passes s ≡ false → guarded s enough within e refuse ≡ refuse (refused 1)
+  guarded-measures h = simp h
+
   module _ (h : passes s ≡ true) where
     pub guarded-short : enough ≡ false → guarded s enough within e refuse ≡ refuse (refused 2)
     guarded-short a = simp (h, a)
@@ -60,14 +94,25 @@ pub some-value : {A : Type 0} (o : Option A) → isSome o ≡ true → (a : A) �
 some-value none e = absurd (true≢false (sym e))
 some-value (some a) e = (a, refl)
 
-module _ (s : Measures) (p : Phase) (area : List ℕ) (enough within : Bool) (r : Gate) (g : Gated s p area enough within r) where
-  pub gated-open : r ≡ Gate.Open → (enough ≡ true) × (within ≡ true) × (isSome (readClient s (recordOf p area)) ≡ true)
-  gated-open e = subst (Gated s p area enough within) e g
+-- the gate of an event: measures that pass and slices that are long enough are told in one
+module _ (s : Measures) (p : Phase) (area : List ℕ) (long enough within : Bool) (e : enough ≡ (passes s && long)) (r : Gate) (g : Gated s p area enough within r) where
+  pub gated-open : r ≡ Gate.Open → (passes s ≡ true) × (long ≡ true) × (within ≡ true) × (isSome (readClient s (recordOf p area)) ≡ true)
+  gated-open q =
+      let o = subst (Gated s p area enough within) q g in
+      let m = and-true (passes s) long (sym e ∙ o .0) in (m .0, m .1, o .1, o .2)
 
   pub gated-shut : (n : Refusal) → r ≡ Gate.Shut n → (room out : List ℕ) (f : Client → Step)
-      → guarded s enough within (onClient s (recordOf p area) room out (readClient s (recordOf p area)) f) (λ a. unchanged a (recordOf p area) room out)
+      → guarded s long within (onClient s (recordOf p area) room out (readClient s (recordOf p area)) f) (λ a. unchanged a (recordOf p area) room out)
       ≡ unchanged (refused (number n)) (recordOf p area) room out
-  gated-shut n e = subst (Gated s p area enough within) e g
+  gated-shut n q room out f =
+      let x = onClient s (recordOf p area) room out (readClient s (recordOf p area)) f in
+      let y : ClientAnswer → ClientEnd = λ a. unchanged a (recordOf p area) room out in
+      sym (told (passes s) (cond within x (y (refused 3))) (y (refused 2)) (y (refused 1)))
+      ∙ ap (λ (b : Bool). guarded s b within x y) (sym e) ∙ subst (Gated s p area enough within) q g room out f
+    where
+      told : (b : Bool) (x y z : ClientEnd) → cond b (cond (b && long) x y) z ≡ cond b (cond long x y) z
+      told true x y z = refl
+      told false x y z = refl
 
 -- the step of a record that reads
 pub through : (s : Measures) (enough within : Bool) (client room out : List ℕ) (f : Client → Step) (refuse : ClientAnswer → ClientEnd) (r : Read Client)

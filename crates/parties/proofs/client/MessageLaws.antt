@@ -28,17 +28,6 @@ use Rattle.parties.specs.client.Receive.{receivedEnd}
 use Rattle.parties.proofs.client.GateLaws.{long-record, guarded-through}
 use Rattle.parties.proofs.client.TellLaws.{reply-long}
 
--- three tests, of which the code makes two at once
-pub two-fail : (a b c r : Bool) → r ≡ (a && b) → r ≡ false → false ≡ (a && (b && c))
-two-fail true true c r e f = absurd (true≢false (sym e ∙ f))
-two-fail true false c r e f = refl
-two-fail false b c r e f = refl
-
-pub two-hold : (a b c r : Bool) → r ≡ (a && b) → r ≡ true → c ≡ (a && (b && c))
-two-hold true true c r e f = refl
-two-hold true false c r e f = absurd (true≢false (sym f ∙ e))
-two-hold false b c r e f = absurd (true≢false (sym f ∙ e))
-
 -- ---- by what is told
 
 module _ (s : Measures) (i : ℕ) (client message room out : List ℕ) (r : Told) (e : toldBy message r ≡ readToClient s message) where
@@ -90,12 +79,10 @@ module _ (s : Measures) (own i : ℕ) (p : Phase) (area message room out : List 
   abbrev refuses : ClientAnswer → ClientEnd
   refuses a = unchanged a bytes room out
 
-  pub message-measures : passes s ≡ false → clientMessage s own i bytes message room out ≡ unchanged (refused 1) bytes room out
-  unfolding clientMessage
-  message-measures h = simp h
+  abbrev enough : Bool
+  enough = leb (areaSize s) (length area) && (leb (roomSize s) (length room) && leb (s .k * s .f - 4) (length out))
 
-  module _ (enough within : Bool) (e : enough ≡ (leb (areaSize s) (length area) && (leb (roomSize s) (length room) && leb (s .k * s .f - 4) (length out))))
-      (f : within ≡ (ltb own (s .m) && (leb 1 i && leb i (s .n)))) where
+  module _ (within : Bool) (f : within ≡ (ltb own (s .m) && (leb 1 i && leb i (s .n)))) where
     pub message-guarded : clientMessage s own i bytes message room out ≡ guarded s enough within (receivedEnd s i bytes message room out) refuses
     unfolding clientMessage receivedEnd
     message-guarded =
@@ -103,17 +90,14 @@ module _ (s : Measures) (own i : ℕ) (p : Phase) (area message room out : List 
         guarded s (b && (leb (roomSize s) (length room) && leb (s .k * s .f - 4) (length out))) (ltb own (s .m) && (leb 1 i && leb i (s .n)))
         (receivedEnd s i bytes message room out) refuses)
         (long-record s p area)
-        ∙ (λ j. guarded s (sym e j) (sym f j) (receivedEnd s i bytes message room out) refuses)
+        ∙ (λ j. guarded s enough (sym f j) (receivedEnd s i bytes message room out) refuses)
 
     pub message-through : passes s ≡ true → enough ≡ true → within ≡ true → clientMessage s own i bytes message room out ≡ receivedEnd s i bytes message room out
     message-through h x y = message-guarded ∙ guarded-through s enough within (receivedEnd s i bytes message room out) refuses h x y
 
-    pub message-area : enough ≡ true → areaSize s ≤ length area
-    message-area x = leb-true (areaSize s) (length area) (and-true (leb (areaSize s) (length area)) _ (sym e ∙ x) .0)
-
     pub message-room : enough ≡ true → (roomSize s ≤ length room) × (s .k * s .f - 4 ≤ length out)
     message-room x =
-        let y = and-true (leb (roomSize s) (length room)) (leb (s .k * s .f - 4) (length out)) (and-true (leb (areaSize s) (length area)) _ (sym e ∙ x) .1) in
+        let y = and-true (leb (roomSize s) (length room)) (leb (s .k * s .f - 4) (length out)) (and-true (leb (areaSize s) (length area)) _ x .1) in
         (leb-true (roomSize s) (length room) (y .0), leb-true (s .k * s .f - 4) (length out) (y .1))
 
     pub message-node : within ≡ true → (1 ≤ i) × (i ≤ s .n)

@@ -12,7 +12,7 @@ use Rattle.parties.specs.declared.Measures.{Measures}
 use Rattle.parties.specs.declared.Sequence.{Sequence}
 use Rattle.parties.specs.declared.NextSequence.{NextSequence}
 use Rattle.parties.specs.protocol.Format.{Read}
-use Rattle.parties.specs.protocol.Measures.{passes, rowSize}
+use Rattle.parties.specs.protocol.Measures.{rowSize}
 use Rattle.parties.specs.protocol.Version.{nextSequence}
 use Rattle.parties.specs.protocol.Directory.{Row, readDirectory}
 use Rattle.parties.specs.protocol.Reading.{pick}
@@ -135,11 +135,6 @@ drawn-one t q e = go (ltb (t .0) 4294967295) (ap drawnOf e)
     go true f = omega arith
     go false f = omega arith
 
--- rows that are too short
-pub rows-short : (a b r : Bool) → b ≡ false → false ≡ (a && (b && r))
-rows-short true b r e = sym (ap (λ (x : Bool). x && r) e)
-rows-short false b r e = refl
-
 -- ---- the event
 
 module _ (s : Measures) (own : ℕ) (p : Phase) (area rows room : List ℕ) where
@@ -152,46 +147,44 @@ module _ (s : Measures) (own : ℕ) (p : Phase) (area rows room : List ℕ) wher
   abbrev does-it : Client → Step
   does-it c = onRows (readDirectory s rows) (λ l. scannedAt s own c room l (c .phase))
 
-  pub scan-measures : passes s ≡ false → scanAnswer s own bytes rows room ≡ unchanged (refused 1) bytes room []
-  unfolding scanAnswer
-  scan-measures h = simp h
-
   -- long enough, as the code and as the definitions test it
-  module _ (enough : Bool) (e : enough ≡ (leb (areaSize s) (length area) && (leb (s .m * rowSize s) (length rows) && leb (roomSize s) (length room)))) where
-    all-long : (leb (clientSize s) (length bytes) && (leb (s .m * rowSize s) (length rows) && leb (roomSize s) (length room))) ≡ enough
-    all-long = ap (λ (b : Bool). b && (leb (s .m * rowSize s) (length rows) && leb (roomSize s) (length room))) (long-record s p area) ∙ sym e
+  abbrev enough : Bool
+  enough = leb (areaSize s) (length area) && (leb (s .m * rowSize s) (length rows) && leb (roomSize s) (length room))
 
-    pub scan-shut : (n : ClientEnd)
-        → guarded s enough (ltb own (s .m)) (onClient s bytes room [] (readClient s bytes) does-it) refuses ≡ n
-        → scanAnswer s own bytes rows room ≡ n
-    unfolding scanAnswer
-    scan-shut n g = ap (λ (b : Bool). guarded s b (ltb own (s .m)) (onClient s bytes room [] (readClient s bytes) does-it) refuses) all-long ∙ g
+  all-long : (leb (clientSize s) (length bytes) && (leb (s .m * rowSize s) (length rows) && leb (roomSize s) (length room))) ≡ enough
+  all-long = ap (λ (b : Bool). b && (leb (s .m * rowSize s) (length rows) && leb (roomSize s) (length room))) (long-record s p area)
 
-    module _ (opened : Opened s p area) (within : ltb own (s .m) ≡ true) (t : enough ≡ true) where
-      scan-through : scanAnswer s own bytes rows room ≡ after s bytes room [] (found s p area opened .rest) (does-it (found s p area opened .value))
-      scan-through =
-          scan-shut (after s bytes room [] (found s p area opened .rest) (does-it (found s p area opened .value)))
-          (through s enough (ltb own (s .m)) bytes room [] does-it refuses (found s p area opened) (opened .measures) t within (found-reads s p area opened))
+  pub scan-shut : (n : ClientEnd)
+      → guarded s enough (ltb own (s .m)) (onClient s bytes room [] (readClient s bytes) does-it) refuses ≡ n
+      → scanAnswer s own bytes rows room ≡ n
+  unfolding scanAnswer
+  scan-shut n g = ap (λ (b : Bool). guarded s b (ltb own (s .m)) (onClient s bytes room [] (readClient s bytes) does-it) refuses) all-long ∙ g
 
-      pub scan-broken : rest (readDirectory s rows) ≡ none → scanAnswer s own bytes rows room ≡ unchanged (refused 4) bytes room []
-      scan-broken f =
+  module _ (opened : Opened s p area) (within : ltb own (s .m) ≡ true) (t : enough ≡ true) where
+    scan-through : scanAnswer s own bytes rows room ≡ after s bytes room [] (found s p area opened .rest) (does-it (found s p area opened .value))
+    scan-through =
+        scan-shut (after s bytes room [] (found s p area opened .rest) (does-it (found s p area opened .value)))
+        (through s enough (ltb own (s .m)) bytes room [] does-it refuses (found s p area opened) (opened .measures) t within (found-reads s p area opened))
+
+    pub scan-broken : rest (readDirectory s rows) ≡ none → scanAnswer s own bytes rows room ≡ unchanged (refused 4) bytes room []
+    scan-broken f =
+        scan-through
+        ∙ ap (λ (x : Option (Read (List Row))). after s bytes room [] (found s p area opened .rest)
+        (onRows x (λ l. scannedAt s own (found s p area opened .value) room l (found s p area opened .value .phase))))
+        (none-read (readDirectory s rows) f)
+
+    -- the rows read
+    module _ (v : List ℕ) (f : rest (readDirectory s rows) ≡ some v) where
+      pub rows-read : isSome (readDirectory s rows) ≡ true
+      rows-read = ap isSome (left-read (readDirectory s rows) v f .1)
+
+      pub scan-goes : scanAnswer s own bytes rows room ≡ scannedEnd s own bytes rows room
+      unfolding scannedEnd
+      scan-goes =
+          let c = found s p area opened in
+          let d = left-read (readDirectory s rows) v f .1 in
           scan-through
-          ∙ ap (λ (x : Option (Read (List Row))). after s bytes room [] (found s p area opened .rest)
-          (onRows x (λ l. scannedAt s own (found s p area opened .value) room l (found s p area opened .value .phase))))
-          (none-read (readDirectory s rows) f)
-
-      -- the rows read
-      module _ (v : List ℕ) (f : rest (readDirectory s rows) ≡ some v) where
-        pub rows-read : isSome (readDirectory s rows) ≡ true
-        rows-read = ap isSome (left-read (readDirectory s rows) v f .1)
-
-        pub scan-goes : scanAnswer s own bytes rows room ≡ scannedEnd s own bytes rows room
-        unfolding scannedEnd
-        scan-goes =
-            let c = found s p area opened in
-            let d = left-read (readDirectory s rows) v f .1 in
-            scan-through
-            ∙ ap (λ (x : Option (Read (List Row))). after s bytes room [] (c .rest) (onRows x (λ l. scannedAt s own (c .value) room l (c .value .phase)))) d
-            ∙ ap (λ (x : Option (Read (List Row))). after s bytes room [] (c .rest) (scannedAt s own (c .value) room (rowsOf x) (c .value .phase))) (sym d)
-            ∙ ap (λ (x : Option (Read Client)). onClient s bytes room [] x (λ c. scannedAt s own c room (rowsOf (readDirectory s rows)) (c .phase)))
-            (sym (found-reads s p area opened))
+          ∙ ap (λ (x : Option (Read (List Row))). after s bytes room [] (c .rest) (onRows x (λ l. scannedAt s own (c .value) room l (c .value .phase)))) d
+          ∙ ap (λ (x : Option (Read (List Row))). after s bytes room [] (c .rest) (scannedAt s own (c .value) room (rowsOf x) (c .value .phase))) (sym d)
+          ∙ ap (λ (x : Option (Read Client)). onClient s bytes room [] x (λ c. scannedAt s own c room (rowsOf (readDirectory s rows)) (c .phase)))
+          (sym (found-reads s p area opened))

@@ -13,7 +13,6 @@ use Rattle.parties.specs.declared.Measures.{Measures}
 use Rattle.parties.specs.declared.ReadingIndex.{ReadingIndex}
 use Rattle.parties.specs.declared.NextIndex.{NextIndex}
 use Rattle.parties.specs.protocol.Format.{Read, writeNumber, writeMany, writeArea}
-use Rattle.parties.specs.protocol.Measures.{passes}
 use Rattle.parties.specs.protocol.Version.{nextIndex}
 use Rattle.parties.specs.protocol.Directory.{writeIndex, mapOf, writeContent, writeFields, writeRecord}
 use Rattle.parties.specs.protocol.Reading.{readingFields}
@@ -80,23 +79,19 @@ pub ends-as : (x y : ClientEnd) → x ≡ y → {a : ClientAnswer} {c r o : List
     → (a ≡ x .answer) × (c ≡ x .client) × (r ≡ x .room) × (o ≡ x .out)
 ends-as x y e p = let q = ends-four x y e in (p .0 ∙ q .0, p .1 ∙ q .1, p .2 ∙ q .2, p .3 ∙ q .3)
 
--- refused by the measures, or by a shut gate
+-- refused by a shut gate
 module _ (s : Measures) (own : ℕ) (p : Phase) (area : List ℕ) where
   abbrev bytes : List ℕ
   bytes = recordOf p area
 
   module _ (page : List ℕ) where
-    pub deposit-measures : passes s ≡ false → startDeposit s own bytes page ≡ unchanged (refused 1) bytes [] []
-    unfolding startDeposit
-    deposit-measures h = simp h
-
-    pub deposit-shut : (enough : Bool) → enough ≡ leb (areaSize s) (length area) → (n : ClientEnd)
-        → guarded s enough (ltb own (s .m)) (onClient s bytes [] [] (readClient s bytes) (λ c. beginDeposit s c page)) (λ a. unchanged a bytes [] []) ≡ n
+    pub deposit-shut : (n : ClientEnd)
+        → guarded s (leb (areaSize s) (length area)) (ltb own (s .m)) (onClient s bytes [] [] (readClient s bytes) (λ c. beginDeposit s c page)) (λ a. unchanged a bytes [] []) ≡ n
         → startDeposit s own bytes page ≡ n
     unfolding startDeposit
-    deposit-shut enough e n g =
+    deposit-shut n g =
         ap (λ (b : Bool). guarded s b (ltb own (s .m)) (onClient s bytes [] [] (readClient s bytes) (λ c. beginDeposit s c page)) (λ a. unchanged a bytes [] []))
-        (long-record s p area ∙ sym e) ∙ g
+        (long-record s p area) ∙ g
 
   module _ (room : List ℕ) where
     -- long enough, as the code and as the definitions test it
@@ -106,27 +101,19 @@ module _ (s : Measures) (own : ℕ) (p : Phase) (area : List ℕ) where
     abbrev refuses : ClientAnswer → ClientEnd
     refuses a = unchanged a bytes room []
 
-    pub reading-measures : passes s ≡ false → startReading s own bytes room ≡ unchanged (refused 1) bytes room []
-    unfolding startReading
-    reading-measures h = simp h
-
-    pub update-measures : passes s ≡ false → updateAnswer s own bytes room ≡ unchanged (refused 1) bytes room []
-    unfolding updateAnswer
-    update-measures h = simp h
-
-    module _ (enough : Bool) (e : enough ≡ (leb (areaSize s) (length area) && leb (roomSize s) (length room))) (n : ClientEnd) where
-      pub reading-shut : guarded s enough (ltb own (s .m)) (onClient s bytes room [] (readClient s bytes) (λ c. beginReading c room)) refuses ≡ n
+    module _ (n : ClientEnd) where
+      pub reading-shut : guarded s (leb (areaSize s) (length area) && leb (roomSize s) (length room)) (ltb own (s .m)) (onClient s bytes room [] (readClient s bytes) (λ c. beginReading c room)) refuses ≡ n
           → startReading s own bytes room ≡ n
       unfolding startReading
       reading-shut g =
-          ap (λ (b : Bool). guarded s b (ltb own (s .m)) (onClient s bytes room [] (readClient s bytes) (λ c. beginReading c room)) refuses) (both-long ∙ sym e) ∙ g
+          ap (λ (b : Bool). guarded s b (ltb own (s .m)) (onClient s bytes room [] (readClient s bytes) (λ c. beginReading c room)) refuses) both-long ∙ g
 
-      pub update-shut : guarded s enough (ltb own (s .m)) (onClient s bytes room [] (readClient s bytes) (λ c. acknowledgedAt c room (c .phase))) refuses ≡ n
+      pub update-shut : guarded s (leb (areaSize s) (length area) && leb (roomSize s) (length room)) (ltb own (s .m)) (onClient s bytes room [] (readClient s bytes) (λ c. acknowledgedAt c room (c .phase))) refuses ≡ n
           → updateAnswer s own bytes room ≡ n
       unfolding updateAnswer
       update-shut g =
           ap (λ (b : Bool). guarded s b (ltb own (s .m)) (onClient s bytes room [] (readClient s bytes) (λ c. acknowledgedAt c room (c .phase))) refuses)
-          (both-long ∙ sym e) ∙ g
+          both-long ∙ g
 
 module _ (s : Measures) (own : ℕ) (p : Phase) (area : List ℕ) (opened : Opened s p area) (within : ltb own (s .m) ≡ true) where
   abbrev client : List ℕ

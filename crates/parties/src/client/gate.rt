@@ -29,37 +29,44 @@ pub fn room_size(s: Measures) -> usize
     row + (6 + s.n * s.f)
 }
 
-// An area and a room of these lengths are long enough.
-pub fn roomy(s: Measures, area: usize, room: usize) -> bool
-    requires { ⌜ passes s ≡ true ⌝ }
-    ensures { λ r. ⌜ r ≡ (leb (areaSize s) area && leb (roomSize s) room) ⌝ }
+// The measures pass, and an area of this length is long enough.
+pub fn area_long(s: Measures, area: usize) -> bool
+    ensures { λ r. ⌜ r ≡ (passes s && leb (areaSize s) area) ⌝ }
 {
+    if !s.pass() {
+        return false;
+    }
     let size = area_size(s);
-    if area < size {
-        return false;
-    }
-    let wanted = room_size(s);
-    wanted <= room
+    size <= area
 }
 
-// An area, rows and a room of these lengths are long enough.
-pub fn ample(s: Measures, area: usize, rows: usize, room: usize) -> bool
-    requires { ⌜ passes s ≡ true ⌝ }
-    ensures { λ r. ⌜ r ≡ (leb (areaSize s) area && (leb (s .m * rowSize s) rows && leb (roomSize s) room)) ⌝ }
+// The same of an area and a room.
+pub fn area_and_room_long(s: Measures, area: usize, room: usize) -> bool
+    ensures { λ r. ⌜ r ≡ (passes s && (leb (areaSize s) area && leb (roomSize s) room)) ⌝ }
 {
+    if !area_long(s, area) {
+        return false;
+    }
+    let size = room_size(s);
+    size <= room
+}
+
+// The same of an area, rows and a room.
+pub fn area_rows_and_room_long(s: Measures, area: usize, rows: usize, room: usize) -> bool
+    ensures { λ r. ⌜ r ≡ (passes s && (leb (areaSize s) area && (leb (s .m * rowSize s) rows && leb (roomSize s) room))) ⌝ }
+{
+    if !area_and_room_long(s, area, room) {
+        return false;
+    }
     let size = row_size(s);
-    if rows < s.m * size {
-        return false;
-    }
-    roomy(s, area, room)
+    s.m * size <= rows
 }
 
-// An area, a room, and an output that holds a page.
-pub fn spacious(s: Measures, area: usize, room: usize, out: usize) -> bool
-    requires { ⌜ passes s ≡ true ⌝ }
-    ensures { λ r. ⌜ r ≡ (leb (areaSize s) area && (leb (roomSize s) room && leb (s .k * s .f - 4) out)) ⌝ }
+// The same of an area, a room, and an output that holds a page.
+pub fn area_room_and_output_long(s: Measures, area: usize, room: usize, out: usize) -> bool
+    ensures { λ r. ⌜ r ≡ (passes s && (leb (areaSize s) area && (leb (roomSize s) room && leb (s .k * s .f - 4) out))) ⌝ }
 {
-    if !roomy(s, area, room) {
+    if !area_and_room_long(s, area, room) {
         return false;
     }
     s.k * s.f - 4 <= out
@@ -80,9 +87,12 @@ pub fn numbered(s: Measures, own: usize, i: usize) -> bool
 
 // Whether lent slices are long enough and numbers within bounds is told; then the record's form is tested.
 pub fn admit(s: Measures, enough: bool, within: bool, p: Phase, area: &[u8]) -> Gate
-    requires { ⌜ (passes s ≡ true) × (enough ≡ true → areaSize s ≤ length (now area)) ⌝ }
+    requires { ⌜ (enough ≡ true → areaSize s ≤ length (now area)) ⌝ }
     ensures { λ r. ⌜ Gated s p (now (area .entry)) enough within r ⌝ }
 {
+    if !s.pass() {
+        return Gate::Shut(Refusal::Measures);
+    }
     if !enough {
         return Gate::Shut(Refusal::Short);
     }

@@ -10,10 +10,11 @@ use crate::client::form::area_size;
 use crate::client::form::work_at;
 use crate::client::gate::Gate;
 use crate::client::gate::admit;
-use crate::client::gate::ample;
+use crate::client::gate::area_and_room_long;
+use crate::client::gate::area_long;
+use crate::client::gate::area_room_and_output_long;
+use crate::client::gate::area_rows_and_room_long;
 use crate::client::gate::numbered;
-use crate::client::gate::roomy;
-use crate::client::gate::spacious;
 use crate::client::receive::receive;
 use crate::client::scan::after_scan;
 use crate::client::step::FREEZING;
@@ -88,14 +89,8 @@ pub fn start_deposit(p: Phase, s: Measures, own: usize, area: &mut [u8], page: &
     ensures { λ r. ⌜ (answered (r .answer) ≡ startDeposit s own (recordOf p (now (area .entry))) (now (page .entry)) .answer)
         × (recordOf (r .phase) (now (area .exit)) ≡ startDeposit s own (recordOf p (now (area .entry))) (now (page .entry)) .client) ⌝ }
 {
-    if !s.pass() {
-        return Turned {
-            phase: p,
-            answer: ClientAnswer::Refused(Refusal::Measures),
-        };
-    }
-    let size = area_size(s);
-    let g = admit(s, size <= area.len(), own < s.m, p, area);
+    let enough = area_long(s, area.len());
+    let g = admit(s, enough, own < s.m, p, area);
     if let Gate::Shut(r) = g {
         return Turned {
             phase: p,
@@ -134,13 +129,7 @@ pub fn start_reading(p: Phase, s: Measures, own: usize, area: &mut [u8], room: &
         × (recordOf (r .phase) (now (area .exit)) ≡ startReading s own (recordOf p (now (area .entry))) (now (room .entry)) .client)
         × (now (room .exit) ≡ startReading s own (recordOf p (now (area .entry))) (now (room .entry)) .room) ⌝ }
 {
-    if !s.pass() {
-        return Turned {
-            phase: p,
-            answer: ClientAnswer::Refused(Refusal::Measures),
-        };
-    }
-    let enough = roomy(s, area.len(), room.len());
+    let enough = area_and_room_long(s, area.len(), room.len());
     let g = admit(s, enough, own < s.m, p, area);
     if let Gate::Shut(r) = g {
         return Turned {
@@ -179,13 +168,7 @@ pub fn update_answer(p: Phase, s: Measures, own: usize, area: &mut [u8], room: &
         × (recordOf (r .phase) (now (area .exit)) ≡ updateAnswer s own (recordOf p (now (area .entry))) (now (room .entry)) .client)
         × (now (room .exit) ≡ updateAnswer s own (recordOf p (now (area .entry))) (now (room .entry)) .room) ⌝ }
 {
-    if !s.pass() {
-        return Turned {
-            phase: p,
-            answer: ClientAnswer::Refused(Refusal::Measures),
-        };
-    }
-    let enough = roomy(s, area.len(), room.len());
+    let enough = area_and_room_long(s, area.len(), room.len());
     let g = admit(s, enough, own < s.m, p, area);
     if let Gate::Shut(r) = g {
         return Turned {
@@ -231,13 +214,7 @@ pub fn scan_answer(
         × (recordOf (r .phase) (now (area .exit)) ≡ scanAnswer s own (recordOf p (now (area .entry))) (now (rows .entry)) (now (room .entry)) .client)
         × (now (room .exit) ≡ scanAnswer s own (recordOf p (now (area .entry))) (now (rows .entry)) (now (room .entry)) .room) ⌝ }
 {
-    if !s.pass() {
-        return Turned {
-            phase: p,
-            answer: ClientAnswer::Refused(Refusal::Measures),
-        };
-    }
-    let enough = ample(s, area.len(), rows.len(), room.len());
+    let enough = area_rows_and_room_long(s, area.len(), rows.len(), room.len());
     let g = admit(s, enough, own < s.m, p, area);
     if let Gate::Shut(r) = g {
         return Turned {
@@ -271,13 +248,7 @@ pub fn message(
         × (now (room .exit) ≡ clientMessage s own i (recordOf p (now (area .entry))) (now (message .entry)) (now (room .entry)) (now (out .entry)) .room)
         × (now (out .exit) ≡ clientMessage s own i (recordOf p (now (area .entry))) (now (message .entry)) (now (room .entry)) (now (out .entry)) .out) ⌝ }
 {
-    if !s.pass() {
-        return Turned {
-            phase: p,
-            answer: ClientAnswer::Refused(Refusal::Measures),
-        };
-    }
-    let enough = spacious(s, area.len(), room.len(), out.len());
+    let enough = area_room_and_output_long(s, area.len(), room.len(), out.len());
     let within = numbered(s, own, i);
     let g = admit(s, enough, within, p, area);
     if let Gate::Shut(r) = g {

@@ -1,6 +1,6 @@
 use borrow.Author.Needs.{needs}
 use mathlib.Core.Path.{_≡_, sym, ap, _∙_}
-use mathlib.Core.Bool.{Bool, true, cond}
+use mathlib.Core.Bool.{Bool, true, cond, _&&_}
 use mathlib.Core.List.{[]}
 use mathlib.Core.Option.{some, none}
 use Prim.Native.Nat.{_*_, _≤_}
@@ -19,59 +19,35 @@ use Rattle.parties.specs.records.Form.{rest}
 use Rattle.parties.specs.client.Record.{recordOf, areaSize, isSome}
 use Rattle.parties.proofs.client.GateLaws.{gated-open, gated-shut, Opened}
 use Rattle.parties.proofs.client.StartLaws.{ends-three, same-end}
-use Rattle.parties.proofs.client.ScanLaws.{scan-measures, scan-shut, scan-broken, rows-read, scan-goes}
+use Rattle.parties.proofs.client.ScanLaws.{scan-shut, scan-broken, rows-read, scan-goes}
 use Rattle.parties.proofs.client.turn.scan_answer.Statement.{statement}
 use Rattle.parties.proofs.client.turn.scan_answer.Tie as tie
 
-measured : (c : tie.Else1) → passes (c .before .before .before .before .before .args .s) ≡ true
-measured c = sym (c .before .pass .ensures) ∙ not-false (c .before .pass .result) (c .if1 .left)
-
 -- the gate is open
-enters : (c : tie.After-enum-told) → let a = c .before .before .before .before .before .before .before .before .before .before .before .args in
-    (c .before .before .before .before .before .ample .result ≡ true) × (ltb (a .own) (a .s .m) ≡ true) × (isSome (readClient (a .s) (recordOf (a .p) (a .area .now))) ≡ true)
+enters : (c : tie.After-enum-told) → let a = c .before .before .before .before .before .before .before .before .before .args in
+    (passes (a .s) ≡ true) × ((leb (areaSize (a .s)) (length (a .area .now)) && (leb (a .s .m * rowSize (a .s)) (length (a .rows .now)) && leb (roomSize (a .s)) (length (a .room .now)))) ≡ true) × (ltb (a .own) (a .s .m) ≡ true) × (isSome (readClient (a .s) (recordOf (a .p) (a .area .now))) ≡ true)
 enters c =
-    let x = c .before .before .before .before .before .before in
-    let a = x .before .before .before .before .before .args in
-    gated-open (a .s) (a .p) (a .area .now) (c .before .before .before .before .before .ample .result) (ltb (a .own) (a .s .m)) (c .before .before .admit .result)
-    (c .before .before .admit .ensures) (c .enum-told .given .1)
+    let a = c .before .before .before .before .before .before .before .before .before .args in
+    let l = c .before .before .before .before .before .area-rows-and-room-long in
+    gated-open (a .s) (a .p) (a .area .now) (leb (areaSize (a .s)) (length (a .area .now)) && (leb (a .s .m * rowSize (a .s)) (length (a .rows .now)) && leb (roomSize (a .s)) (length (a .room .now)))) (l .result) (ltb (a .own) (a .s .m)) (l .ensures) (c .before .before .admit .result) (c .before .before .admit .ensures) (c .enum-told .given .1)
 
-opened : (c : tie.After-enum-told) → let a = c .before .before .before .before .before .before .before .before .before .before .before .args in Opened (a .s) (a .p) (a .area .now)
+opened : (c : tie.After-enum-told) → let a = c .before .before .before .before .before .before .before .before .before .args in Opened (a .s) (a .p) (a .area .now)
 opened c =
     let e = enters c in
-    record {
-      measures = measured (c .before .before .before .before .before .before);
-      step = omega arith;
-      reading = omega arith;
-      bytes = λ i. c .before .before .before .before .before .before .before .before .before .before .slice-known .given i .fits;
-      reads = e .2;
-    }
+    record { measures = e .0; step = omega arith; reading = omega arith; bytes = λ i. c .before .before .before .before .before .before .before .before .slice-known .given i .fits; reads = e .3 }
 
 -- rows and room are long enough
-long : (c : tie.After-enum-told) → let a = c .before .before .before .before .before .before .before .before .before .before .before .args in
-    (a .s .m * rowSize (a .s) ≤ length (a .rows .now)) × (roomSize (a .s) ≤ length (a .room .now))
+long : (c : tie.After-enum-told) → let a = c .before .before .before .before .before .before .before .before .before .args in (a .s .m * rowSize (a .s) ≤ length (a .rows .now)) × (roomSize (a .s) ≤ length (a .room .now))
 long c =
-    let x = c .before .before .before .before .before .before in
-    let a = x .before .before .before .before .before .args in
-    let l = and-true (leb (areaSize (a .s)) (length (a .area .now))) _ (sym (c .before .before .before .before .before .ample .ensures) ∙ enters c .0) .1 in
-    let m = and-true (leb (a .s .m * rowSize (a .s)) (length (a .rows .now))) _ l in
+    let a = c .before .before .before .before .before .before .before .before .before .args in
+    let m = and-true (leb (a .s .m * rowSize (a .s)) (length (a .rows .now))) _ (and-true (leb (areaSize (a .s)) (length (a .area .now))) _ (enters c .1) .1) in
     (leb-true (a .s .m * rowSize (a .s)) (length (a .rows .now)) (m .0), leb-true (roomSize (a .s)) (length (a .room .now)) (m .1))
 
-pass-requires : tie.Need-pass-requires
-pass-requires c κs = search needs
-
-returns : tie.Need-returns
-returns c =
-    let a = c .before .before .before .before .before .args in
-    ends-three _ _ (scan-measures (a .s) (a .own) (a .p) (a .area .now) (a .rows .now) (a .room .now) (sym (c .before .pass .ensures) ∙ not-true (c .before .pass .result) (c .if1 .taken)))
-
-ample-requires : tie.Need-ample-requires
-ample-requires c κs = measured c
+area-rows-and-room-long-requires : tie.Need-area-rows-and-room-long-requires
+area-rows-and-room-long-requires c κs = search needs
 
 admit-requires : tie.Need-admit-requires
-admit-requires c κs =
-    let a = c .before .before .before .before .before .before .before .before .args in
-    let l = leb (areaSize (a .s)) (length (a .area .now)) in
-    (measured (c .before .before .before), λ e. leb-true (areaSize (a .s)) (length (a .area .now)) (and-true l _ (sym (c .before .before .ample .ensures) ∙ e) .0))
+admit-requires c κs = let a = c .before .before .before .before .before .before .args in λ e. leb-true (areaSize (a .s)) (length (a .area .now)) (and-true (leb (areaSize (a .s)) (length (a .area .now))) _ (and-true (passes (a .s)) _ (sym (c .before .before .area-rows-and-room-long .ensures) ∙ e) .1) .0)
 
 enum-known-g : tie.Need-enum-known-g
 enum-known-g c = search needs
@@ -79,57 +55,52 @@ enum-known-g c = search needs
 same-length : tie.Need-same-length
 same-length c = search needs
 
-returns-2 : tie.Need-returns-2
-returns-2 c =
-    let x = c .before .before .before .before .before .before in
-    let y = x .before .before .before .before .before .before in
-    let a = y .args in
+returns : tie.Need-returns
+returns c =
+    let a = c .before .before .before .before .before .before .before .before .before .before .args in
+    let l = c .before .before .before .before .before .before .area-rows-and-room-long in
+    let k = c .before .before .before .admit in
     let n = c .before .g .given .0 .0 in
-    ends-three _ _ (scan-shut (a .s) (a .own) (a .p) (a .area .now) (a .rows .now) (a .room .now) (x .ample .result) (x .ample .ensures)
+    ends-three _ _ (scan-shut (a .s) (a .own) (a .p) (a .area .now) (a .rows .now) (a .room .now)
     (unchanged (refused (number n)) (recordOf (a .p) (a .area .now)) (a .room .now) [])
-    (gated-shut (a .s) (a .p) (a .area .now) (x .ample .result) (ltb (a .own) (a .s .m)) (c .before .before .before .admit .result) (c .before .before .before .admit .ensures) n
-    (c .before .g .given .1)
+    (gated-shut (a .s) (a .p) (a .area .now) (leb (areaSize (a .s)) (length (a .area .now)) && (leb (a .s .m * rowSize (a .s)) (length (a .rows .now)) && leb (roomSize (a .s)) (length (a .room .now)))) (l .result) (ltb (a .own) (a .s .m)) (l .ensures) (k .result) (k .ensures) n (c .before .g .given .1)
     (a .room .now) [] (λ k. onRows (readDirectory (a .s) (a .rows .now)) (λ l. scannedAt (a .s) (a .own) k (a .room .now) l (k .phase)))))
 
 enum-told : tie.Need-enum-told
 enum-told c = search needs
 
 row-size-requires : tie.Need-row-size-requires
-row-size-requires c κs = measured (c .before .before .before .before .before .before)
+row-size-requires c κs = enters c .0
 
 directory-requires : tie.Need-directory-requires
-directory-requires c κs = (measured (c .before .before .before .before .before .before .before), c .row-size .ensures, long (c .before) .0)
+directory-requires c κs = (enters (c .before) .0, c .row-size .ensures, long (c .before) .0)
 
 same-length-2 : tie.Need-same-length-2
 same-length-2 c = search needs
 
-returns-3 : tie.Need-returns-3
-returns-3 c =
+returns-2 : tie.Need-returns-2
+returns-2 c =
     let x = c .before .before .before in
-    let a = x .before .before .before .before .before .before .before .before .before .before .before .args in
-    ends-three _ _ (scan-broken (a .s) (a .own) (a .p) (a .area .now) (a .rows .now) (a .room .now) (x .before .before .before .before .before .ample .result)
-    (x .before .before .before .before .before .ample .ensures) (opened x) (enters x .1) (enters x .0)
-    (c .before .directory .ensures ∙ ap (λ (b : Bool). cond b (some (drop (a .s .m * rowSize (a .s)) (a .rows .now))) none) (not-true (c .before .directory .result) (c .if2 .taken))))
+    let a = x .before .before .before .before .before .before .before .before .before .args in
+    ends-three _ _ (scan-broken (a .s) (a .own) (a .p) (a .area .now) (a .rows .now) (a .room .now) (opened x) (enters x .2) (enters x .1)
+    (c .before .directory .ensures ∙ ap (λ (b : Bool). cond b (some (drop (a .s .m * rowSize (a .s)) (a .rows .now))) none) (not-true (c .before .directory .result) (c .if1 .taken))))
 
 -- the rows keep their form
-sound : (c : tie.Else2) → let a = c .before .before .before .before .before .before .before .before .before .before .before .before .before .before .args in rest
-    (readDirectory (a .s) (a .rows .now)) ≡ some (drop (a .s .m * rowSize (a .s)) (a .rows .now))
+sound : (c : tie.Else1) → let a = c .before .before .before .before .before .before .before .before .before .before .before .before .args in rest (readDirectory (a .s) (a .rows .now)) ≡ some (drop (a .s .m * rowSize (a .s)) (a .rows .now))
 sound c =
-    let y = c .before .before .before .before .before .before .before .before .before .before .before .before in
-    let a = y .before .before .args in
-    c .before .directory .ensures ∙ ap (λ (b : Bool). cond b (some (drop (a .s .m * rowSize (a .s)) (a .rows .now))) none) (not-false (c .before .directory .result) (c .if2 .left))
+    let a = c .before .before .before .before .before .before .before .before .before .before .before .before .args in
+    c .before .directory .ensures ∙ ap (λ (b : Bool). cond b (some (drop (a .s .m * rowSize (a .s)) (a .rows .now))) none) (not-false (c .before .directory .result) (c .if1 .left))
 
 after-scan-requires : tie.Need-after-scan-requires
 after-scan-requires c κs =
     let x = c .before .before .before .before .before in
-    let a = x .before .before .before .before .before .before .before .before .before .before .before .args in
+    let a = x .before .before .before .before .before .before .before .before .before .args in
     let e = enters x in (
-      measured (x .before .before .before .before .before .before),
-      ltb-true (a .own) (a .s .m) (e .1),
-      e .2,
+      e .0,
+      ltb-true (a .own) (a .s .m) (e .2),
+      e .3,
       long x .0,
-      rows-read (a .s) (a .own) (a .p) (a .area .now) (a .rows .now) (a .room .now) (x .before .before .before .before .before .ample .result)
-          (x .before .before .before .before .before .ample .ensures) (opened x) (enters x .1) (e .0) _ (sound (c .before .before)),
+      rows-read (a .s) (a .own) (a .p) (a .area .now) (a .rows .now) (a .room .now) (opened x) (e .2) (e .1) _ (sound (c .before .before)),
       long x .1,
     )
 
@@ -139,31 +110,29 @@ same-length-3 c = search needs
 same-length-4 : tie.Need-same-length-4
 same-length-4 c = search needs
 
-returns-4 : tie.Need-returns-4
-returns-4 c =
+returns-3 : tie.Need-returns-3
+returns-3 c =
     let y = c .before .before .before .before .before .before in
     let x = y .before .before .before .before in
-    let a = x .before .before .before .before .before .before .before .before .before .before .before .args in
-    same-end _ _ (scan-goes (a .s) (a .own) (a .p) (a .area .now) (a .rows .now) (a .room .now) (x .before .before .before .before .before .ample .result)
-    (x .before .before .before .before .before .ample .ensures) (opened x) (enters x .1) (enters x .0) _ (sound (y .before))) _ _ _ (c .before .before .before .before .after-scan .ensures)
+    let a = x .before .before .before .before .before .before .before .before .before .args in
+    same-end _ _ (scan-goes (a .s) (a .own) (a .p) (a .area .now) (a .rows .now) (a .room .now) (opened x) (enters x .2) (enters x .1) _ (sound (y .before))) _ _ _
+    (c .before .before .before .before .after-scan .ensures)
 
 pub scan-answer-spec : {M : Type 1} → statement M
 scan-answer-spec =
     tie.close
     (tie.spec
-    pass-requires
-    returns
-    ample-requires
+    area-rows-and-room-long-requires
     admit-requires
     enum-known-g
     same-length
-    returns-2
+    returns
     enum-told
     row-size-requires
     directory-requires
     same-length-2
-    returns-3
+    returns-2
     after-scan-requires
     same-length-3
     same-length-4
-    returns-4)
+    returns-3)

@@ -3,7 +3,7 @@ use mathlib.Core.Path.{_≡_, sym, _∙_}
 use mathlib.Core.Bool.{true, _&&_}
 use mathlib.Core.List.{[]}
 use native.Mathlib.Omega.{arith}
-use borrow.Author.Tests.{not-true, not-false, leb-true}
+use borrow.Author.Tests.{leb-true}
 use lib.Dec.{leb, ltb}
 use lib.ListN.{length}
 use Rattle.coding.proofs.Cases.{and-true}
@@ -14,56 +14,32 @@ use Rattle.parties.specs.protocol.ClientEvents.{unchanged, acknowledgedA
 use Rattle.parties.specs.records.Answer.{number}
 use Rattle.parties.specs.client.Record.{recordOf, areaSize, isSome}
 use Rattle.parties.proofs.client.GateLaws.{gated-open, gated-shut, Opened}
-use Rattle.parties.proofs.client.StartLaws.{ends-three, both-long, update-measures, update-shut, update-other, update-freezing, update-picking}
+use Rattle.parties.proofs.client.StartLaws.{ends-three, both-long, update-shut, update-other, update-freezing, update-picking}
 use Rattle.parties.proofs.client.turn.update_answer.Statement.{statement}
 use Rattle.parties.proofs.client.turn.update_answer.Tie as tie
 
-measured : (c : tie.Else1) → passes (c .before .before .before .before .args .s) ≡ true
-measured c = sym (c .before .pass .ensures) ∙ not-false (c .before .pass .result) (c .if1 .left)
-
 -- the gate is open
-enters : (c : tie.After-enum-told) → let a = c .before .before .before .before .before .before .before .before .before .before .args in
-    (c .before .before .before .before .before .roomy .result ≡ true) × (ltb (a .own) (a .s .m) ≡ true) × (isSome (readClient (a .s) (recordOf (a .p) (a .area .now))) ≡ true)
+enters : (c : tie.After-enum-told) → let a = c .before .before .before .before .before .before .before .before .args in
+    (passes (a .s) ≡ true) × ((leb (areaSize (a .s)) (length (a .area .now)) && leb (roomSize (a .s)) (length (a .room .now))) ≡ true) × (ltb (a .own) (a .s .m) ≡ true) × (isSome (readClient (a .s) (recordOf (a .p) (a .area .now))) ≡ true)
 enters c =
-    let x = c .before .before .before .before .before .before in
-    let a = x .before .before .before .before .args in
-    gated-open (a .s) (a .p) (a .area .now) (c .before .before .before .before .before .roomy .result) (ltb (a .own) (a .s .m)) (c .before .before .admit .result)
-    (c .before .before .admit .ensures) (c .enum-told .given .1)
+    let a = c .before .before .before .before .before .before .before .before .args in
+    let l = c .before .before .before .before .before .area-and-room-long in
+    gated-open (a .s) (a .p) (a .area .now) (leb (areaSize (a .s)) (length (a .area .now)) && leb (roomSize (a .s)) (length (a .room .now))) (l .result) (ltb (a .own) (a .s .m)) (l .ensures) (c .before .before .admit .result) (c .before .before .admit .ensures) (c .enum-told .given .1)
 
-opened : (c : tie.After-enum-told) → let a = c .before .before .before .before .before .before .before .before .before .before .args in Opened (a .s) (a .p) (a .area .now)
+opened : (c : tie.After-enum-told) → let a = c .before .before .before .before .before .before .before .before .args in Opened (a .s) (a .p) (a .area .now)
 opened c =
-    let a = c .before .before .before .before .before .before .before .before .before .before .args in
     let e = enters c in
-    record {
-      measures = measured ((c .before .before .before .before .before .before));
-      step = omega arith;
-      reading = omega arith;
-      bytes = λ i. c .before .before .before .before .before .before .before .before .before .slice-known .given i .fits;
-      reads = e .2;
-    }
+    record { measures = e .0; step = omega arith; reading = omega arith; bytes = λ i. c .before .before .before .before .before .before .before .slice-known .given i .fits; reads = e .3 }
 
-long : (c : tie.After-enum-told) → let a = c .before .before .before .before .before .before .before .before .before .before .args in
+long : (c : tie.After-enum-told) → let a = c .before .before .before .before .before .before .before .before .args in
     (leb (clientSize (a .s)) (length (recordOf (a .p) (a .area .now))) && leb (roomSize (a .s)) (length (a .room .now))) ≡ true
-long c =
-    let x = c .before .before .before .before .before .before in
-    let a = x .before .before .before .before .args in both-long (a .s) (a .own) (a .p) (a .area .now) (a .room .now) ∙ sym (c .before .before .before .before .before .roomy .ensures) ∙ enters c .0
+long c = let a = c .before .before .before .before .before .before .before .before .args in both-long (a .s) (a .own) (a .p) (a .area .now) (a .room .now) ∙ enters c .1
 
-pass-requires : tie.Need-pass-requires
-pass-requires c κs = search needs
-
-returns : tie.Need-returns
-returns c =
-    let a = c .before .before .before .before .args in
-    ends-three _ _ (update-measures (a .s) (a .own) (a .p) (a .area .now) (a .room .now) (sym (c .before .pass .ensures) ∙ not-true (c .before .pass .result) (c .if1 .taken)))
-
-roomy-requires : tie.Need-roomy-requires
-roomy-requires c κs = measured c
+area-and-room-long-requires : tie.Need-area-and-room-long-requires
+area-and-room-long-requires c κs = search needs
 
 admit-requires : tie.Need-admit-requires
-admit-requires c κs =
-    let a = c .before .before .before .before .before .before .before .args in
-    let l = leb (areaSize (a .s)) (length (a .area .now)) in
-    (measured (c .before .before .before), λ e. leb-true (areaSize (a .s)) (length (a .area .now)) (and-true l _ (sym (c .before .before .roomy .ensures) ∙ e) .0))
+admit-requires c κs = let a = c .before .before .before .before .before .args in λ e. leb-true (areaSize (a .s)) (length (a .area .now)) (and-true (leb (areaSize (a .s)) (length (a .area .now))) _ (and-true (passes (a .s)) _ (sym (c .before .before .area-and-room-long .ensures) ∙ e) .1) .0)
 
 enum-known-g : tie.Need-enum-known-g
 enum-known-g c = search needs
@@ -71,15 +47,15 @@ enum-known-g c = search needs
 same-length : tie.Need-same-length
 same-length c = search needs
 
-returns-2 : tie.Need-returns-2
-returns-2 c =
-    let x = c .before .before .before .before .before .before in
-    let a = x .before .before .before .before .before .args in
+returns : tie.Need-returns
+returns c =
+    let a = c .before .before .before .before .before .before .before .before .before .args in
+    let l = c .before .before .before .before .before .before .area-and-room-long in
+    let k = c .before .before .before .admit in
     let n = c .before .g .given .0 .0 in
-    ends-three _ _ (update-shut (a .s) (a .own) (a .p) (a .area .now) (a .room .now) (x .roomy .result) (x .roomy .ensures)
+    ends-three _ _ (update-shut (a .s) (a .own) (a .p) (a .area .now) (a .room .now)
     (unchanged (refused (number n)) (recordOf (a .p) (a .area .now)) (a .room .now) [])
-    (gated-shut (a .s) (a .p) (a .area .now) (x .roomy .result) (ltb (a .own) (a .s .m)) (c .before .before .before .admit .result) (c .before .before .before .admit .ensures) n
-    (c .before .g .given .1)
+    (gated-shut (a .s) (a .p) (a .area .now) (leb (areaSize (a .s)) (length (a .area .now)) && leb (roomSize (a .s)) (length (a .room .now))) (l .result) (ltb (a .own) (a .s .m)) (l .ensures) (k .result) (k .ensures) n (c .before .g .given .1)
     (a .room .now) [] (λ k. acknowledgedAt k (a .room .now) (k .phase))))
 
 enum-told : tie.Need-enum-told
@@ -88,45 +64,43 @@ enum-told c = search needs
 same-length-2 : tie.Need-same-length-2
 same-length-2 c = search needs
 
-returns-3 : tie.Need-returns-3
-returns-3 c =
-    let a = c .before .before .before .before .before .before .before .before .before .before .before .before .before .args in
+returns-2 : tie.Need-returns-2
+returns-2 c =
+    let a = c .before .before .before .before .before .before .before .before .before .before .before .args in
     let d = (c .before .before .before) in
-    ends-three _ _ (update-freezing (a .s) (a .own) (a .p) (a .area .now) (opened d) (enters d .1) (a .room .now) (long d) (c .if2 .taken))
+    ends-three _ _ (update-freezing (a .s) (a .own) (a .p) (a .area .now) (opened d) (enters d .2) (a .room .now) (long d) (c .if1 .taken))
 
 same-length-3 : tie.Need-same-length-3
 same-length-3 c = search needs
 
-returns-4 : tie.Need-returns-4
-returns-4 c =
-    let a = c .before .before .before .before .before .before .before .before .before .before .before .before .before .before .before .args in
+returns-3 : tie.Need-returns-3
+returns-3 c =
+    let a = c .before .before .before .before .before .before .before .before .before .before .before .before .before .args in
     let d = (c .before .before .before .before .before) in
-    ends-three _ _ (update-picking (a .s) (a .own) (a .p) (a .area .now) (opened d) (enters d .1) (a .room .now) (long d) (c .if3 .taken))
+    ends-three _ _ (update-picking (a .s) (a .own) (a .p) (a .area .now) (opened d) (enters d .2) (a .room .now) (long d) (c .if2 .taken))
 
 same-length-4 : tie.Need-same-length-4
 same-length-4 c = search needs
 
-returns-5 : tie.Need-returns-5
-returns-5 c =
-    let a = c .before .before .before .before .before .before .before .before .before .before .before .before .before .before .before .args in
+returns-4 : tie.Need-returns-4
+returns-4 c =
+    let a = c .before .before .before .before .before .before .before .before .before .before .before .before .before .args in
     let d = (c .before .before .before .before .before) in
-    ends-three _ _ (update-other (a .s) (a .own) (a .p) (a .area .now) (opened d) (enters d .1) (a .room .now) (long d) (c .before .before .if2 .left) (c .if3 .left))
+    ends-three _ _ (update-other (a .s) (a .own) (a .p) (a .area .now) (opened d) (enters d .2) (a .room .now) (long d) (c .before .before .if1 .left) (c .if2 .left))
 
 pub update-answer-spec : {M : Type 1} → statement M
 update-answer-spec =
     tie.close
     (tie.spec
-    pass-requires
-    returns
-    roomy-requires
+    area-and-room-long-requires
     admit-requires
     enum-known-g
     same-length
-    returns-2
+    returns
     enum-told
     same-length-2
-    returns-3
+    returns-2
     same-length-3
-    returns-4
+    returns-3
     same-length-4
-    returns-5)
+    returns-4)
