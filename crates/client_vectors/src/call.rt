@@ -14,7 +14,7 @@ fn both(h: Call, records: &[u8], client: &mut [u8], bytes: &[u8], room: &mut [u8
 {
     let x = forms::by_value(h, records, client, bytes, room, out);
     let y = forms::in_one_slice(h, records, client, bytes, room, out);
-    line::print_once(h.kind, x, y);
+    line::print_agreed(h.kind, x, y);
 }
 
 // The record is as before the call if it is not kept: a change is undone by itself.

@@ -19,51 +19,30 @@ fn print_version(v: Version) {
     vectors::digit(v.client as usize);
 }
 
+fn print_numbered(name: &[u8], n: usize) {
+    vectors::word(name);
+    vectors::number(n);
+}
+
+fn print_of_version(name: &[u8], v: Version, n: usize) {
+    vectors::word(name);
+    print_version(v);
+    vectors::number(n);
+}
+
 fn print_answer(a: ClientAnswer) {
     match a {
-        ClientAnswer::Refused(r) => {
-            vectors::word(b" refused");
-            vectors::number(r.number());
-        }
-        ClientAnswer::Waits => {
-            vectors::word(b" waits");
-        }
-        ClientAnswer::Scan => {
-            vectors::word(b" scan");
-        }
-        ClientAnswer::Update(n) => {
-            vectors::word(b" update");
-            vectors::number(n);
-        }
-        ClientAnswer::Stores(v, n) => {
-            vectors::word(b" stores");
-            print_version(v);
-            vectors::number(n);
-        }
-        ClientAnswer::Requests(v, nodes) => {
-            vectors::word(b" requests");
-            print_version(v);
-            vectors::number(nodes as usize);
-        }
-        ClientAnswer::Deposited(v, n) => {
-            vectors::word(b" deposited");
-            print_version(v);
-            vectors::number(n);
-        }
-        ClientAnswer::Empty => {
-            vectors::word(b" empty");
-        }
-        ClientAnswer::Page(v, n) => {
-            vectors::word(b" page");
-            print_version(v);
-            vectors::number(n);
-        }
-        ClientAnswer::Spent => {
-            vectors::word(b" spent");
-        }
-        ClientAnswer::Failed => {
-            vectors::word(b" failed");
-        }
+        ClientAnswer::Refused(r) => print_numbered(b" refused", r.number()),
+        ClientAnswer::Waits => vectors::word(b" waits"),
+        ClientAnswer::Scan => vectors::word(b" scan"),
+        ClientAnswer::Update(n) => print_numbered(b" update", n),
+        ClientAnswer::Stores(v, n) => print_of_version(b" stores", v, n),
+        ClientAnswer::Requests(v, nodes) => print_of_version(b" requests", v, nodes as usize),
+        ClientAnswer::Deposited(v, n) => print_of_version(b" deposited", v, n),
+        ClientAnswer::Empty => vectors::word(b" empty"),
+        ClientAnswer::Page(v, n) => print_of_version(b" page", v, n),
+        ClientAnswer::Spent => vectors::word(b" spent"),
+        ClientAnswer::Failed => vectors::word(b" failed"),
     }
 }
 
@@ -104,7 +83,7 @@ fn same(x: Shown, y: Shown) -> bool {
 }
 
 // The line of one form; a line of words follows if the other shows anything else.
-pub fn print_once(kind: u8, x: Shown, y: Shown) {
+pub fn print_agreed(kind: u8, x: Shown, y: Shown) {
     print(kind, x);
     if !same(x, y) {
         vectors::word(b"not so in one slice\n");
