@@ -1,13 +1,14 @@
 -- Laws of a session: fresh memory begins a run, and each operation goes on with it.
-use mathlib.Core.Path.{_≡_, sym, ap, _∙_}
+use mathlib.Core.Path.{_≡_, refl, sym, ap, _∙_}
 use mathlib.Core.Bool.{Bool, true}
+use mathlib.Core.Logic.{_⊎_, inl, inr}
 use mathlib.Core.List.{List, [], _∷_, _++_, append-nil, append-assoc}
 use Prim.Native.Nat.{ℕ, zero, suc, _+_, _-_, _≤_, _<_}
-use native.Mathlib.Decide.{decLe}
+use native.Mathlib.Decide.{ℕ-discrete, decLe}
 use native.Mathlib.Numerals.{add-one}
 use native.Mathlib.Omega.{arith}
-use lib.ListN.{length, take, getD, length-append}
-use lib.Seq.{take-suc, take-all}
+use lib.ListN.{length, take, drop, getD, length-append, length-drop, drop-of-length-le}
+use lib.Seq.{take-suc, take-all, length-take-le, drop-at, drop-drop}
 use Rattle.parties.specs.declared.Measures.{Measures}
 use Rattle.parties.specs.protocol.Measures.{passes}
 use Rattle.parties.specs.protocol.Answer.{Served, refuses, serves}
@@ -30,7 +31,7 @@ use Rattle.lines.proofs.ReadLaws.{begun-read}
 use Rattle.session.specs.declared.session.Session.{Session}
 use Rattle.session.specs.declared.settle.Settled.{Settled}
 use Rattle.session.specs.Settle.{Settles}
-use Rattle.session.specs.Session.{Runs, Live, newLine, started, Held, LiveIn, held, Feeds, FeedsAll, FeedsInput}
+use Rattle.session.specs.Session.{Runs, Live, newLine, started, Held, LiveIn, held, Feeds, FeedsAll, Gives, FeedsParts, FeedsInput}
 use Rattle.session.proofs.SettleLaws.{settles-continue}
 
 -- ---- a run begins
@@ -117,8 +118,85 @@ feeds-then x y a b z h FeedsAll.begun = rw (append-nil a) h
 feeds-then x y a b z h (FeedsAll.more bytes c len w v k f) =
     rw (← append-assoc a bytes (c ∷ [])) (FeedsAll.more (a ++ bytes) c len w z (feeds-then x y a bytes w h k) f)
 
--- one part of the input more
-pub feeds-part : (x y z : Held) (most left n : ℕ) (part : List ℕ) → n ≡ length part → n ≤ left → FeedsInput x most y left → FeedsAll y part z
-    → FeedsInput x most z (left - n)
-feeds-part x y z most left n part e l h f =
-    record { bytes = h .bytes ++ part; count = omega (arith, h .count, length-append (h .bytes) part); feeds = feeds-then x y (h .bytes) part z (h .feeds) f }
+-- ---- a read of standard input
+
+pub gives-all : (most n : ℕ) (input input′ : List ℕ) → length input ≤ most → n ≤ length input′ → length input′ ≡ length input → Gives most input input′ n
+gives-all most n input input′ h l e =
+    let m : length input′ ≤ most = omega arith in
+    record { few = omega arith; fits = omega arith; same = e; rest = drop-of-length-le input′ m ∙ sym (drop-of-length-le input h) }
+
+pub gives-part : (most n : ℕ) (input part : List ℕ) → length part ≡ length (take most input) → most ≤ length input → n ≤ length part
+    → Gives most input (part ++ drop most input) n
+gives-part most n input part e h l =
+    let m : length part ≡ most = e ∙ length-take-le most input h in
+    record {
+      few = omega arith;
+      fits = omega arith;
+      same = simp (length-append, length-drop) (omega arith);
+      rest = drop-at part (drop most input) most m;
+    }
+
+-- one part more
+pub input-more : (x y z : Held) (input before after : List ℕ) (most left : ℕ) (n : ℕ) → FeedsParts x input most y before left
+    → (y .session .stage ≡ 2 → (n ≡ 0) × (after ≡ before)) → ((y .session .stage ≡ 2 → ⊥) → Gives left before after n) → (n ≡ 0 → ⊥) → FeedsAll y (take n after) z
+    → FeedsParts x input most z after (left - n)
+input-more x y z input before after most left n h u g l f =
+    let d : y .session .stage ≡ 2 → ⊥ = λ e. l (u e .0) in FeedsParts.part y z before after left n h d (g d) (omega (arith, l)) f
+
+-- a last read gives none, or nothing is read
+pub input-ends : (x y : Held) (input before after : List ℕ) (most left n : ℕ) → FeedsParts x input most y before left → n ≡ 0
+    → (y .session .stage ≡ 2 → (n ≡ 0) × (after ≡ before)) → ((y .session .stage ≡ 2 → ⊥) → Gives left before after n) → FeedsInput x input most y after left
+input-ends x y input before after most left n h z u g = record { before = before; parts = h; stops = go (ℕ-discrete (y .session .stage) 2) }
+  where
+    go : Dec (y .session .stage ≡ 2) → Gives left before after 0 ⊎ (((left ≡ 0) ⊎ (y .session .stage ≡ 2)) × (after ≡ before))
+    go (yes e) = inr (inr e, u e .1)
+    go (no e) = inl (rw z at (g e))
+
+-- ---- all parts together: the bytes that were fed, and what became of the slice
+
+pub record Fed (x : Held) (input : List ℕ) (most : ℕ) (y : Held) (input′ : List ℕ) (left : ℕ) : Type 0 where
+  pub bytes : List ℕ
+  pub count : length bytes + left ≡ most
+  pub feeds : FeedsAll x bytes y
+  pub same : length input′ ≡ length input
+  pub rest : drop most input′ ≡ drop most input
+
+-- one read leaves what is behind all that may be read
+drop-more : (left most : ℕ) (a b : List ℕ) → left ≤ most → drop left a ≡ drop left b → drop most a ≡ drop most b
+drop-more left most a b h e =
+    let m : left + (most - left) ≡ most = omega arith in
+    ap (λ (n : ℕ). drop n a) (sym m) ∙ sym (drop-drop (most - left) left a) ∙ ap (drop (most - left)) e ∙ drop-drop (most - left) left b ∙ ap (λ (n : ℕ). drop n b) m
+
+parts-fed : (x y : Held) (input before : List ℕ) (most left : ℕ) → FeedsParts x input most y before left → Fed x input most y before left
+parts-fed x y input before most left FeedsParts.unfed = record { bytes = []; count = omega arith; feeds = FeedsAll.begun; same = refl; rest = refl }
+parts-fed x z input after most left (FeedsParts.part y w before b rest n h u g l f) =
+    let d = parts-fed x y input before most rest h in
+    let e : length (take n after) ≡ n = length-take-le n after (omega (arith, g .fits, g .same)) in
+    record {
+      bytes = d .bytes ++ take n after;
+      count = omega (arith, d .count, e, g .few, length-append (d .bytes) (take n after));
+      feeds = feeds-then x y (d .bytes) (take n after) z (d .feeds) f;
+      same = g .same ∙ d .same;
+      rest = drop-more rest most after before (omega (arith, d .count)) (g .rest) ∙ d .rest;
+    }
+
+pub input-fed : (x y : Held) (input input′ : List ℕ) (most left : ℕ) → FeedsInput x input most y input′ left → Fed x input most y input′ left
+input-fed x y input input′ most left h = go (h .stops)
+  where
+    d : Fed x input most y (h .before) left
+    d = parts-fed x y input (h .before) most left (h .parts)
+
+    go : Gives left (h .before) input′ 0 ⊎ (((left ≡ 0) ⊎ (y .session .stage ≡ 2)) × (input′ ≡ h .before)) → Fed x input most y input′ left
+    go (inl g) =
+        record {
+          bytes = d .bytes;
+          count = d .count;
+          feeds = d .feeds;
+          same = g .same ∙ d .same;
+          rest = drop-more left most input′ (h .before) (omega (arith, d .count)) (g .rest) ∙ d .rest;
+        }
+    go (inr q) = rw (q .1) d
+
+pub input-live : (x y : Held) (input input′ : List ℕ) (most left : ℕ) → FeedsInput x input most y input′ left → LiveIn x → LiveIn y
+input-live x y input input′ most left h l =
+    let d = input-fed x y input input′ most left h in feeds-live x (d .bytes) y (d .feeds) l

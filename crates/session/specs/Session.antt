@@ -1,10 +1,11 @@
 -- A session of `stand`: what a line prints, and what follows it.
 use mathlib.Core.Path.{_≡_}
 use mathlib.Core.Bool.{Bool, true, false, cond, _&&_}
+use mathlib.Core.Logic.{_⊎_}
 use mathlib.Core.List.{List, [], _∷_, _++_}
-use Prim.Native.Nat.{ℕ, _+_, _-_, _*_, _<_}
+use Prim.Native.Nat.{ℕ, _+_, _-_, _*_, _<_, _≤_}
 use lib.Dec.{leb, ltb}
-use lib.ListN.{length, take}
+use lib.ListN.{length, take, drop}
 use Rattle.parties.specs.declared.Measures.{Measures}
 use Rattle.parties.specs.protocol.Measures.{passes}
 use Rattle.parties.specs.protocol.ClientEvents.{roomSize}
@@ -203,11 +204,25 @@ pub data FeedsAll (x : Held) : List ℕ → Held → Type 0 where
   begun : FeedsAll x [] x
   more : (bytes : List ℕ) (b len : ℕ) (y z : Held) → FeedsAll x bytes y → Feeds y b z len → FeedsAll x (bytes ++ (b ∷ [])) z
 
--- at most so many bytes of standard input, which are free
-pub record FeedsInput (x : Held) (most : ℕ) (y : Held) (left : ℕ) : Type 0 where
-  pub bytes : List ℕ
-  pub count : length bytes + left ≡ most
-  pub feeds : FeedsAll x bytes y
+-- a read of standard input, of at most so many bytes: n of them stand at the front of the slice
+-- what it leaves in that many bytes of the slice is free, also where it gives none; the rest is as it was
+pub record Gives (most : ℕ) (input input′ : List ℕ) (n : ℕ) : Type 0 where
+  pub few : n ≤ most
+  pub fits : n ≤ length input
+  pub same : length input′ ≡ length input
+  pub rest : drop most input′ ≡ drop most input
+
+-- parts of standard input are read and fed, one after the other; so many bytes may still be read
+pub data FeedsParts (x : Held) (input : List ℕ) (most : ℕ) : Held → List ℕ → ℕ → Type 0 where
+  unfed : FeedsParts x input most x input most
+  part : (y z : Held) (before after : List ℕ) (left n : ℕ) → FeedsParts x input most y before left → (y .session .stage ≡ 2 → ⊥) → Gives left before after n
+      → 0 < n → FeedsAll y (take n after) z → FeedsParts x input most z after (left - n)
+
+-- until a read gives none, or nothing is read: no byte is left to read, or a first line was refused
+pub record FeedsInput (x : Held) (input : List ℕ) (most : ℕ) (y : Held) (input′ : List ℕ) (left : ℕ) : Type 0 where
+  pub before : List ℕ
+  pub parts : FeedsParts x input most y before left
+  pub stops : Gives left before input′ 0 ⊎ (((left ≡ 0) ⊎ (y .session .stage ≡ 2)) × (input′ ≡ before))
 
 pub record Closed (x y : Held) : Type 0 where
   pub len : ℕ

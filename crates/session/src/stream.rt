@@ -9,7 +9,7 @@ ghost use mathlib.Core.Path.{_≡_};
 ghost use Prim.Native.Nat.{_≤_};
 ghost use lib.ListN.{length};
 ghost use Rattle.session.specs.Settle.{lend};
-ghost use Rattle.session.specs.Session.{held, FeedsAll, FeedsInput, Closed};
+ghost use Rattle.session.specs.Session.{held, FeedsAll, Gives, FeedsInput, Closed};
 
 // The answer's line is written.
 fn put(a: Answer, text: &[u8]) -> Session
@@ -45,7 +45,8 @@ pub fn feed_all(
 
 // More of standard input, at most so many bytes; nothing is read once a first line was refused.
 fn more(stage: u8, most: usize, input: &mut [u8]) -> usize
-    ensures { λ r. ⌜ (r ≤ most) × (r ≤ length (now (input .exit))) ⌝ }
+    ensures { λ r. ⌜ (r ≤ most) × (r ≤ length (now (input .exit))) × (stage ≡ 2 → (r ≡ 0) × (now (input .exit) ≡ now (input .entry)))
+        × ((stage ≡ 2 → ⊥) → Gives most (now (input .entry)) (now (input .exit)) r) ⌝ }
 {
     if stage == 2 {
         return 0;
@@ -75,8 +76,8 @@ pub fn feed_input(
     page: &mut [u8],
     text: &mut [u8],
 ) -> Fed
-    ensures { λ r. ⌜ FeedsInput (held x (lend (now (memory .entry)) (now (post .entry)) (now (room .entry)) (now (out .entry))) (now (page .entry)) (now (text .entry))) most
-        (held (r .session) (lend (now (memory .exit)) (now (post .exit)) (now (room .exit)) (now (out .exit))) (now (page .exit)) (now (text .exit))) (r .left) ⌝ }
+    ensures { λ r. ⌜ FeedsInput (held x (lend (now (memory .entry)) (now (post .entry)) (now (room .entry)) (now (out .entry))) (now (page .entry)) (now (text .entry))) (now (input .entry)) most
+        (held (r .session) (lend (now (memory .exit)) (now (post .exit)) (now (room .exit)) (now (out .exit))) (now (page .exit)) (now (text .exit))) (now (input .exit)) (r .left) ⌝ }
 {
     let mut y = x;
     let mut left = most;

@@ -1,26 +1,26 @@
 use mathlib.Core.Path.{_≡_, refl, sym}
 use native.Mathlib.Omega.{arith}
-use mathlib.Core.List.{[]}
+use mathlib.Core.Logic.{inl, inr}
 use lib.ListN.{length}
 use lib.Seq.{length-take-le}
 use borrow.Author.Needs.{needs}
 use Rattle.session.specs.Settle.{lend}
-use Rattle.session.specs.Session.{held, FeedsAll, FeedsInput}
-use Rattle.session.proofs.SessionLaws.{feeds-part}
+use Rattle.session.specs.Session.{held, FeedsParts}
+use Rattle.session.proofs.SessionLaws.{input-ends, input-more}
 use Rattle.session.proofs.stream.feed_input.Statement.{statement}
 use Rattle.session.proofs.stream.feed_input.Tie as tie
 
 abbrev Inv-loop : tie.InvT-loop
 Inv-loop most input₀ memory₀ room₀ out₀ post₀ page₀ text₀ y₀ left₀ input memory room out post page text y left =
     (length input ≡ length input₀) × (length memory ≡ length memory₀) × (length room ≡ length room₀) × (length out ≡ length out₀) × (length post ≡ length post₀) × (length page ≡ length page₀) × (length text ≡ length text₀)
-    × FeedsInput (held y₀ (lend memory₀ post₀ room₀ out₀) page₀ text₀) left₀ (held y (lend memory post room out) page text) left
+    × FeedsParts (held y₀ (lend memory₀ post₀ room₀ out₀) page₀ text₀) input₀ left₀ (held y (lend memory post room out) page text) input left
 
 abbrev μ-loop : tie.MeasureT-loop
 μ-loop most input₀ memory₀ room₀ out₀ post₀ page₀ text₀ y₀ left₀ input memory room out post page text y left =
     left
 
 loop-holds : tie.Need-loop-holds Inv-loop μ-loop
-loop-holds c = (refl, refl, refl, refl, refl, refl, refl, record { bytes = []; count = omega arith; feeds = FeedsAll.begun })
+loop-holds c = (refl, refl, refl, refl, refl, refl, refl, FeedsParts.unfed)
 
 more-requires : tie.Need-more-requires Inv-loop μ-loop
 more-requires c κs = search needs
@@ -47,7 +47,9 @@ same-length-7 : tie.Need-same-length-7 Inv-loop μ-loop
 same-length-7 c = c .before .before .before .before .before .before .loop .inv .6
 
 returns : tie.Need-returns Inv-loop μ-loop
-returns c = c .before .before .before .before .before .before .loop .inv .7
+returns c =
+    let h = c .before .before .before .before .before .before .loop .inv in
+    input-ends _ _ _ _ _ _ _ _ (h .7) (c .if1 .taken) (c .before .before .before .more .ensures .2) (c .before .before .before .more .ensures .3)
 
 slice-reshare-prefix-feed-all : tie.Need-slice-reshare-prefix-feed-all Inv-loop μ-loop
 slice-reshare-prefix-feed-all c = c .before .before .before .more .ensures .1
@@ -74,7 +76,7 @@ loop-again c =
       omega (arith, h .4, c .before .before .before .before .before .post .given),
       omega (arith, h .5, c .before .before .before .page .given),
       omega (arith, h .6, c .before .text .given),
-      feeds-part _ _ _ _ _ _ _ (sym (length-take-le _ _ (c .before .before .before .before .before .before .before .before .before .before .before .before .before .before .before .before .before .before .before .before .before .before .before .more .ensures .1))) (c .before .before .before .before .before .before .before .before .before .before .before .before .before .before .before .before .before .before .before .before .before .before .before .more .ensures .0) (h .7) (c .before .before .before .before .before .before .before .before .before .before .before .before .feed-all .ensures),
+      input-more _ _ _ _ _ _ _ _ _ (h .7) (c .before .before .before .before .before .before .before .before .before .before .before .before .before .before .before .before .before .before .before .before .before .before .before .more .ensures .2) (c .before .before .before .before .before .before .before .before .before .before .before .before .before .before .before .before .before .before .before .before .before .before .before .more .ensures .3) (c .before .before .before .before .before .before .before .before .before .before .before .before .before .before .before .before .before .before .before .before .if1 .left) (c .before .before .before .before .before .before .before .before .before .before .before .before .feed-all .ensures),
     )
 
 same-length-8 : tie.Need-same-length-8 Inv-loop μ-loop
@@ -99,7 +101,7 @@ same-length-14 : tie.Need-same-length-14 Inv-loop μ-loop
 same-length-14 c = c .before .loop .inv .6
 
 returns-2 : tie.Need-returns-2 Inv-loop μ-loop
-returns-2 c = c .before .loop .inv .7
+returns-2 c = record { before = _; parts = c .before .loop .inv .7; stops = inr (inl (omega arith), refl) }
 
 pub feed-input-spec : {M : Type 1} → statement M
 feed-input-spec =
