@@ -21,7 +21,7 @@ numbersOf zero ws = []
 numbersOf (suc n) [] = limit ∷ numbersOf n []
 numbersOf (suc n) (w ∷ ws) = numberOr (numberOf w) ∷ numbersOf n ws
 
--- a page of these bytes stands at the front of the slice, as far as the slice has room: n of them; behind them the slice is free
+-- a page of these bytes stands at the front of the slice, as far as the slice has room: n of them; of what lies behind them this says nothing
 pub record Kept (bytes : List ℕ) (n : ℕ) (page : List ℕ) : Type 0 where
   pub size : n ≡ min (length bytes) (length page)
   pub front : take n page ≡ take n bytes

@@ -127,5 +127,5 @@ pub record Read (p : List ℕ) (r : Reading) (page : List ℕ) : Type 0 where
   pub long : r .len ≡ min 8 (length under)
   pub value : r .value ≡ valueOf under
   pub hex : r .hex ≡ every hexDigit under
-  -- from the word's first byte that is no hex digit on, the whole slice is free, and so are `odd`, `high` and `bytes`; a new word begins anew
+  -- of a word with a byte that is no hex digit, nothing is said of the slice, `odd`, `high` and `bytes`; a new word begins anew
   pub pairs : every hexDigit under ≡ true → Paired under r page

@@ -4,7 +4,7 @@ use mathlib.Core.Bool.{Bool, true}
 use mathlib.Core.Logic.{_⊎_, inl, inr}
 use mathlib.Core.List.{List, [], _∷_, _++_, append-nil, append-assoc}
 use Prim.Native.Nat.{ℕ, zero, suc, _+_, _-_, _≤_, _<_}
-use native.Mathlib.Decide.{ℕ-discrete, decLe}
+use native.Mathlib.Decide.{ℕ-discrete, decLe, decLt}
 use native.Mathlib.Numerals.{add-one}
 use native.Mathlib.Omega.{arith}
 use lib.ListN.{length, take, drop, getD, length-append, length-drop, drop-of-length-le}
@@ -144,13 +144,13 @@ input-more x y z input before after most left n h u g l f =
     let d : y .session .stage ≡ 2 → ⊥ = λ e. l (u e .0) in FeedsParts.part y z before after left n h d (g d) (omega (arith, l)) f
 
 -- a last read gives none, or nothing is read
-pub input-ends : (x y : Held) (input before after : List ℕ) (most left n : ℕ) → FeedsParts x input most y before left → n ≡ 0
+pub input-ends : (x y : Held) (input before after : List ℕ) (most left n : ℕ) → FeedsParts x input most y before left → 0 < left → n ≡ 0
     → (y .session .stage ≡ 2 → (n ≡ 0) × (after ≡ before)) → ((y .session .stage ≡ 2 → ⊥) → Gives left before after n) → FeedsInput x input most y after left
-input-ends x y input before after most left n h z u g = record { before = before; parts = h; stops = go (ℕ-discrete (y .session .stage) 2) }
+input-ends x y input before after most left n h l z u g = record { before = before; parts = h; unread = none; last = λ _ e. rw z at (g e) }
   where
-    go : Dec (y .session .stage ≡ 2) → Gives left before after 0 ⊎ (((left ≡ 0) ⊎ (y .session .stage ≡ 2)) × (after ≡ before))
-    go (yes e) = inr (inr e, u e .1)
-    go (no e) = inl (rw z at (g e))
+    none : (left ≡ 0) ⊎ (y .session .stage ≡ 2) → after ≡ before
+    none (inl e) = absurd (omega arith)
+    none (inr e) = u e .1
 
 -- ---- all parts together: the bytes that were fed, and what became of the slice
 
@@ -181,13 +181,14 @@ parts-fed x z input after most left (FeedsParts.part y w before b rest n h u g l
     }
 
 pub input-fed : (x y : Held) (input input′ : List ℕ) (most left : ℕ) → FeedsInput x input most y input′ left → Fed x input most y input′ left
-input-fed x y input input′ most left h = go (h .stops)
+input-fed x y input input′ most left h = go (decLt 0 left) (ℕ-discrete (y .session .stage) 2)
   where
     d : Fed x input most y (h .before) left
     d = parts-fed x y input (h .before) most left (h .parts)
 
-    go : Gives left (h .before) input′ 0 ⊎ (((left ≡ 0) ⊎ (y .session .stage ≡ 2)) × (input′ ≡ h .before)) → Fed x input most y input′ left
-    go (inl g) =
+    go : Dec (0 < left) → Dec (y .session .stage ≡ 2) → Fed x input most y input′ left
+    go (yes l) (no e) =
+        let g = h .last l e in
         record {
           bytes = d .bytes;
           count = d .count;
@@ -195,7 +196,8 @@ input-fed x y input input′ most left h = go (h .stops)
           same = g .same ∙ d .same;
           rest = drop-more left most input′ (h .before) (omega (arith, d .count)) (g .rest) ∙ d .rest;
         }
-    go (inr q) = rw (q .1) d
+    go (yes l) (yes e) = rw (h .unread (inr e)) d
+    go (no l) e = rw (h .unread (inl (omega arith))) d
 
 pub input-live : (x y : Held) (input input′ : List ℕ) (most left : ℕ) → FeedsInput x input most y input′ left → LiveIn x → LiveIn y
 input-live x y input input′ most left h l =

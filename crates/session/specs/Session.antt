@@ -218,11 +218,12 @@ pub data FeedsParts (x : Held) (input : List ℕ) (most : ℕ) : Held → List �
   part : (y z : Held) (before after : List ℕ) (left n : ℕ) → FeedsParts x input most y before left → (y .session .stage ≡ 2 → ⊥) → Gives left before after n
       → 0 < n → FeedsAll y (take n after) z → FeedsParts x input most z after (left - n)
 
--- until a read gives none, or nothing is read: no byte is left to read, or a first line was refused
+-- until no byte is left to read or a first line was refused, and then nothing is read, or a read gives none
 pub record FeedsInput (x : Held) (input : List ℕ) (most : ℕ) (y : Held) (input′ : List ℕ) (left : ℕ) : Type 0 where
   pub before : List ℕ
   pub parts : FeedsParts x input most y before left
-  pub stops : Gives left before input′ 0 ⊎ (((left ≡ 0) ⊎ (y .session .stage ≡ 2)) × (input′ ≡ before))
+  pub unread : (left ≡ 0) ⊎ (y .session .stage ≡ 2) → input′ ≡ before
+  pub last : 0 < left → (y .session .stage ≡ 2 → ⊥) → Gives left before input′ 0
 
 pub record Closed (x y : Held) : Type 0 where
   pub len : ℕ

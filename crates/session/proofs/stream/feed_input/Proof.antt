@@ -1,6 +1,5 @@
 use mathlib.Core.Path.{_≡_, refl, sym}
 use native.Mathlib.Omega.{arith}
-use mathlib.Core.Logic.{inl, inr}
 use lib.ListN.{length}
 use lib.Seq.{length-take-le}
 use borrow.Author.Needs.{needs}
@@ -49,7 +48,7 @@ same-length-7 c = c .before .before .before .before .before .before .loop .inv .
 returns : tie.Need-returns Inv-loop μ-loop
 returns c =
     let h = c .before .before .before .before .before .before .loop .inv in
-    input-ends _ _ _ _ _ _ _ _ (h .7) (c .if1 .taken) (c .before .before .before .more .ensures .2) (c .before .before .before .more .ensures .3)
+    input-ends _ _ _ _ _ _ _ _ (h .7) (omega arith) (c .if1 .taken) (c .before .before .before .more .ensures .2) (c .before .before .before .more .ensures .3)
 
 slice-reshare-prefix-feed-all : tie.Need-slice-reshare-prefix-feed-all Inv-loop μ-loop
 slice-reshare-prefix-feed-all c = c .before .before .before .more .ensures .1
@@ -101,7 +100,7 @@ same-length-14 : tie.Need-same-length-14 Inv-loop μ-loop
 same-length-14 c = c .before .loop .inv .6
 
 returns-2 : tie.Need-returns-2 Inv-loop μ-loop
-returns-2 c = record { before = _; parts = c .before .loop .inv .7; stops = inr (inl (omega arith), refl) }
+returns-2 c = record { before = _; parts = c .before .loop .inv .7; unread = λ e. refl; last = λ l e. absurd (omega arith) }
 
 pub feed-input-spec : {M : Type 1} → statement M
 feed-input-spec =
