@@ -26,6 +26,7 @@ shown-claim s honest memory st o claim =
       order = claim .order;
       strict = claim .strict;
       exact = claim .exact;
+      reads = λ i g lo up. rw (o .nodes i lo up) (claim .reads i g lo up);
       held = λ x p a b e.
           let h = claim .held x p a b e in
           (h .0, h .1, h .2, h .3, λ i g lo up w. rw (o .nodes i lo up) (h .4 i g lo up w));

@@ -27,5 +27,5 @@ pub record ServiceClaim (s : Measures) (honest : ℕ → Bool) (memory : List �
   pub shows : Shows s memory st
   -- the claim holds of the run
   pub ofRun : Claim s honest st
-  -- and of the memory itself: an honest node named by an open reading's pointer holds its piece in its table there, and at most 2m of one writer
+  -- and of the memory itself: an honest node's table there reads; named by an open reading's pointer it has the piece, and of one writer at most 2m
   pub ofMemory : Claim s honest (inMemory s memory st)

@@ -60,7 +60,7 @@ Alike h o p = ((d : ℕ) × Concerns h o d × Concerns h p d) ⊎ (FoundNothing 
 
 -- ---- tables
 
--- what a node's table shows: its filled places
+-- what a node's table shows: its filled places, or nothing if it does not read
 abbrev pub shown : Option (Read (List Held)) → List Held
 shown none = []
 shown (some r) = r .value
@@ -86,6 +86,8 @@ pub record Claim (s : Measures) (honest : ℕ → Bool) (st : State) : Type 0 wh
   -- a reading that ended with a page gave its deposit's exact bytes
   pub exact : (o : ℕ) (given : List ℕ) → o < st .history .begun → st .history .operation o .given ≡ some given
       → (d : ℕ) × Concerns (st .history) o d × IsDeposit (st .history) d given
+  -- every honest node's table reads whole: what it holds is never empty for want of form
+  pub reads : (i : ℕ) → honest i ≡ true → 1 ≤ i → i ≤ s .n → readTable s (st .nodes i) ≡ some (record { value = places s st i; rest = [] })
   -- every honest node named by an open reading's pointer holds its piece of that reading's deposit
   pub held : (o : ℕ) (p : Pointer) → Open (st .history) o → IsReading (st .history) o → st .history .operation o .pointer ≡ some p
       → (d : ℕ) × (bytes : List ℕ) × Concerns (st .history) o d × IsDeposit (st .history) d bytes

@@ -214,11 +214,13 @@ module _ (z : Measures) (honest : ℕ → Bool) (ok : passes z ≡ true) (s : Mo
           (s .p .deposits (ver x), shows-deposit o x e p k′ b m′, v .recording .deposited (ver x) d′ .page)
 
   module _ (st : State) (o : Shows z honest st s) where
-    shown-places : (i : ℕ) → honest i ≡ true → 1 ≤ i → i ≤ z .n → places z st i ≡ s .n .held i
-    shown-places i hi lo up =
+    reads-held : (i : ℕ) → honest i ≡ true → 1 ≤ i → i ≤ z .n → readTable z (st .nodes i) ≡ some (record { value = s .n .held i; rest = [] })
+    reads-held i hi lo up =
         let t = o .table i hi lo up in
-        ap (λ b. shown (readTable z b)) (t .bytes ∙ sym (append-nil (writeTable z (s .n .held i))))
-        ∙ ap shown (format-table z .back (s .n .held i) (t .good) [])
+        ap (readTable z) (t .bytes ∙ sym (append-nil (writeTable z (s .n .held i)))) ∙ format-table z .back (s .n .held i) (t .good) []
+
+    shown-places : (i : ℕ) → honest i ≡ true → 1 ≤ i → i ≤ z .n → places z st i ≡ s .n .held i
+    shown-places i hi lo up = ap shown (reads-held i hi lo up)
 
     held-in : (j : ℕ) (p : Pointer) → Open (s .h) j → IsReading (s .h) j → s .h .operation j .pointer ≡ some p
         → (d : ℕ) × (bytes : List ℕ) × Concerns (s .h) j d × IsDeposit (s .h) d bytes
@@ -255,6 +257,7 @@ module _ (z : Measures) (honest : ℕ → Bool) (ok : passes z ≡ true) (s : Mo
           strict = rw (o .history) (λ e j u w bytes b c p d.
               below-num u w (borne-client e u (borne e u b)) (borne-client j w (borne j w c)) ∙ lt-ltb (num u) (num w) (later e j u w b c p .1 bytes d));
           exact = rw (o .history) exact-in;
+          reads = λ i hi lo up. rw (shown-places i hi lo up) (reads-held i hi lo up);
           held = rw (o .history) held-in;
           few = λ i w hi lo up l. rw (shown-places i hi lo up) (held-few z honest s (passed z ok) (v .owned) (v .stocking) i hi lo up w l);
         }
