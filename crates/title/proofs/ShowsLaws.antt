@@ -19,7 +19,7 @@ use Rattle.parties.specs.protocol.Run.{stays, goes, told, carried, keeps, isRef
 use Rattle.parties.specs.protocol.Run.{Event, deposit, reading, carry, hand, bring, deliver, lie, carryOut, tick}
 use Rattle.parties.proofs.protocol.model.Cells.{by-eq}
 use Rattle.parties.proofs.protocol.events.RunLaws.{head-scan, head-update, head-updated, head-rows, head-to-node, head-lost, head-to-client, none-called, none-returned, none-to-node, none-to-client}
-use Rattle.parties.proofs.protocol.events.RefusalLaws.{Guarded, deposit-guarded, reading-guarded, updated-guarded, scanned-guarded, message-guarded}
+use Rattle.parties.proofs.protocol.events.RefusalLaws.{Guarded, left-record, deposit-guarded, reading-guarded, updated-guarded, scanned-guarded, message-guarded}
 use Rattle.parties.proofs.protocol.events.TableRefusalLaws.{Keeps, Refuses, refused-keeps, update-keeps, scan-keeps, node-keeps, node-refuses}
 use Rattle.title.specs.Memory.{partOf, directoryIn, tableAt, tableIn, recordAt, recordIn, Put}
 use Rattle.title.specs.Service.{Shows, Deposits, Reads, Updated, Scanned, ToClient, Updates, ToNode, Called, Returned, Brought, Delivered, Lied, Handed}
@@ -84,14 +84,15 @@ module _ (s : Measures) (ok : passes s ≡ true) (memory after : List ℕ) (st :
             (λ e g. rw e (other-record l j k g ∙ o .clients j k))
 
   -- an event of client c: refused, nothing changes; else its record does
-  module _ (c : ℕ) (f : List ℕ → ClientEnd) (g : Guarded s c f)
+  module _ (c : ℕ) {room out : List ℕ} (f : List ℕ → ClientEnd) (g : Guarded s c room out f)
       (p : Put memory (recordAt s c) (recordIn s c memory) (f (recordIn s c memory) .client) after) where
     turn-shows : (a : Answered) (h h′ : History) (returns : ℕ → List Return) (toClient : ℕ → ℕ → List (List ℕ))
         → Shows s after (cond (isRefused (f (st .clients c) .answer)) (stays a h st) (goes s c (f (st .clients c)) returns toClient h′ st) .state)
     turn-shows a h h′ returns toClient = go (decLt c (s .m))
       where
         unchanged : isRefused (f (recordIn s c memory) .answer) ≡ true → after ≡ memory
-        unchanged e = record-same c (f (recordIn s c memory) .client) p (g .kept (recordIn s c memory) e)
+        unchanged e = record-same c (f (recordIn s c memory) .client) p
+            (left-record (f (recordIn s c memory)) (recordIn s c memory) room out (g .left (recordIn s c memory)) e)
 
         known : c < s .m → recordIn s c memory ≡ st .clients c → (b : Bool) → isRefused (f (st .clients c) .answer) ≡ b
             → Shows s after (cond b (stays a h st) (goes s c (f (st .clients c)) returns toClient h′ st) .state)

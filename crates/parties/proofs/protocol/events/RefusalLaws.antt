@@ -1,12 +1,12 @@
--- An event that is refused leaves the client's record as it was, and a client's number out of bounds is refused.
-use mathlib.Core.Path.{_≡_, refl, sym, _∙_}
+-- An event that is refused leaves the client's record, room and output as they were, and a client's number out of bounds is refused.
+use mathlib.Core.Path.{_≡_, refl, sym, ap, _∙_}
 use mathlib.Core.Bool.{Bool, true, false, cond, _&&_, false≢true, not}
-use mathlib.Core.List.{List, []}
+use mathlib.Core.List.{List, [], _++_}
 use mathlib.Core.Option.{Option, some, none}
 use Prim.Native.Nat.{ℕ, _+_, _-_, _*_, _≤_}
 use borrow.Author.Tests.{le-ltb}
 use lib.Dec.{leb, ltb}
-use lib.ListN.{length, set}
+use lib.ListN.{length, drop, set}
 use Rattle.coding.specs.Answer.{Outcome}
 use Rattle.coding.specs.Join.{join}
 use Rattle.parties.specs.declared.Measures.{Measures}
@@ -20,13 +20,13 @@ use Rattle.parties.specs.protocol.Nodes.{count, stands, withNode}
 use Rattle.parties.specs.protocol.Pointer.{Pointer, isNone}
 use Rattle.parties.specs.protocol.Directory.{Row, readDirectory}
 use Rattle.parties.specs.protocol.Message.{ToClient, readToClient}
-use Rattle.parties.specs.protocol.Client.{Phase, idle, scanning, storing, updating, freezing, raising, picking, fetching, Client, readClient, clientSize, areas, lengths}
+use Rattle.parties.specs.protocol.Client.{Phase, idle, scanning, storing, updating, freezing, raising, picking, fetching, Client, readClient, writeClient, freshClient, clientSize, areas, lengths}
 use Rattle.parties.specs.protocol.Deposit.{highest}
 use Rattle.parties.specs.protocol.Reading.{pick, counts, matches, allCounted, sameVersion}
-use Rattle.parties.specs.protocol.Answer.{ClientAnswer, refused}
+use Rattle.parties.specs.protocol.Answer.{ClientAnswer, refused, waits, scan, update, stores, requests, deposited, empty, page, spent, failed}
 use Rattle.parties.specs.protocol.ClientEvents.{Step, stays, does, ClientEnd, after, onClient, guarded, unchanged, roomSize, isIdle, beginDeposit, beginReading, raise}
 use Rattle.parties.specs.protocol.ClientEvents.{acknowledgedAt, scannedAt, draw, storedAt, goOn, joinedAt, counted, repliedAt, messageAt, onRows, onMessage}
-use Rattle.parties.specs.protocol.ClientEvents.{startDeposit, startReading, updateAnswer, scanAnswer, clientMessage}
+use Rattle.parties.specs.protocol.ClientEvents.{clientFresh, startDeposit, startReading, updateAnswer, scanAnswer, clientMessage}
 use Rattle.parties.specs.protocol.Run.{isRefused}
 
 -- ---- steps of a client: one that changes the record is not refused
@@ -130,32 +130,37 @@ fair-heard (some a) f h = h a
 
 -- ---- events of a client
 
--- of the record's bytes alone: refused, it leaves them as they were, and a number out of bounds is refused
-pub record Guarded (s : Measures) (c : ℕ) (f : List ℕ → ClientEnd) : Type 0 where
-  pub kept : (b : List ℕ) → isRefused (f b .answer) ≡ true → f b .client ≡ b
+-- refused, it leaves record, room and output byte for byte as they came
+abbrev pub Left : ClientEnd → List ℕ → List ℕ → List ℕ → Type 0
+Left e client room out = (n : ℕ) → e .answer ≡ refused n → e ≡ unchanged (refused n) client room out
+
+-- of an event on the record's bytes: what it leaves, and that a number out of bounds is refused
+pub record Guarded (s : Measures) (c : ℕ) (room out : List ℕ) (f : List ℕ → ClientEnd) : Type 0 where
+  pub left : (b : List ℕ) → Left (f b) b room out
   pub bounded : s .m ≤ c → (b : List ℕ) → isRefused (f b .answer) ≡ true
 
-after-kept : (s : Measures) (client room out rest : List ℕ) (x : Step) → Fair x → isRefused (after s client room out rest x .answer) ≡ true
-    → after s client room out rest x .client ≡ client
-after-kept s client room out rest x (still a) e = refl
-after-kept s client room out rest x (acts a c r o q) e = absurd (false≢true (sym q ∙ e))
+unchanged-left : (a : ClientAnswer) (client room out : List ℕ) → Left (unchanged a client room out) client room out
+unchanged-left a client room out n e = ap (λ (x : ClientAnswer). unchanged x client room out) e
 
-on-kept : (s : Measures) (client room out : List ℕ) (x : Option (Read Client)) (f : Client → Step) → ((c : Client) → Fair (f c))
-    → isRefused (onClient s client room out x f .answer) ≡ true → onClient s client room out x f .client ≡ client
-on-kept s client room out none f h e = refl
-on-kept s client room out (some r) f h e = after-kept s client room out (r .rest) (f (r .value)) (h (r .value)) e
+after-left : (s : Measures) (client room out rest : List ℕ) (x : Step) → Fair x → Left (after s client room out rest x) client room out
+after-left s client room out rest x (still a) = unchanged-left a client room out
+after-left s client room out rest x (acts a c r o q) = λ n e. absurd (false≢true (sym q ∙ ap isRefused e))
+
+on-left : (s : Measures) (client room out : List ℕ) (x : Option (Read Client)) (f : Client → Step) → ((c : Client) → Fair (f c))
+    → Left (onClient s client room out x f) client room out
+on-left s client room out none f h = unchanged-left (refused 4) client room out
+on-left s client room out (some r) f h = after-left s client room out (r .rest) (f (r .value)) (h (r .value))
 
 -- the three tests
 abbrev tested : Bool → Bool → Bool → ClientEnd → (ClientAnswer → ClientEnd) → ClientEnd
 tested p enough within e refuse = cond p (cond enough (cond within e (refuse (refused 3))) (refuse (refused 2))) (refuse (refused 1))
 
-tested-kept : (p enough within : Bool) (e : ClientEnd) (client room out : List ℕ) → (isRefused (e .answer) ≡ true → e .client ≡ client)
-    → isRefused (tested p enough within e (λ a. unchanged a client room out) .answer) ≡ true
-    → tested p enough within e (λ a. unchanged a client room out) .client ≡ client
-tested-kept true true true e client room out h q = h q
-tested-kept true true false e client room out h q = refl
-tested-kept true false within e client room out h q = refl
-tested-kept false enough within e client room out h q = refl
+tested-left : (p enough within : Bool) (e : ClientEnd) (client room out : List ℕ) → Left e client room out
+    → Left (tested p enough within e (λ a. unchanged a client room out)) client room out
+tested-left true true true e client room out h = h
+tested-left true true false e client room out h = unchanged-left (refused 3) client room out
+tested-left true false within e client room out h = unchanged-left (refused 2) client room out
+tested-left false enough within e client room out h = unchanged-left (refused 1) client room out
 
 tested-bounded : (p enough : Bool) (e : ClientEnd) (client room out : List ℕ)
     → isRefused (tested p enough false e (λ a. unchanged a client room out) .answer) ≡ true
@@ -163,37 +168,54 @@ tested-bounded true true e client room out = refl
 tested-bounded true false e client room out = refl
 tested-bounded false enough e client room out = refl
 
+refused-is : (a : ClientAnswer) → isRefused a ≡ true → (n : ℕ) × (a ≡ refused n)
+refused-is (refused n) e = (n, refl)
+refused-is waits e = absurd (false≢true e)
+refused-is scan e = absurd (false≢true e)
+refused-is (update len) e = absurd (false≢true e)
+refused-is (stores v len) e = absurd (false≢true e)
+refused-is (requests v nodes) e = absurd (false≢true e)
+refused-is (deposited v len) e = absurd (false≢true e)
+refused-is empty e = absurd (false≢true e)
+refused-is (page v len) e = absurd (false≢true e)
+refused-is spent e = absurd (false≢true e)
+refused-is failed e = absurd (false≢true e)
+
+-- of the record alone
+pub left-record : (e : ClientEnd) (client room out : List ℕ) → Left e client room out → isRefused (e .answer) ≡ true → e .client ≡ client
+left-record e client room out h q =
+    let r = refused-is (e .answer) q in ap (λ (x : ClientEnd). x .client) (h (r .0) (r .1))
+
 guarded-all : (s : Measures) (c : ℕ) (enough : List ℕ → Bool) (within : Bool) (room out : List ℕ) (f : Client → Step)
     → (s .m ≤ c → within ≡ false) → ((x : Client) → Fair (f x))
-    → Guarded s c (λ b. guarded s (enough b) within (onClient s b room out (readClient s b) f) (λ a. unchanged a b room out))
+    → Guarded s c room out (λ b. guarded s (enough b) within (onClient s b room out (readClient s b) f) (λ a. unchanged a b room out))
 guarded-all s c enough within room out f h k =
     record {
-      kept = λ b e.
-          tested-kept (passes s) (enough b) within (onClient s b room out (readClient s b) f) b room out
-          (on-kept s b room out (readClient s b) f k) e;
+      left = λ b.
+          tested-left (passes s) (enough b) within (onClient s b room out (readClient s b) f) b room out (on-left s b room out (readClient s b) f k);
       bounded = λ l b. rw (h l) (tested-bounded (passes s) (enough b) (onClient s b room out (readClient s b) f) b room out);
     }
 
 module _ (s : Measures) (c : ℕ) where
-  pub deposit-guarded : (page : List ℕ) → Guarded s c (λ b. startDeposit s c b page)
+  pub deposit-guarded : (bytes : List ℕ) → Guarded s c [] [] (λ b. startDeposit s c b bytes)
   unfolding startDeposit
-  deposit-guarded page =
-      guarded-all s c (λ b. leb (clientSize s) (length b)) (ltb c (s .m)) [] [] (λ x. beginDeposit s x page) (le-ltb c (s .m))
-      (λ x. fair-deposit s x page)
+  deposit-guarded bytes =
+      guarded-all s c (λ b. leb (clientSize s) (length b)) (ltb c (s .m)) [] [] (λ x. beginDeposit s x bytes) (le-ltb c (s .m))
+      (λ x. fair-deposit s x bytes)
 
-  pub reading-guarded : (room : List ℕ) → Guarded s c (λ b. startReading s c b room)
+  pub reading-guarded : (room : List ℕ) → Guarded s c room [] (λ b. startReading s c b room)
   unfolding startReading
   reading-guarded room =
       guarded-all s c (λ b. leb (clientSize s) (length b) && leb (roomSize s) (length room)) (ltb c (s .m)) room [] (λ x. beginReading x room)
       (le-ltb c (s .m)) (λ x. fair-reading x room)
 
-  pub updated-guarded : (room : List ℕ) → Guarded s c (λ b. updateAnswer s c b room)
+  pub updated-guarded : (room : List ℕ) → Guarded s c room [] (λ b. updateAnswer s c b room)
   unfolding updateAnswer
   updated-guarded room =
       guarded-all s c (λ b. leb (clientSize s) (length b) && leb (roomSize s) (length room)) (ltb c (s .m)) room []
       (λ x. acknowledgedAt x room (x .phase)) (le-ltb c (s .m)) (λ x. fair-acknowledged x room (x .phase))
 
-  pub scanned-guarded : (rows room : List ℕ) → Guarded s c (λ b. scanAnswer s c b rows room)
+  pub scanned-guarded : (rows room : List ℕ) → Guarded s c room [] (λ b. scanAnswer s c b rows room)
   unfolding scanAnswer
   scanned-guarded rows room =
       guarded-all s c
@@ -201,7 +223,7 @@ module _ (s : Measures) (c : ℕ) where
       (λ x. onRows (readDirectory s rows) (λ l. scannedAt s c x room l (x .phase))) (le-ltb c (s .m))
       (λ x. fair-rows (readDirectory s rows) _ (λ l. fair-scanned s c x room l (x .phase)))
 
-  pub message-guarded : (i : ℕ) (message room out : List ℕ) → Guarded s c (λ b. clientMessage s c i b message room out)
+  pub message-guarded : (i : ℕ) (message room out : List ℕ) → Guarded s c room out (λ b. clientMessage s c i b message room out)
   unfolding clientMessage
   message-guarded i message room out =
       guarded-all s c
@@ -209,3 +231,29 @@ module _ (s : Measures) (c : ℕ) where
       (ltb c (s .m) && (leb 1 i && leb i (s .n))) room out (λ x. onMessage (readToClient s message) (λ m. messageAt s i x room out m))
       (λ h. rw (le-ltb c (s .m) h))
       (λ x. fair-heard (readToClient s message) _ (λ m. fair-message s i x room out m))
+
+-- ---- of a client all that was lent
+
+-- Document 01: memory stays unchanged at every number but 7 in a deposit and 9 in a reading, which are the answers `spent` and `failed`.
+pub record ClientLeaves (s : Measures) (own : ℕ) (client : List ℕ) : Type 0 where
+  pub fresh : Left (clientFresh s client) client [] []
+  pub deposit : (bytes : List ℕ) → Left (startDeposit s own client bytes) client [] []
+  pub reading : (room : List ℕ) → Left (startReading s own client room) client room []
+  pub updated : (room : List ℕ) → Left (updateAnswer s own client room) client room []
+  pub scanned : (rows room : List ℕ) → Left (scanAnswer s own client rows room) client room []
+  pub message : (i : ℕ) (message room out : List ℕ) → Left (clientMessage s own i client message room out) client room out
+
+pub client-leaves : (s : Measures) (own : ℕ) (client : List ℕ) → ClientLeaves s own client
+unfolding clientFresh
+client-leaves s own client =
+    record {
+      fresh =
+          tested-left (passes s) (leb (clientSize s) (length client)) true
+          (record { answer = waits; client = writeClient s (freshClient s) ++ drop (clientSize s) client; room = []; out = [] }) client [] []
+          (λ n e. absurd (false≢true (ap isRefused e)));
+      deposit = λ bytes. deposit-guarded s own bytes .left client;
+      reading = λ room. reading-guarded s own room .left client;
+      updated = λ room. updated-guarded s own room .left client;
+      scanned = λ rows room. scanned-guarded s own rows room .left client;
+      message = λ i message room out. message-guarded s own i message room out .left client;
+    }
