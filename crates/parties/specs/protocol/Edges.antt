@@ -11,9 +11,9 @@ use Rattle.parties.specs.declared.Measures.{Measures}
 use Rattle.parties.specs.protocol.Measures.{passes}
 use Rattle.parties.specs.protocol.Version.{below, lastNumber}
 use Rattle.parties.specs.protocol.Directory.{Row, readDirectory, freshDirectory}
-use Rattle.parties.specs.protocol.Client.{scanning, picking, Client, readClient, clientSize}
+use Rattle.parties.specs.protocol.Client.{idle, scanning, picking, Client, readClient, clientSize}
 use Rattle.parties.specs.protocol.Deposit.{highest}
-use Rattle.parties.specs.protocol.Answer.{refused, stores, empty, spent, number, refuses}
+use Rattle.parties.specs.protocol.Answer.{refused, scan, stores, empty, spent, number, refuses}
 use Rattle.parties.specs.protocol.ClientEvents.{roomSize, startDeposit, scanAnswer}
 use Rattle.parties.specs.protocol.DirectoryEvents.{directorySize, directoryUpdate}
 
@@ -27,12 +27,26 @@ pub record Handed (s : Measures) (own : ℕ) (client rows room : List ℕ) (c : 
   pub rows-rest : List ℕ
   pub rows-read : readDirectory s rows ≡ some (record { value = l; rest = rows-rest })
 
+-- a deposit is started at an idle client whose record reads, with the length that is wanted
+pub record Asked (s : Measures) (own : ℕ) (client : List ℕ) (c : Client) : Type 0 where
+  pub measures : passes s ≡ true
+  pub number : own < s .m
+  pub enough : clientSize s ≤ length client
+  pub record-rest : List ℕ
+  pub record-reads : readClient s client ≡ some (record { value = c; rest = record-rest })
+  pub unoccupied : c .phase ≡ idle
+
 pub record Edges : Type 0 where
   -- m 2, n 4, k 2, t 1 passes; n 3 is refused 1
   pub four-nodes : (f : ℕ) → 2 ≤ f → f ≤ 4096 → passes (record { m = 2; n = 4; k = 2; t = 1; f = f }) ≡ true
   pub three-nodes : (f : ℕ) → passes (record { m = 2; n = 3; k = 2; t = 1; f = f }) ≡ false
   pub three-refused : (f own : ℕ) (client bytes : List ℕ)
       → startDeposit (record { m = 2; n = 3; k = 2; t = 1; f = f }) own client bytes .answer ≡ refused 1
+  -- k 2, F 4, at the start of a deposit: 4 bytes pass, and its scan is called; 5 are refused 6
+  pub four-bytes : (m n t own : ℕ) (client bytes : List ℕ) (c : Client) → Asked (record { m = m; n = n; k = 2; t = t; f = 4 }) own client c
+      → length bytes ≡ 4 → startDeposit (record { m = m; n = n; k = 2; t = t; f = 4 }) own client bytes .answer ≡ scan
+  pub five-bytes : (m n t own : ℕ) (client bytes : List ℕ) (c : Client) → Asked (record { m = m; n = n; k = 2; t = t; f = 4 }) own client c
+      → length bytes ≡ 5 → startDeposit (record { m = m; n = n; k = 2; t = t; f = 4 }) own client bytes .answer ≡ refused 6
   -- version (2, 0) is above (1, 7)
   pub later : below (record { sequence = record { 0 = 1 }; client = 7 }) (record { sequence = record { 0 = 2 }; client = 0 }) ≡ true
   -- fresh directory: a reading ends empty; the first deposit draws 1
@@ -51,5 +65,5 @@ pub record Edges : Type 0 where
   -- update bit map hex 10: 4
   pub wrong-map : (s : Measures) (own : ℕ) (table rest : List ℕ) → passes s ≡ true → directorySize s ≤ length table → own < s .m
       → directoryUpdate s own table (0x10 ∷ rest) .answer ≡ refuses 4
-  -- k 2, F 4: 4 bytes pass, 5 are refused 6; field, hex: 2 times 80 is 1D; the pieces of an empty page, of hex 41, of hex 41 42
+  -- k 2, F 4, of a split: 4 bytes pass, 5 are refused 6; field, hex: 2 times 80 is 1D; the pieces of an empty page, of hex 41, of hex 41 42
   pub coding : CodingEdges

@@ -3,10 +3,10 @@ use mathlib.Core.Path.{_≡_, refl, ap, _∙_}
 use mathlib.Core.Bool.{Bool, true, false, cond}
 use mathlib.Core.List.{List, [], _∷_}
 use mathlib.Core.Option.{Option, some, none}
-use Prim.Native.Nat.{ℕ, zero, suc, _*_, _≤_, _<_}
+use Prim.Native.Nat.{ℕ, zero, suc, _-_, _*_, _≤_, _<_}
 use native.Mathlib.Omega.{arith}
 use borrow.Author.Tests.{le-leb, lt-ltb}
-use lib.Dec.{ltb}
+use lib.Dec.{leb, ltb}
 use lib.ListN.{length, getD, replicate}
 use Rattle.coding.proofs.EdgeCases.{edges as coding-edges}
 use Rattle.parties.specs.declared.Measures.{Measures}
@@ -20,10 +20,10 @@ use Rattle.parties.specs.protocol.Directory.{Row, readRecord, readDirect
 use Rattle.parties.specs.protocol.Client.{Phase, Client, clientSize}
 use Rattle.parties.specs.protocol.Deposit.{highest}
 use Rattle.parties.specs.protocol.Reading.{candidate, pick}
-use Rattle.parties.specs.protocol.Answer.{number, refuses, empty}
-use Rattle.parties.specs.protocol.ClientEvents.{ClientEnd, roomSize, scannedAt, fetch, draw, onClient, onRows, after, startDeposit, scanAnswer}
+use Rattle.parties.specs.protocol.Answer.{refused, scan, number, refuses, empty}
+use Rattle.parties.specs.protocol.ClientEvents.{Step, stays, does, withPhase, isIdle, ClientEnd, roomSize, beginDeposit, scannedAt, fetch, draw, onClient, onRows, after, startDeposit, scanAnswer}
 use Rattle.parties.specs.protocol.DirectoryEvents.{directorySize, onTable, directoryUpdate}
-use Rattle.parties.specs.protocol.Edges.{Handed, Edges}
+use Rattle.parties.specs.protocol.Edges.{Handed, Asked, Edges}
 
 four : (f : ℕ) → 2 ≤ f → f ≤ 4096 → passes (record { m = 2; n = 4; k = 2; t = 1; f = f }) ≡ true
 unfolding passes
@@ -45,6 +45,32 @@ handed s own client rows room c l h =
     )
     (ap (λ r. onClient s client room [] r (λ x. onRows (readDirectory s rows) (λ y. scannedAt s own x room y (x .phase)))) (h .record-reads)
     ∙ ap (λ r. after s client room [] (h .record-rest) (onRows r (λ y. scannedAt s own c room y (c .phase)))) (h .rows-read))
+
+-- where the record reads, a deposit's start is the step on it
+asked : (s : Measures) (own : ℕ) (client bytes : List ℕ) (c : Client) (h : Asked s own client c)
+    → startDeposit s own client bytes ≡ after s client [] [] (h .record-rest) (beginDeposit s c bytes)
+unfolding startDeposit
+asked s own client bytes c h =
+    simp (h .measures, le-leb (clientSize s) (length client) (h .enough), lt-ltb own (s .m) (h .number))
+    (ap (λ r. onClient s client [] [] r (λ x. beginDeposit s x bytes)) (h .record-reads))
+
+-- a page that has at most, or more than, kF − 4 bytes
+measured : (s : Measures) (own : ℕ) (client bytes : List ℕ) (c : Client) (h : Asked s own client c) (b : Bool) → leb (length bytes) (s .k * s .f - 4) ≡ b
+    → startDeposit s own client bytes .answer ≡ cond b scan (refused 6)
+unfolding beginDeposit
+measured s own client bytes c h b e =
+    ap (λ (x : ClientEnd). x .answer) (asked s own client bytes c h)
+    ∙ ap (λ (p : Phase). after s client [] [] (h .record-rest) (cond (isIdle p) (begins (leb (length bytes) (s .k * s .f - 4))) (stays (refused 5))) .answer)
+    (h .unoccupied)
+    ∙ ap (λ (x : Bool). after s client [] [] (h .record-rest) (begins x) .answer) e
+    ∙ go b
+  where
+    begins : Bool → Step
+    begins x = cond x (does scan (withPhase (Phase.scanning bytes) c) [] []) (stays (refused 6))
+
+    go : (x : Bool) → after s client [] [] (h .record-rest) (begins x) .answer ≡ cond x scan (refused 6)
+    go true = refl
+    go false = refl
 
 -- a fresh row offers nothing
 fresh-offer : (s : Measures) (own : ℕ) (i : ReadingIndex) → candidate own i (freshRow s) ≡ nonePointer
@@ -112,6 +138,10 @@ edges =
       four-nodes = four;
       three-nodes = λ f. refl;
       three-refused = λ f own client bytes. refl;
+      four-bytes = λ m n t own client bytes c h l.
+          measured (record { m = m; n = n; k = 2; t = t; f = 4 }) own client bytes c h true (ap (λ (x : ℕ). leb x 4) l);
+      five-bytes = λ m n t own client bytes c h l.
+          measured (record { m = m; n = n; k = 2; t = t; f = 4 }) own client bytes c h false (ap (λ (x : ℕ). leb x 4) l);
       later = refl;
       nothing = nothing;
       first = λ s own client rows room bytes c h e.
