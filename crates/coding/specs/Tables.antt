@@ -1,4 +1,5 @@
--- The two tables by which elements are multiplied.
+-- The two tables by which elements are multiplied. `TableLaws`: `table-rule` has their rule: each entry of the first is twice the
+-- last modulo hex 11D, and the second inverts it.
 use mathlib.Core.List.{List, [], _∷_}
 use Prim.Native.Nat.{ℕ}
 
