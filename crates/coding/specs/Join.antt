@@ -39,7 +39,7 @@ abbrev pub pageEnd : Option (List ℕ) → List ℕ → JoinEnd
 pageEnd none out = record { outcome = Outcome.refuses 4; out = out }
 pageEnd (some page) out = record { outcome = Outcome.gives (length page); out = page ++ drop (length page) out }
 
--- the room is n areas of F bytes, area i with the piece of node i
+-- the room begins with n areas of F bytes, area i with the piece of node i
 unfoldable pub join : ℕ → ℕ → ℕ → ℕ → List ℕ → List ℕ → List ℕ → JoinEnd
 join n k F present room lens out =
     cond (proper n k F)

@@ -22,7 +22,8 @@ unfoldable pub rootsAt : List ℕ → List ℕ
 rootsAt [] = 1 ∷ []
 rootsAt (x ∷ xs) = plus (0 ∷ rootsAt xs) (times x (rootsAt xs))
 
--- Newton's interpolation: the polynomial with as many coefficients as there are points that has the value f x at each point x
+-- Newton's interpolation: where no point stands twice, the polynomial with as many coefficients as there are points that has the
+-- value f x at each point x
 unfoldable pub interpolate : List ℕ → (ℕ → ℕ) → List ℕ
 interpolate [] f = []
 interpolate (x ∷ xs) f =

@@ -12,7 +12,7 @@ pub record SplitEnd : Type 0 where
   pub outcome : Outcome
   pub room : List ℕ
 
--- the room is n areas of F bytes: piece i stands at the front of area i, and what lies beyond it is as it was
+-- the room begins with n areas of F bytes: piece i stands at the front of area i, and what lies beyond it is as it was
 unfoldable pub written : ℕ → ℕ → List ℕ → List ℕ → ℕ → List ℕ
 written k F page room zero = room
 written k F page room (suc i) = paste (written k F page room i) (i * F) (piece k page (suc i)) (columns k (length page))

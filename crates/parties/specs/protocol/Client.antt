@@ -158,7 +158,7 @@ writeWork s (fetching p c m ps) = writeFetches s (record { pointer = p; counted 
 abbrev pub workSize : Measures → ℕ
 workSize s = pointerSize s + 4 + s .n * (34 + s .f)
 
--- a reserved version is none or one that a deposit draws
+-- a reserved version is none, or has sequence at least 1 and client below m
 abbrev pub properReserved : Measures → Version → Bool
 properReserved s v = isNoVersion v || properVersion s v
 

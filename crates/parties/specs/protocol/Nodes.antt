@@ -6,7 +6,7 @@ use lib.Dec.{eqb}
 use lib.ListN.{length}
 use Rattle.coding.specs.Nodes.{nodesOf}
 
--- the nodes that a bit map names, ascending
+-- the nodes 1 to 16 that a bit map names, ascending
 abbrev pub nodesIn : ℕ → List ℕ
 nodesIn map = nodesOf map 16
 

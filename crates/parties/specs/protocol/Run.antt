@@ -96,7 +96,7 @@ pub data Event : Type 0 where
   -- a dishonest node i hands client c some bytes
   lie : ℕ → ℕ → List ℕ → List ℕ → List ℕ → Event
 
--- what an event answered: nothing was under way, or the answer of the party
+-- what an event answered: the party's answer, or nothing; nothing where none was under way, at a dishonest node, and at a lie of an honest one
 pub data Answered : Type 0 where
   nothing : Answered
   byClient : ClientAnswer → Answered
