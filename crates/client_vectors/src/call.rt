@@ -8,7 +8,7 @@ use crate::records::save;
 ghost use Prim.Native.Nat.{_≤_};
 ghost use lib.ListN.{length};
 
-// Both forms of an event; what the second leaves of the record is kept.
+// Both forms of an event; `client` has the record that the second leaves.
 fn both(h: Call, records: &[u8], client: &mut [u8], bytes: &[u8], room: &mut [u8], out: &mut [u8])
     requires { ⌜ 5 ≤ length (now client) ⌝ }
 {
