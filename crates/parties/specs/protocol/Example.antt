@@ -7,7 +7,7 @@ use mathlib.Core.List.{List, [], _∷_, _++_, map}
 use mathlib.Core.Option.{Option, some, none}
 use Prim.Native.Nat.{ℕ, _-_, _*_, _≤_}
 use lib.Dec.{eqb}
-use lib.ListN.{replicate}
+use lib.ListN.{length, replicate}
 use Rattle.coding.specs.Digest.{pieceDigest}
 use Rattle.coding.specs.Pieces.{piece}
 use Rattle.parties.specs.declared.Measures.{Measures}
@@ -15,7 +15,7 @@ use Rattle.parties.specs.declared.Version.{Version}
 use Rattle.parties.specs.protocol.Version.{below, noVersion}
 use Rattle.parties.specs.protocol.Format.{Read}
 use Rattle.parties.specs.protocol.Pointer.{Pointer, writeVersion}
-use Rattle.parties.specs.protocol.NodeTable.{Held}
+use Rattle.parties.specs.protocol.NodeTable.{Held, readTable}
 use Rattle.parties.specs.protocol.Node.{handBack}
 use Rattle.parties.specs.protocol.Message.{ToClient, writeToClient}
 use Rattle.parties.specs.protocol.Client.{Client, readClient}
@@ -131,8 +131,8 @@ depositC =
     ∷ heardFrom 1 1 ∷ heardFrom 1 1 ∷ heardFrom 2 1 ∷ heardFrom 2 1 ∷ heardFrom 3 1 ∷ heardFrom 3 1 ∷ enoughFrom 1 1 137
     ∷ concludes 1 (version 3 1) 1)
 
--- Client 1 deposits B's page again, as D: (4, 1). Its update publishes the frozen pointer (1 + 103 + 7 + 7 + 103 + 12 bytes). The index is no higher than the one kept; the
--- previous version, (3, 1), is frozen, so the list is empty.
+-- Client 1 deposits B's page again, as D: (4, 1). Its update publishes the frozen pointer (1 + 103 + 7 + 7 + 103 + 12 bytes). The index is no higher than
+-- the one kept; the previous version, (3, 1), is frozen, so the list is empty.
 unfoldable pub depositD : Script
 depositD =
     begins 1 pageB (version 4 1) 5
@@ -278,7 +278,7 @@ expected =
     record {
       -- no event is refused
       answered = map (λ x. x .1) opening ++ (last .1 ∷ []);
-      -- each honest node holds A, B, C and E: D is dropped, and what the reading picked is not
+      -- each honest node holds A, B, C and E: D is dropped, and what the reading picked is not, though its pieces are D's
       node-1 =
           held 1 0 (0x00 ∷ 0x01 ∷ 0x41 ∷ []) ∷ held 2 1 (0x00 ∷ 0x06 ∷ 0x20 ∷ 0x20 ∷ 0x20 ∷ []) ∷ held 3 1 (0x00 ∷ 0x00 ∷ [])
           ∷ held 5 1 (0x00 ∷ 0x01 ∷ 0x41 ∷ []) ∷ [];
@@ -316,7 +316,8 @@ expected =
       puts = (version 1 0, 0) ∷ (version 2 1, 1) ∷ (version 3 1, 3) ∷ (version 4 1, 4) ∷ (version 5 1, 5) ∷ [];
       -- A's piece and B's from node 4, B's from nodes 2 and 3
       replied =
-          (0x00 ∷ 0x04 ∷ 0x41 ∷ []) ∷ (0x00 ∷ 0x18 ∷ 0xD7 ∷ 0xD7 ∷ 0xD7 ∷ []) ∷ (0x00 ∷ 0x0C ∷ 0x86 ∷ 0x86 ∷ 0x86 ∷ []) ∷ (0x00 ∷ 0x0A ∷ 0xE4 ∷ 0xE4 ∷ 0xE4 ∷ []) ∷ [];
+          (0x00 ∷ 0x04 ∷ 0x41 ∷ []) ∷ (0x00 ∷ 0x18 ∷ 0xD7 ∷ 0xD7 ∷ 0xD7 ∷ [])
+          ∷ (0x00 ∷ 0x0C ∷ 0x86 ∷ 0x86 ∷ 0x86 ∷ []) ∷ (0x00 ∷ 0x0A ∷ 0xE4 ∷ 0xE4 ∷ 0xE4 ∷ []) ∷ [];
     }
 
 -- the run answers and ends so; at most t nodes are dishonest, and lent memory has bytes in it
@@ -341,6 +342,9 @@ pub record Claimed : Type 0 where
   -- the reading gave its deposit's bytes
   pub exact : (ended .history .operation 2 .given ≡ some pageB)
       × ((d : ℕ) × Concerns (ended .history) 2 d × IsDeposit (ended .history) d pageB)
+  -- node 1's table reads, with four places filled
+  pub reads : (readTable measures (ended .nodes 1) ≡ some (record { value = places measures ended 1; rest = [] }))
+      × (length (places measures ended 1) ≡ 4)
   -- before the last event the reading is open, and nodes 2 and 3 hold their pieces of its deposit
   pub held : Open (opened .history) 2
       × ((d : ℕ) × (bytes : List ℕ) × Concerns (opened .history) 2 d × IsDeposit (opened .history) d bytes

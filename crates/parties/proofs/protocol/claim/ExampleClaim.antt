@@ -211,6 +211,7 @@ example-demand-3 =
       strict =
           ((13, ended-0, before-1), at-end .strict 0 1 (version 1 0) (version 2 1) pageB bears-0 bears-1 (13, ended-0, before-1) page-1);
       exact = (given, at-end .exact 2 pageB (bears-2 .0) given);
+      reads = (at-end .reads 1 refl (omega arith) (omega arith), ap (λ (x : Ending). length (x .node-1)) (worked .ends));
       held =
           let begun-open : opened .history .begun ≡ 6 = ap (λ (x : Ending). x .asking .0) (worked .ends) in
           let asking : opened .history .operation 2 ≡ ofReading none none = ap (λ (x : Ending). x .asking .1) (worked .ends) in
