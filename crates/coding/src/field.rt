@@ -6,6 +6,7 @@ ghost use lib.ListN.{getD};
 ghost use Rattle.coding.specs.Field.{product, power, inverse};
 ghost use Rattle.coding.specs.Tables.{expTable, logTable};
 
+// Each entry is twice the last modulo hex 11D, and LOG inverts it: `TableLaws`: `table-rule`.
 const EXP: [u8; 255] = [
     1,
     2,
@@ -264,6 +265,7 @@ const EXP: [u8; 255] = [
     142,
 ];
 
+// The entry for 0 is 0 and is never used.
 const LOG: [u8; 256] = [
     0,
     0,
