@@ -302,9 +302,11 @@ next-read p r b page u o = go (ℕ-discrete b 32)
 -- ---- the line's end
 
 pub page-short : (r : Reading) → (r .word ≡ 1535139411065 → ⊥) → r .hex ≡ true → r .odd ≡ false → r .len ≡ 0 → Page.Nothing ≡ pageFrom r
+unfolding packed packFrom
 page-short r a b c d = sym (simp (ne-eqb (r .word) 1535139411065 a, b, c, eq-eqb (r .len) 0 d))
 
 pub page-bytes : (r : Reading) → (r .word ≡ 1535139411065 → ⊥) → r .hex ≡ true → r .odd ≡ false → (r .len ≡ 0 → ⊥) → Page.Bytes (r .bytes) ≡ pageFrom r
+unfolding packed packFrom
 page-bytes r a b c d = sym (simp (ne-eqb (r .word) 1535139411065 a, b, c, ne-eqb (r .len) 0 d))
 
 void-length : (w : List ℕ) → eqb (min 8 (length w)) 0 ≡ void w
@@ -316,12 +318,11 @@ last-end v [] w = refl
 last-end v (u ∷ ws) w = last-end u ws w
 
 -- the word packs to `empty` where it is that word
-is-empty : (w : List ℕ) → small w → packed w ≡ 1535139411065 → w ≡ emptyWord
+is-empty : (w : List ℕ) → small w → packed w ≡ packed emptyWord → w ≡ emptyWord
 unfolding packed packFrom every
 is-empty w s e = packed-injective w emptyWord s refl e (λ z. omega (arith, z))
 
-not-empty : (w : List ℕ) → (packed w ≡ 1535139411065 → ⊥) → same w emptyWord ≡ false
-unfolding packed packFrom
+not-empty : (w : List ℕ) → (packed w ≡ packed emptyWord → ⊥) → same w emptyWord ≡ false
 not-empty w h = go (same w emptyWord) refl
   where
     go : (t : Bool) → same w emptyWord ≡ t → same w emptyWord ≡ false
@@ -343,15 +344,15 @@ page-pick w page true o v n x y a b k = go o v (b refl)
 page-told : (w page : List ℕ) (r : Reading) → small w → r .word ≡ packed w → r .len ≡ min 8 (length w) → r .hex ≡ every hexDigit w
     → (every hexDigit w ≡ true → Paired w r page) → PageIs (pageOf w) page (pageFrom r)
 unfolding pageOf same
-page-told w page r s a l x k = go (ℕ-discrete (r .word) 1535139411065)
+page-told w page r s a l x k = go (ℕ-discrete (r .word) (packed emptyWord))
   where
-    go : Dec (r .word ≡ 1535139411065) → PageIs (pageOf w) page (pageFrom r)
+    go : Dec (r .word ≡ packed emptyWord) → PageIs (pageOf w) page (pageFrom r)
     go (yes e) =
         let z : same w emptyWord ≡ true = ap (λ (v : List ℕ). same v emptyWord) (is-empty w s (sym a ∙ e)) in
-        rw (eq-eqb (r .word) 1535139411065 e, z) (record { size = omega arith; front = refl })
+        rw (eq-eqb (r .word) (packed emptyWord) e, z) (record { size = omega arith; front = refl })
     go (no e) =
         let z : eqb (r .len) 0 ≡ void w = ap (λ (n : ℕ). eqb n 0) l ∙ void-length w in
-        rw (ne-eqb (r .word) 1535139411065 e, not-empty w (λ q. e (a ∙ q)), z)
+        rw (ne-eqb (r .word) (packed emptyWord) e, not-empty w (λ q. e (a ∙ q)), z)
         (page-pick w page (every hexDigit w) (odd w) (void w) (r .bytes) (r .hex) (r .odd) x (λ t. k t .half) (λ t. k t .kept))
 
 pub ended-read : (p page : List ℕ) (r : Reading) → Read p r page → LineOf p page (endedOf r)

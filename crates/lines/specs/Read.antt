@@ -8,26 +8,31 @@ use lib.ListN.{length, set}
 use Rattle.lines.specs.declared.read.Reading.{Reading}
 use Rattle.lines.specs.declared.read.Line.{Line}
 use Rattle.lines.specs.declared.read.Page.{Page}
-use Rattle.lines.specs.Words.{words, first, later, every, odd, limit, digit, decimal, hexValue, hexDigit, hexBytes, packed, between}
+use Rattle.lines.specs.Words.{words, first, later, every, odd, limit, digit, decimal, hexValue, hexDigit, hexBytes, emptyWord, packed, between}
 use Rattle.lines.specs.Line.{numbersOf, Kept}
 
 -- ---- what each of its functions leaves
 
+-- one more, up to 8
 abbrev pub counted : ℕ → ℕ
 counted n = cond (ltb n 8) (n + 1) 8
 
+-- a word of so many bytes with one byte more, packed; 0 for more than 7 bytes, and for 256 ^ 7 and more, which no word of 6 bytes packs to
 abbrev pub packedWith : ℕ → ℕ → ℕ → ℕ
 packedWith word len b = cond (ltb len 7 && ltb word 72057594037927936) (word * 256 + b) 0
 
 abbrev pub capped : ℕ → ℕ
 capped n = cond (ltb n limit) n limit
 
+-- a value with one digit more; 2 ^ 32 where it is no digit, and for all that are too big
 abbrev pub valueWith : ℕ → ℕ → ℕ
 valueWith v b = cond (digit b) (capped (v * 10 + (b - 48))) limit
 
+-- the first word is the name
 abbrev pub nameFrom : ℕ → ℕ → ℕ → ℕ
 nameFrom words name word = cond (eqb words 1) word name
 
+-- a word of no bytes is no number
 abbrev pub numberFrom : ℕ → ℕ → ℕ
 numberFrom len value = cond (eqb len 0) limit value
 
@@ -45,9 +50,10 @@ bytesWith odd high n bytes room = cond (puts odd high n bytes room) (bytes + 1) 
 abbrev pub pageWith : Bool → ℕ → ℕ → ℕ → List ℕ → List ℕ
 pageWith odd high n bytes page = cond (puts odd high n bytes (length page)) (set page bytes (high * 16 + n)) page
 
+-- the word under way as a page
 abbrev pub pageFrom : Reading → Page
 pageFrom r =
-    cond (eqb (r .word) 1535139411065) (Page.Bytes 0)
+    cond (eqb (r .word) (packed emptyWord)) (Page.Bytes 0)
     (cond (r .hex) (cond (r .odd) Page.Nothing (cond (eqb (r .len) 0) Page.Nothing (Page.Bytes (r .bytes)))) Page.Nothing)
 
 -- ---- what is kept, and what is handed on: of whatever was kept before, and of a page of so many bytes

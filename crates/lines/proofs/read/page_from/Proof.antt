@@ -1,15 +1,19 @@
 use borrow.Author.Tests.{eq-eqb, ne-eqb, not-true, not-false}
+use Rattle.lines.specs.Words.{packed, packFrom}
 use Rattle.lines.proofs.ReadLaws.{page-short, page-bytes}
 use Rattle.lines.proofs.read.page_from.Statement.{statement}
 use Rattle.lines.proofs.read.page_from.Tie as tie
 
 returns : tie.Need-returns
+unfolding packed packFrom
 returns c = simp (eq-eqb _ _ (c .if1 .taken))
 
 returns-2 : tie.Need-returns-2
+unfolding packed packFrom
 returns-2 c = simp (ne-eqb _ _ (c .before .before .if1 .left), not-true (c .before .before .before .before .args .r .hex) (c .if2 .taken))
 
 returns-3 : tie.Need-returns-3
+unfolding packed packFrom
 returns-3 c = simp (ne-eqb _ _ (c .before .before .before .if1 .left), not-false (c .before .before .before .before .before .args .r .hex) (c .before .if2 .left), c .if3 .taken)
 
 returns-4 : tie.Need-returns-4
