@@ -47,7 +47,7 @@ use Rattle.lines.proofs.CommandLaws.{asked-line}
 use Rattle.session.specs.declared.session.Session.{Session}
 use Rattle.session.specs.declared.session.Lengths.{Lengths}
 use Rattle.session.specs.declared.settle.Settled.{Settled}
-use Rattle.session.specs.Settle.{Desk, lend, desk, Settles}
+use Rattle.session.specs.Settle.{Desk, desk, Settles}
 use Rattle.session.specs.Session.{Held, newLine, deskOf, asks, small, ample, lengths, Reply, refuses, opens, firstReply, firstMeasures, Replies, First}
 use Rattle.session.specs.Session.{Reads, Deposits as StartsDeposit, Operates, Refuses, Later, Ends, within, taken}
 use Rattle.session.proofs.SessionLaws.{fresh-long}

@@ -1,7 +1,7 @@
-use mathlib.Core.Path.{sym, ap, _∙_}
+use mathlib.Core.Path.{sym, ap}
 use Prim.Native.Nat.{ℕ}
 use lib.Dec.{leb}
-use Rattle.lines.proofs.SentencesLaws.{shown-short, shown-long, half-fits}
+use Rattle.lines.proofs.SentencesLaws.{shown-short, half-fits}
 use Rattle.lines.proofs.text.show_fits.Statement.{statement}
 use Rattle.lines.proofs.text.show_fits.Tie as tie
 
