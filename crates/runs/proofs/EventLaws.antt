@@ -1,21 +1,38 @@
 -- The parts of an event: what its tests tell, and what its answers put under way.
-use mathlib.Core.Path.{_≡_, refl, sym, ap, _∙_}
-use mathlib.Core.Bool.{Bool, true, false, not, _&&_, false≢true}
+use mathlib.Core.Path.{_≡_, refl, sym, ap, subst, _∙_}
+use mathlib.Core.Option.{Option, some, none}
+use mathlib.Core.Bool.{Bool, true, false, cond, not, _&&_, false≢true}
+use mathlib.Core.Logic.{_⊎_, inl, inr}
 use mathlib.Core.List.{List, [], _∷_, _++_}
 use Prim.Native.Nat.{ℕ, zero, suc, _+_, _-_, _*_, _≤_, _<_, min}
 use native.Mathlib.Decide.{decLe}
 use native.Mathlib.Omega.{arith}
 use native.Mathlib.Nat.{mul-le-mul, mul-le-mul-right}
-use borrow.Author.Tests.{lt-leb, le-leb, le-ltb, lt-ltb, ne-eqb}
+use borrow.Author.Tests.{lt-leb, le-leb, leb-true, ne-eqb}
 use lib.Dec.{leb, ltb, eqb}
 use lib.ListN.{length, take, drop, getD}
-use lib.Seq.{drop-cons, take-all, take-length}
+use lib.Seq.{drop-cons, getD-drop, take-all, take-length}
 use types.Run.{OneOf, miss}
 use denote.Enum.Declared.{tagOf}
 use Rattle.parties.specs.declared.Measures.{Measures}
 use Rattle.parties.specs.protocol.Measures.{passes}
+use Rattle.parties.specs.Sizes.{sized as sizedFor}
+use Rattle.parties.specs.protocol.Format.{Read, whole}
+use Rattle.parties.specs.protocol.Directory.{Content, Row, readRecord, readDirectory}
+use Rattle.parties.specs.protocol.Client.{clientSize}
+use Rattle.parties.specs.protocol.Answer.{Served, refuses, serves}
+use Rattle.parties.specs.protocol.ClientEvents.{roomSize, startReading, updateAnswer, scanAnswer, clientMessage}
+use Rattle.parties.specs.protocol.DirectoryEvents.{directorySize, directoryUpdate, directoryScan, onTable}
+use Rattle.parties.specs.protocol.NodeEvents.{tableSize, answerSize, nodeMessage}
+use Rattle.parties.proofs.protocol.events.SentLengths.{reading-bounded, updated-bounded, scanned-bounded, message-bounded, ServedIn, scan-bounded, node-bounded}
+use Rattle.title.specs.Part.{Refuses, Placed}
+use Rattle.title.specs.declared.memory.Part.{Part}
+use Rattle.title.proofs.PartLaws.{both-true}
+use Rattle.title.specs.Memory.{memorySize, partOf, tableAt, tableIn, recordAt, recordIn}
 use Rattle.parties.proofs.protocol.formats.MeasureLaws.{passed}
-use Rattle.parties.specs.protocol.Run.{Event, isRefused}
+use Rattle.parties.specs.protocol.Run.{Event, reading, lie, isRefused, lengthOf}
+use Rattle.parties.specs.records.Answer.{number}
+use Rattle.parties.specs.Answer.{served}
 use Rattle.parties.specs.declared.ClientAnswer.{ClientAnswer}
 use Rattle.parties.specs.client.Answer.{answered}
 use Rattle.parties.proofs.ClientAnswer.{the-type}
@@ -23,11 +40,17 @@ use Rattle.parties.specs.declared.Refusal.{Refusal}
 use Rattle.parties.specs.declared.Service.{Service}
 use Rattle.runs.specs.declared.answer.Happened.{Happened}
 use Rattle.runs.specs.declared.event.Readiness.{Readiness}
+use Rattle.runs.specs.declared.event.Ahead.{Ahead}
+use Rattle.runs.proofs.event.Ahead.{the-type as the-ahead}
+use Rattle.runs.specs.declared.event.Clear.{Clear}
 use Rattle.runs.specs.declared.parcels.Found.{Found}
-use Rattle.runs.specs.Parcels.{Parcel, bodies, FindsAt, Finds, Within, Appended, Removed}
+use Rattle.runs.specs.Parcels.{Parcel, properKey, IsList, Broken, Stands, NoneStands, Looks, Appended, Removed}
+use Rattle.runs.specs.Sent.{longestMessage, needed, Sized}
 use Rattle.runs.specs.Acts.{Lent, body, tagged, Serves}
-use Rattle.runs.specs.Event.{Readies}
-use Rattle.runs.specs.Happens.{Capable, needed, liesIn, honestIn, Happens}
+use Rattle.runs.specs.Event.{Cramped, Readies, Stopped, Seen, Vacant, Aheads, Clears, lowestOf}
+use Rattle.runs.specs.Happens.{inBounds, suffices, Roomy, Unready, Ready, liesIn, honestIn}
+use Rattle.runs.proofs.SentLaws.{piece-within, room-small, rows-small}
+use Rattle.runs.proofs.SendLaws.{sized}
 
 -- ---- a client's answer
 
@@ -62,37 +85,34 @@ tagged-full post at end h w =
     let l : at + 7 < length post = omega arith in
     rw (e, drop-cons post (at + 7) 0 l) (tagged-cons (getD post (at + 7) 0) (take (end - (at + 8)) (drop (suc (at + 7)) post)))
 
--- ---- readiness
+-- ---- sizes
 
-pub needed-room : (s : Measures) (room : ℕ) → room ≤ needed s room
-needed-room s room =
-    let m : 1 ≤ s .n + 1 = omega arith in
-    omega (arith, mul-le-mul-right (16 + room) m)
+pub sized-is : (s : Measures) (n : ℕ) → passes s ≡ true → sizedFor s n ≡ n
+sized-is s n ok = rw ok refl
 
-pub needed-fits : (s : Measures) (room : ℕ) → passes s ≡ true → room ≤ 4294967295 → needed s room ≤ 17 * (16 + 4294967295)
-needed-fits s room p h =
-    let n : s .n ≤ 16 = passed s p .nodes .1 in
-    let m : s .n + 1 ≤ 17 = omega arith in
-    let r : 16 + room ≤ 16 + 4294967295 = omega arith in
-    mul-le-mul m r
+pub sized-none : (s : Measures) (n : ℕ) → passes s ≡ false → sizedFor s n ≡ 0
+sized-none s n e = rw e refl
 
-pub number-client : (s : Measures) (c i : ℕ) → s .m ≤ c → (ltb c (s .m) && (leb 1 i && leb i (s .n))) ≡ false
-number-client s c i h = rw (le-ltb c (s .m) h)
-
-pub number-low : (s : Measures) (c i : ℕ) → c < s .m → i < 1 → (ltb c (s .m) && (leb 1 i && leb i (s .n))) ≡ false
-number-low s c i k h = rw (lt-ltb c (s .m) k, lt-leb 1 i h)
-
-pub number-high : (s : Measures) (c i : ℕ) → c < s .m → 1 ≤ i → s .n < i → (ltb c (s .m) && (leb 1 i && leb i (s .n))) ≡ false
-number-high s c i k l h = rw (lt-ltb c (s .m) k, le-leb 1 i l, lt-leb i (s .n) h)
+pub needed-small : (s : Measures) → passes s ≡ true → needed s ≤ 1161784
+needed-small s ok =
+    let p = passed s ok in
+    let n : s .n ≤ 16 = p .nodes .1 in
+    let r : longestMessage s ≤ 70257 = omega (arith, room-small s ok) in
+    omega (arith, rows-small s ok, mul-le-mul n r)
 
 -- ---- the directory's and a node's answers
 
 -- there is room for an answer where the parcel that it answers was
-pub appendable : (front part room : List ℕ) (k : ℕ) (post : List ℕ) (used at end : ℕ) (mid : List ℕ) (left : ℕ)
-    → (used + (8 + length room) ≤ length post) × (length post ≤ 4294967295) × (length front ≤ 1) × (at + 7 ≤ end) × (end ≤ used)
-    → length part ≡ k → k ≤ length room → Removed at end post used mid left
-    → (left + (7 + (length front + length part)) ≤ length mid) × (length mid ≤ 4294967295)
-appendable front part room k post used at end mid left p e h r = let l : length mid ≡ length post = r .long in let n : left + (end - at) ≡ used = r .count in (omega arith, omega arith)
+pub appendable : (s : Measures) (a : Service) (len : ℕ) (front part room : List ℕ) (k : ℕ) (post : List ℕ) (used at end : ℕ) (mid : List ℕ) (left : ℕ)
+    → Roomy s (length post) used × (8 + min (lengthOf (served a)) (length room) ≤ needed s) × (length front ≤ 1) × (at + 7 ≤ end) × (end ≤ used)
+    → a ≡ Service.Served len → length part ≡ k → k ≡ min len (length room) → Removed at end post used mid left
+    → (left + (7 + (length front + length part)) ≤ length mid) × (length front + length part ≤ 4294967295)
+appendable s a len front part room k post used at end mid left p e l m r =
+    let few : 8 + min len (length room) ≤ needed s = rw e at (p .1) in
+    let enough : used + needed s ≤ length post = p .0 .enough in
+    let x : length mid ≡ length post = r .long in
+    let n : left + (end - at) ≡ used = r .count in
+    (omega (arith, p .2), omega (arith, p .2, needed-small s (p .0 .measures)))
 
 take-least : (len : ℕ) (l : List ℕ) → take (min len (length l)) l ≡ take len l
 take-least len l = go (decLe len (length l))
@@ -112,27 +132,106 @@ pub serves-served : (kind c i : ℕ) (front room post : List ℕ) (used at end :
 serves-served kind c i front room post used at end after a len e part left to mid p r h =
     rw e (Serves.serves len left to mid r (rw (p, take-least len room) at h))
 
--- ---- what the public events are told
+-- a first slice that is too short, or long enough
+pub both-short : (n m : ℕ) (b : Bool) → m < n → false ≡ (leb n m && b)
+both-short n m b h = sym (ap (λ (x : Bool). x && b) (lt-leb n m h))
 
-pub ready-yes : (s : Measures) (c i post used room : ℕ) (r : Readiness) → Readies s c i post used room r → r ≡ Readiness.Yes → Capable s c i post used room
-ready-yes s c i post used room r h e = rw e at h
+pub both-long : (n m : ℕ) (b : Bool) → n ≤ m → b ≡ (leb n m && b)
+both-long n m b h = sym (ap (λ (x : Bool). x && b) (le-leb n m h))
 
-pub ready-no : {s : Measures} {honest : ℕ → Bool} {e : Event} {c i used : ℕ} {x : Lent} {r : Readiness}
-    → Readies s c i (length (x .post)) used (length (x .room)) r → (n : Refusal) → r ≡ Readiness.No n
-    → Happens s honest e c i used x x (record { used = used; what = Happened.Refused n })
-ready-no h n q = Happens.unready n (rw q at h) refl
+and-true-right : (b : Bool) → (b && true) ≡ b
+and-true-right true = refl
+and-true-right false = refl
 
--- what a client's part of an event asks
-pub capable-first : (s : Measures) (c i post used room room′ : ℕ) → Capable s c i post used room → room′ ≡ room → Capable s c 1 post used room′
-capable-first s c i post used room room′ p e =
-    record {
-      measures = p .measures;
-      enough = rw e (p .enough);
-      small = p .small;
-      client = p .client;
-      first = omega arith;
-      last = let f : 1 ≤ i = p .first in let l : i ≤ s .n = p .last in omega arith;
-    }
+-- ---- what a call tells, by its answer
+
+pub ready-yes : (s : Measures) (post used : ℕ) (r : Readiness) → Readies s post used r → r ≡ Readiness.Yes → Roomy s post used
+ready-yes s post used r h e = rw e at h
+
+pub ready-no : (s : Measures) (post used : ℕ) (r : Readiness) → Readies s post used r → (x : Refusal) → r ≡ Readiness.No x → Cramped s post used (number x)
+ready-no s post used r h x e = rw e at h
+
+pub looks-broken : (s : Measures) (kind c i used : ℕ) (post : List ℕ) (r : Found) → Looks s kind c i used post r → r ≡ Found.Broken → Broken s used post
+looks-broken s kind c i used post r h e = rw e at h
+
+pub looks-none : (s : Measures) (kind c i used : ℕ) (post : List ℕ) (r : Found) → Looks s kind c i used post r → r ≡ Found.Nothing → NoneStands s kind c i used post
+looks-none s kind c i used post r h e = rw e at h
+
+pub looks-at : (s : Measures) (kind c i used : ℕ) (post : List ℕ) (r : Found) → Looks s kind c i used post r → (at end : ℕ) → r ≡ Found.At at end
+    → Stands s kind c i used post at end
+looks-at s kind c i used post r h at end e = rw e at h
+
+pub ahead-refused : (s : Measures) (kind c i : ℕ) (post : List ℕ) (used : ℕ) (r : Ahead) → Aheads s kind c i post used r → (x : Refusal) → r ≡ Ahead.Refused x
+    → Stopped s kind c i post used (number x)
+ahead-refused s kind c i post used r h x e = rw e at h
+
+pub ahead-none : (s : Measures) (kind c i : ℕ) (post : List ℕ) (used : ℕ) (r : Ahead) → Aheads s kind c i post used r → r ≡ Ahead.Nothing
+    → Vacant s kind c i post used
+ahead-none s kind c i post used r h e = rw e at h
+
+pub ahead-at : (s : Measures) (kind c i : ℕ) (post : List ℕ) (used : ℕ) (r : Ahead) → Aheads s kind c i post used r → (at end : ℕ) → r ≡ Ahead.Found at end
+    → Seen s kind c i post used at end
+ahead-at s kind c i post used r h at end e = rw e at h
+
+pub clear-yes : (s : Measures) (c i : ℕ) (post : List ℕ) (used : ℕ) (r : Clear) → Clears s c i post used r → r ≡ Clear.Yes
+    → Roomy s (length post) used × (properKey s 3 c i ≡ true) × IsList s used post
+clear-yes s c i post used r h e = rw e at h
+
+pub clear-late : (s : Measures) (c i : ℕ) (post : List ℕ) (used : ℕ) (r : Clear) → Clears s c i post used r → r ≡ Clear.Late
+    → Roomy s (length post) used × ((properKey s 3 c i ≡ false) ⊎ Broken s used post)
+clear-late s c i post used r h e = rw e at h
+
+pub clear-no : (s : Measures) (c i : ℕ) (post : List ℕ) (used : ℕ) (r : Clear) → Clears s c i post used r → (x : Refusal) → r ≡ Clear.No x
+    → Cramped s (length post) used (number x)
+clear-no s c i post used r h x e = rw e at h
+
+-- ---- an event that is not carried out
+
+module _ (s : Measures) (honest : ℕ → Bool) (e : Event) (used : ℕ) (x : Lent) where
+  pub cramped-unready : (n : ℕ) → Cramped s (length (x .post)) used n → Unready s honest e used x n
+  cramped-unready n (Cramped.measures h) = Unready.measures h
+  cramped-unready n (Cramped.short h k) = Unready.short h k
+
+  -- where no client is asked at once
+  pub stopped-unready : (kind c i : ℕ) → suffices s honest e x ≡ true → properKey s kind c i ≡ inBounds s e → (n : ℕ) → Stopped s kind c i (x .post) used n
+      → Unready s honest e used x n
+  stopped-unready kind c i k b n (Stopped.cramped m h) = cramped-unready m h
+  stopped-unready kind c i k b n (Stopped.outside r h) = Unready.outside r k (sym b ∙ h)
+  stopped-unready kind c i k b n (Stopped.form r h f) = Unready.form r k (sym b ∙ h) f
+
+  -- where one is
+  pub late-unready : (enough : Bool) (c i : ℕ) → Roomy s (length (x .post)) used → suffices s honest e x ≡ enough → properKey s 3 c i ≡ inBounds s e
+      → (properKey s 3 c i ≡ false) ⊎ Broken s used (x .post) → (n : ℕ) → n ≡ cond enough (cond (properKey s 3 c i) 4 3) 2 → Unready s honest e used x n
+  late-unready false c i r k b (inl h) n m = rw m (Unready.lacks r k (inl (sym b ∙ h)))
+  late-unready false c i r k b (inr h) n m = rw m (Unready.lacks r k (inr h))
+  late-unready true c i r k b late n m = go (properKey s 3 c i) refl late m
+    where
+      go : (y : Bool) → properKey s 3 c i ≡ y → (properKey s 3 c i ≡ false) ⊎ Broken s used (x .post) → n ≡ cond y 4 3 → Unready s honest e used x n
+      go true q (inl h) m = absurd (false≢true (sym h ∙ q))
+      go true q (inr h) m = rw m (Unready.form r k (sym b ∙ q) h)
+      go false q late m = rw m (Unready.outside r k (sym b ∙ q))
+
+-- the bounds of an event, by its key
+pub call-bounds : (s : Measures) (c : ℕ) → properKey s 0 c 0 ≡ ltb c (s .m)
+unfolding properKey
+call-bounds s c = and-true-right (ltb c (s .m))
+
+pub return-bounds : (s : Measures) (c : ℕ) → properKey s 1 c 0 ≡ ltb c (s .m)
+unfolding properKey
+return-bounds s c = and-true-right (ltb c (s .m))
+
+pub node-bounds : (s : Measures) (c i : ℕ) → properKey s 2 c i ≡ (ltb c (s .m) && (leb 1 i && leb i (s .n)))
+unfolding properKey
+node-bounds s c i = refl
+
+pub client-bounds : (s : Measures) (c i : ℕ) → properKey s 3 c i ≡ (ltb c (s .m) && (leb 1 i && leb i (s .n)))
+unfolding properKey
+client-bounds s c i = refl
+
+-- a start has no node; the first one is always there
+pub start-bounds : (s : Measures) → passes s ≡ true → (c : ℕ) → properKey s 3 c 1 ≡ ltb c (s .m)
+unfolding properKey
+start-bounds s ok c = rw (le-leb 1 (s .n) (passed s ok .nodes .0)) (and-true-right (ltb c (s .m)))
 
 pub tagged-long : (post : List ℕ) (at end : ℕ) → tagged (body post at end) ≡ true → at + 8 ≤ end
 tagged-long post at end h = go (decLe (at + 8) end)
@@ -147,14 +246,142 @@ dishonest liars i r e t = ap not (sym e ∙ t)
 pub honest-one : (liars i : ℕ) (r : Bool) → r ≡ liesIn liars i → r ≡ false → honestIn liars i ≡ true
 honest-one liars i r e t = ap not (sym e ∙ t)
 
--- ---- what a search tells
+in-length : (a : Served) (n : ℕ) → ServedIn n a → lengthOf a ≤ n
+in-length (refuses r) n h = omega arith
+in-length (serves len) n h = h
 
-pub found-none : (kind c i : ℕ) (q : List Parcel) (r : Found) → Finds kind c i q r → r ≡ Found.Nothing → bodies kind c i q ≡ []
-found-none kind c i q r h e = rw e at h
+-- ---- how long answers are, for memory of any bytes
 
-pub found-at : (kind c i : ℕ) (q : List Parcel) (r : Found) (at end : ℕ) → Finds kind c i q r → r ≡ Found.At at end → FindsAt kind c i q at end
-found-at kind c i q r at end h e = rw e at h
+taken-bytes : (n : ℕ) (b : List ℕ) → ((i : ℕ) → getD b i 0 < 256) → (i : ℕ) → getD (take n b) i 0 < 256
+taken-bytes zero b h i = omega arith
+taken-bytes (suc n) [] h i = omega arith
+taken-bytes (suc n) (a ∷ b) h zero = h 0
+taken-bytes (suc n) (a ∷ b) h (suc i) = taken-bytes n b (λ j. h (suc j)) i
 
-pub found-within : (used : ℕ) (post : List ℕ) (r : Found) (at end : ℕ) → Within used post r → r ≡ Found.At at end
-    → (at + 7 ≤ end) × (end ≤ used) × (used ≤ length post)
-found-within used post r at end h e = rw e at h
+module _ (s : Measures) (memory : List ℕ) (bytes : (i : ℕ) → getD memory i 0 < 256) where
+  part-bytes : (at size : ℕ) (i : ℕ) → getD (partOf s at size memory) i 0 < 256
+  unfolding partOf
+  part-bytes at size i = go (leb (memorySize s) (length memory))
+    where
+      go : (b : Bool) → getD (cond b (take size (drop at memory)) []) i 0 < 256
+      go true = taken-bytes size (drop at memory) (λ j. rw (getD-drop at memory j 0) (bytes (at + j))) i
+      go false = omega arith
+
+  module _ (c : ℕ) (a : ClientAnswer) where
+    pub reading-sized : (room : List ℕ) → answered a ≡ startReading s c (recordIn s c memory) room .answer → Sized s (answered a)
+    reading-sized room e = subst (Sized s) (sym e) (sized s (startReading s c (recordIn s c memory) room .answer) (reading-bounded s c (recordIn s c memory) (part-bytes (recordAt s c) (clientSize s)) room))
+
+    pub updated-sized : (room : List ℕ) → answered a ≡ updateAnswer s c (recordIn s c memory) room .answer → Sized s (answered a)
+    updated-sized room e = subst (Sized s) (sym e) (sized s (updateAnswer s c (recordIn s c memory) room .answer) (updated-bounded s c (recordIn s c memory) (part-bytes (recordAt s c) (clientSize s)) room))
+
+    pub scanned-sized : (rows room : List ℕ) → answered a ≡ scanAnswer s c (recordIn s c memory) rows room .answer → Sized s (answered a)
+    scanned-sized rows room e = subst (Sized s) (sym e) (sized s (scanAnswer s c (recordIn s c memory) rows room .answer) (scanned-bounded s c (recordIn s c memory) (part-bytes (recordAt s c) (clientSize s)) rows room))
+
+    pub message-sized : (i : ℕ) (message room out : List ℕ) → answered a ≡ clientMessage s c i (recordIn s c memory) message room out .answer → Sized s (answered a)
+    message-sized i message room out e =
+        subst (Sized s) (sym e) (sized s (clientMessage s c i (recordIn s c memory) message room out .answer) (message-bounded s c (recordIn s c memory) (part-bytes (recordAt s c) (clientSize s)) i message room out))
+
+  pub node-length : (a : Service) (i : ℕ) (message room : List ℕ) → served a ≡ nodeMessage s i (tableIn s i memory) message room .answer
+      → lengthOf (served a) ≤ answerSize s
+  node-length a i message room e = in-length (served a) (answerSize s) (subst (ServedIn (answerSize s)) (sym e) (node-bounded s i (tableIn s i memory) message room (part-bytes (tableAt s i) (tableSize s))))
+
+pub scan-length : (s : Measures) (a : Service) (table room : List ℕ) → served a ≡ directoryScan s table room .answer → lengthOf (served a) ≤ directorySize s
+scan-length s a table room e = in-length (served a) (directorySize s) (subst (ServedIn (directorySize s)) (sym e) (scan-bounded s table room))
+
+-- an update is answered with no bytes
+pub update-length : (s : Measures) (a : Service) (c : ℕ) (table fields : List ℕ) → served a ≡ directoryUpdate s c table fields .answer → lengthOf (served a) ≤ 0
+unfolding directoryUpdate
+update-length s a c table fields e =
+    in-length (served a) 0 (subst (ServedIn 0) (sym e) (go (passes s) (leb (directorySize s) (length table)) (ltb c (s .m)) (readDirectory s table) (whole (readRecord s) fields)))
+  where
+    go : (x y z : Bool) (r : Option (Read (List Row))) (u : Option (List (Option Content)))
+        → ServedIn 0 (cond x (cond y (cond z (onTable s c table r u) (record { answer = refuses 3; table = table; room = [] }))
+        (record { answer = refuses 2; table = table; room = [] })) (record { answer = refuses 1; table = table; room = [] }) .answer)
+    go true true true none u = tt
+    go true true true (some r) none = tt
+    go true true true (some r) (some u) = omega arith
+    go true true false r u = tt
+    go true false z r u = tt
+    go false y z r u = tt
+
+-- there is room for a node's answer
+pub answer-fits : (s : Measures) → passes s ≡ true → 8 + answerSize s ≤ needed s
+answer-fits s ok =
+    let p = passed s ok in
+    omega (arith, piece-within s ok, mul-le-mul-right (longestMessage s) (p .nodes .0))
+
+-- ---- the lowest that applies
+
+module _ (s : Measures) (c i memory : ℕ) where
+  pub lowest-short : (enough : Bool) (n : ℕ) → passes s ≡ true → Refuses s memory n → n ≡ lowestOf s c i memory enough
+  lowest-short enough n ok (Refuses.measures e) = absurd (false≢true (sym e ∙ ok))
+  lowest-short enough n ok (Refuses.short e l) = rw (lt-leb (memorySize s) memory l) refl
+
+  pub lowest-lacks : (enough : Bool) → enough ≡ false → 2 ≡ lowestOf s c i memory enough
+  lowest-lacks enough e = rw e (go (leb (memorySize s) memory))
+    where
+      go : (b : Bool) → _≡_ {A = ℕ} 2 (cond (b && false) (cond (properKey s 3 c i) 4 3) 2)
+      go true = refl
+      go false = refl
+
+  module _ (l : memorySize s ≤ memory) where
+    pub lowest-outside : (enough : Bool) → enough ≡ true → properKey s 3 c i ≡ false → 3 ≡ lowestOf s c i memory enough
+    lowest-outside enough e k = rw (le-leb (memorySize s) memory l, e, k) refl
+
+    pub lowest-form : (enough : Bool) → enough ≡ true → properKey s 3 c i ≡ true → 4 ≡ lowestOf s c i memory enough
+    lowest-form enough e k = rw (le-leb (memorySize s) memory l, e, k) refl
+
+pub placed-long : (s : Measures) (len at size : ℕ) (r : Part) → Placed s len at size r → (a b : ℕ) → r ≡ Part.Within a b → memorySize s ≤ len
+placed-long s len at size r h a b e = (rw e at h) .long
+
+pub placed-refused : (s : Measures) (len at size : ℕ) (r : Part) → Placed s len at size r → (x : Refusal) → r ≡ Part.Refused x → Refuses s len (number x)
+placed-refused s len at size r h x e = rw e at h
+
+-- the slices that a client wants, as the code tests them
+pub reading-suffices : (s : Measures) (honest : ℕ → Bool) (c : ℕ) (room : List ℕ) (x : Lent) (n : ℕ) → n ≡ roomSize s
+    → suffices s honest (reading c room) x ≡ (leb (memorySize s) (length (x .memory)) && leb n (length room))
+reading-suffices s honest c room x n e = rw e refl
+
+pub lie-suffices : (s : Measures) (honest : ℕ → Bool) (i c : ℕ) (bytes room out : List ℕ) (x : Lent) (b : Bool) → honest i ≡ false
+    → b ≡ (leb (roomSize s) (length room) && leb (s .k * s .f - 4) (length out))
+    → suffices s honest (lie i c bytes room out) x ≡ (leb (memorySize s) (length (x .memory)) && b)
+lie-suffices s honest i c bytes room out x b z e = rw (z, e) refl
+
+pub lie-asks-none : (s : Measures) (honest : ℕ → Bool) (i c : ℕ) (bytes room out : List ℕ) (x : Lent) → honest i ≡ true
+    → suffices s honest (lie i c bytes room out) x ≡ true
+lie-asks-none s honest i c bytes room out x z = rw z refl
+
+-- something is under way, or nothing
+pub ahead-other : (s : Measures) (kind c i : ℕ) (post : List ℕ) (used : ℕ) (r : Ahead) → Aheads s kind c i post used r → OneOf (1 ∷ 2 ∷ []) (tagOf the-ahead r)
+    → Roomy s (length post) used × (properKey s kind c i ≡ true) × IsList s used post
+ahead-other s kind c i post used (Ahead.Refused x) h k = absurd (miss (1 ∷ 2 ∷ []) 0 tt k)
+ahead-other s kind c i post used Ahead.Nothing h k = (h .roomy, h .key, h .none .list)
+ahead-other s kind c i post used (Ahead.Found at end) h k = (h .roomy, h .key, h .stands .list)
+
+-- ---- numbers
+
+pub some-used : (n : ℕ) → (n ≡ 0 → ⊥) → 0 < n
+some-used zero h = absurd (h refl)
+some-used (suc n) h = omega arith
+
+-- the last of the kinds
+pub last-kind : (n : ℕ) → n ≤ 3 → (n ≡ 0 → ⊥) → (n ≡ 1 → ⊥) → (n ≡ 2 → ⊥) → n ≡ 3
+last-kind zero h a b c = absurd (a refl)
+last-kind (suc zero) h a b c = absurd (b refl)
+last-kind (suc (suc zero)) h a b c = absurd (c refl)
+last-kind (suc (suc (suc zero))) h a b c = refl
+last-kind (suc (suc (suc (suc n)))) h a b c = absurd (omega arith)
+
+pub key-kind-within : (s : Measures) (kind c i : ℕ) → properKey s kind c i ≡ true → kind ≤ 3
+unfolding properKey
+key-kind-within s kind c i e = leb-true kind 3 (both-true (leb kind 3) _ e .0)
+
+-- ---- an event that is carried out
+
+pub seen-ready : (s : Measures) (e : Event) (used : ℕ) (x : Lent) (kind c i at end : ℕ) → Seen s kind c i (x .post) used at end → properKey s kind c i ≡ inBounds s e
+    → Ready s e used x
+seen-ready s e used x kind c i at end h b = record { roomy = h .roomy; bounds = sym b ∙ h .key; list = h .stands .list }
+
+pub vacant-ready : (s : Measures) (e : Event) (used : ℕ) (x : Lent) (kind c i : ℕ) → Vacant s kind c i (x .post) used → properKey s kind c i ≡ inBounds s e
+    → Ready s e used x
+vacant-ready s e used x kind c i h b = record { roomy = h .roomy; bounds = sym b ∙ h .key; list = h .none .list }

@@ -2,6 +2,7 @@ pub mod PostLaws
 pub mod SendLaws
 pub mod ParcelLaws
 pub mod SentLaws
+pub mod FormLaws
 pub mod GoesLaws
 pub mod EventLaws
 pub mod StartLaws

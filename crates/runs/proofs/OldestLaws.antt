@@ -5,7 +5,7 @@ use Prim.Native.Nat.{ℕ}
 use Rattle.parties.specs.declared.Measures.{Measures}
 use Rattle.parties.specs.protocol.Run.{Event, deliver}
 use Rattle.parties.specs.protocol.Claim.{AllLent, Lent as Given}
-use Rattle.runs.specs.declared.answer.Turn.{Turn}
+use Rattle.runs.specs.declared.answer.EventEnd.{EventEnd}
 use Rattle.runs.specs.UnderWay.{After}
 use Rattle.runs.specs.Acts.{Lent}
 use Rattle.runs.specs.Happens.{Happens}
@@ -39,19 +39,19 @@ module _ (s : Measures) where
         after = subst (λ (l : List Event). After s honestAll l memory′ post′ used′) (append-assoc es (c .more) (d .more)) (d .after);
       }
 
-  pub happens-continues : (e : Event) (c i used : ℕ) (x y : Lent) (turn : Turn) → Happens s honestAll e c i used x y turn → Given e
-      → (es : List Event) → After s honestAll es (x .memory) (x .post) used → Continues s es (y .memory) (y .post) (turn .used)
-  happens-continues e c i used x y turn (Happens.unready r u q) g es h =
+  pub happens-continues : (e : Event) (used : ℕ) (x y : Lent) (result : EventEnd) → Happens s honestAll e used x y result → Given e
+      → (es : List Event) → After s honestAll es (x .memory) (x .post) used → Continues s es (y .memory) (y .post) (result .used)
+  happens-continues e used x y result (Happens.unready r u q) g es h =
       rw q (continues-same es (x .memory) (x .post) (x .memory) (x .post) used refl refl h)
-  happens-continues e c i used x y turn (Happens.happens t r l w f) g es h = record { more = e ∷ []; lent = (g, tt); after = f es h .after }
+  happens-continues e used x y result (Happens.happens t r l w f) g es h = record { more = e ∷ []; lent = (g, tt); after = f es h .after }
 
   -- the room and the output have bytes in them: so has each event's that the parcel in front may be for
-  pub oldest-continues : (used : ℕ) (x y : Lent) (turn : Turn) → Oldest s used x y turn → Given (deliver 0 0 (x .room) (x .out))
-      → (es : List Event) → After s honestAll es (x .memory) (x .post) used → Continues s es (y .memory) (y .post) (turn .used)
-  oldest-continues used x y turn (Oldest.measures u e) g es h = rw e (continues-same es (x .memory) (x .post) (x .memory) (x .post) used refl refl h)
-  oldest-continues used x y turn (Oldest.short o u e) g es h = rw e (continues-same es (x .memory) (x .post) (x .memory) (x .post) used refl refl h)
-  oldest-continues used x y turn (Oldest.none o w u e) g es h = rw e (continues-same es (x .memory) (x .post) (x .memory) (x .post) used refl refl h)
-  oldest-continues used x y turn (Oldest.call t l k o p) g es h = happens-continues _ _ _ used _ _ turn p (g .0) es h
-  oldest-continues used x y turn (Oldest.return t l k o p) g es h = happens-continues _ _ _ used _ _ turn p (g .0) es h
-  oldest-continues used x y turn (Oldest.toNode t l k o p) g es h = happens-continues _ _ _ used _ _ turn p (g .0) es h
-  oldest-continues used x y turn (Oldest.toClient t l k p) g es h = happens-continues _ _ _ used _ _ turn p g es h
+  pub oldest-continues : (used : ℕ) (x y : Lent) (result : EventEnd) → Oldest s used x y result → Given (deliver 0 0 (x .room) (x .out))
+      → (es : List Event) → After s honestAll es (x .memory) (x .post) used → Continues s es (y .memory) (y .post) (result .used)
+  oldest-continues used x y result (Oldest.cramped r u e) g es h = rw e (continues-same es (x .memory) (x .post) (x .memory) (x .post) used refl refl h)
+  oldest-continues used x y result (Oldest.form o u e) g es h = rw e (continues-same es (x .memory) (x .post) (x .memory) (x .post) used refl refl h)
+  oldest-continues used x y result (Oldest.none o u e) g es h = rw e (continues-same es (x .memory) (x .post) (x .memory) (x .post) used refl refl h)
+  oldest-continues used x y result (Oldest.call t l k o p) g es h = happens-continues _ used _ _ result p (g .0) es h
+  oldest-continues used x y result (Oldest.return t l k o p) g es h = happens-continues _ used _ _ result p (g .0) es h
+  oldest-continues used x y result (Oldest.toNode t l k o p) g es h = happens-continues _ used _ _ result p (g .0) es h
+  oldest-continues used x y result (Oldest.toClient t l k p) g es h = happens-continues _ used _ _ result p g es h

@@ -9,11 +9,12 @@ use lib.Dec.{eqb}
 use lib.ListN.{length, take, drop, length-append, take-append-drop}
 use lib.Seq.{take-at, drop-at, drop-drop, take-take, length-take-le}
 use Rattle.title.proofs.PartLaws.{both-true}
+use Rattle.parties.specs.declared.Measures.{Measures}
 use Rattle.parties.specs.protocol.Format.{writeNumber, writeMany}
 use Rattle.parties.proofs.protocol.model.Cells.{by-eq}
 use Rattle.parties.proofs.protocol.formats.PointerLaws.{length-number}
 use Rattle.parties.proofs.records.SpliceLaws.{many-append}
-use Rattle.runs.specs.Parcels.{Parcel, writeParcel, writeParcels, proper, properAll, Listed, keyed, bodies, FindsAt, Appended, Removed}
+use Rattle.runs.specs.Parcels.{Parcel, writeParcel, writeParcels, properKey, proper, properAll, Listed, keyed, bodies, FindsAt, Appended, Removed}
 use Rattle.runs.specs.Acts.{body}
 use Rattle.runs.proofs.PostLaws.{bodies-append, length-parcel}
 
@@ -89,28 +90,34 @@ not-two k c i k′ c′ i′ x e n =
 
 -- ---- proper ones
 
-pub proper-++ : (p q : List Parcel) → properAll p ≡ true → properAll q ≡ true → properAll (p ++ q) ≡ true
+pub proper-++ : (s : Measures) (p q : List Parcel) → properAll s p ≡ true → properAll s q ≡ true → properAll s (p ++ q) ≡ true
 unfolding properAll
-proper-++ [] q a b = b
-proper-++ (x ∷ p) q a b =
-    let e = both-true (proper x) (properAll p) a in
-    ap (λ (t : Bool). t && properAll (p ++ q)) (e .0) ∙ proper-++ p q (e .1) b
+proper-++ s [] q a b = b
+proper-++ s (x ∷ p) q a b =
+    let e = both-true (proper s x) (properAll s p) a in
+    ap (λ (t : Bool). t && properAll s (p ++ q)) (e .0) ∙ proper-++ s p q (e .1) b
 
-pub proper-by : (k c i : ℕ) (b : List ℕ) → c < 256 → i < 256 → length b < 4294967296
-    → proper (record { kind = k; client = c; node = i; bytes = b }) ≡ true
-proper-by k c i b e f g = simp (lt-ltb c 256 e, lt-ltb i 256 f, lt-ltb (length b) 4294967296 g)
+pub proper-by : (s : Measures) (k c i : ℕ) (b : List ℕ) → properKey s k c i ≡ true → length b < 4294967296
+    → proper s (record { kind = k; client = c; node = i; bytes = b }) ≡ true
+proper-by s k c i b e g = rw (e, lt-ltb (length b) 4294967296 g) refl
 
-pub proper-one : (x : Parcel) → proper x ≡ true → properAll (x ∷ []) ≡ true
+pub proper-one : (s : Measures) (x : Parcel) → proper s x ≡ true → properAll s (x ∷ []) ≡ true
 unfolding properAll
-proper-one x e = ap (λ (t : Bool). t && true) e
+proper-one s x e = ap (λ (t : Bool). t && true) e
+
+-- one among others
+pub proper-of : (s : Measures) (p : List Parcel) (x : Parcel) (q : List Parcel) → properAll s (p ++ (x ∷ q)) ≡ true → proper s x ≡ true
+unfolding properAll
+proper-of s [] x q a = both-true (proper s x) (properAll s q) a .0
+proper-of s (y ∷ p) x q a = proper-of s p x q (both-true (proper s y) (properAll s (p ++ (x ∷ q))) a .1)
 
 -- without one of them
-proper-but : (p : List Parcel) (x : Parcel) (q : List Parcel) → properAll (p ++ (x ∷ q)) ≡ true → properAll (p ++ q) ≡ true
+proper-but : (s : Measures) (p : List Parcel) (x : Parcel) (q : List Parcel) → properAll s (p ++ (x ∷ q)) ≡ true → properAll s (p ++ q) ≡ true
 unfolding properAll
-proper-but [] x q a = both-true (proper x) (properAll q) a .1
-proper-but (y ∷ p) x q a =
-    let e = both-true (proper y) (properAll (p ++ (x ∷ q))) a in
-    ap (λ (t : Bool). t && properAll (p ++ q)) (e .0) ∙ proper-but p x q (e .1)
+proper-but s [] x q a = both-true (proper s x) (properAll s q) a .1
+proper-but s (y ∷ p) x q a =
+    let e = both-true (proper s y) (properAll s (p ++ (x ∷ q))) a in
+    ap (λ (t : Bool). t && properAll s (p ++ q)) (e .0) ∙ proper-but s p x q (e .1)
 
 -- ---- their bytes
 
@@ -142,13 +149,13 @@ parcels-parts p x q = many-append writeParcel p (x ∷ q)
 
 -- ---- one more is written
 
-pub listed-appended : (q p : List Parcel) (post : List ℕ) (used : ℕ) (after : List ℕ) (r : ℕ) → Listed q used post → properAll p ≡ true → Appended p post used after r
-    → Listed (q ++ p) r after
-listed-appended q p post used after r l g a =
+pub listed-appended : (s : Measures) (q p : List Parcel) (post : List ℕ) (used : ℕ) (after : List ℕ) (r : ℕ) → Listed s q used post → properAll s p ≡ true
+    → Appended p post used after r → Listed s (q ++ p) r after
+listed-appended s q p post used after r l g a =
     record {
       within = a .within;
       written = a .written ∙ ap (λ (t : List ℕ). t ++ writeParcels p) (l .written) ∙ sym (many-append writeParcel q p);
-      allProper = proper-++ q p (l .allProper) g;
+      allProper = proper-++ s q p (l .allProper) g;
     }
 
 -- ---- one is taken out
@@ -164,7 +171,7 @@ between a h b r at end p q e =
     ap (take (end - (at + 7))) (sym (drop-drop 7 at (a ++ (h ++ (b ++ r)))) ∙ ap (drop 7) (drop-at a (h ++ (b ++ r)) at (sym p)) ∙ drop-at h (b ++ r) 7 q)
     ∙ take-at b r (end - (at + 7)) n
 
-module _ (k c i : ℕ) (q : List Parcel) (used : ℕ) (post : List ℕ) (at end : ℕ) (l : Listed q used post) (f : FindsAt k c i q at end) where
+module _ (s : Measures) (k c i : ℕ) (q : List Parcel) (used : ℕ) (post : List ℕ) (at end : ℕ) (l : Listed s q used post) (f : FindsAt k c i q at end) where
   -- the used bytes, in parts
   parts : take used post ≡ writeParcels (f .before) ++ (writeParcel (f .parcel) ++ writeParcels (f .rest))
   parts = l .written ∙ ap writeParcels (f .parts) ∙ parcels-parts (f .before) (f .parcel) (f .rest)
@@ -194,12 +201,22 @@ module _ (k c i : ℕ) (q : List Parcel) (used : ℕ) (post : List ℕ) (at end 
       ∙ between (writeParcels (f .before)) (header (f .parcel)) (f .parcel .bytes) (writeParcels (f .rest) ++ drop used post) at end
       (f .first) (header-long (f .parcel)) (f .last)
 
-  pub listed-removed : (after : List ℕ) (r : ℕ) → Removed at end post used after r → Listed (f .before ++ f .rest) r after
+  -- a parcel that was found has a proper key
+  pub found-key : properKey s k c i ≡ true
+  found-key =
+      let y = key-of k c i (f .parcel) (f .same) in
+      subst (λ (t : ℕ). properKey s t c i ≡ true) (y .kind)
+      (subst (λ (t : ℕ). properKey s (f .parcel .kind) t i ≡ true) (y .client)
+      (subst (λ (t : ℕ). properKey s (f .parcel .kind) (f .parcel .client) t ≡ true) (y .node)
+      (both-true (properKey s (f .parcel .kind) (f .parcel .client) (f .parcel .node)) _
+      (proper-of s (f .before) (f .parcel) (f .rest) (subst (λ (p : List Parcel). properAll s p ≡ true) (f .parts) (l .allProper))) .0)))
+
+  pub listed-removed : (after : List ℕ) (r : ℕ) → Removed at end post used after r → Listed s (f .before ++ f .rest) r after
   listed-removed after r d =
       record {
         within = d .within;
         written = d .written ∙ (λ j. front j ++ behind j) ∙ sym (many-append writeParcel (f .before) (f .rest));
-        allProper = proper-but (f .before) (f .parcel) (f .rest) (subst (λ (p : List Parcel). properAll p ≡ true) (f .parts) (l .allProper));
+        allProper = proper-but s (f .before) (f .parcel) (f .rest) (subst (λ (p : List Parcel). properAll s p ≡ true) (f .parts) (l .allProper));
       }
     where
       front : take at post ≡ writeParcels (f .before)

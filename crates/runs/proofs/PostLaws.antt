@@ -5,16 +5,19 @@ use mathlib.Core.List.{List, [], _∷_, _++_, append-assoc, append-nil}
 use mathlib.Core.Option.{some}
 use Prim.Native.Nat.{ℕ, suc, _+_, _-_, _*_, _/_, _%_, _<_, _≤_}
 use native.Mathlib.Omega.{arith}
-use borrow.Author.Tests.{ltb-true, eq-eqb, ne-eqb}
-use lib.Dec.{eqb, ltb}
+use borrow.Author.Tests.{ltb-true, leb-true, eqb-true, eq-eqb, ne-eqb}
+use lib.Dec.{eqb, leb, ltb}
 use lib.ListN.{length, getD, take, drop, set, length-append, length-take, length-drop, length-set}
 use lib.Seq.{take-suc-set, take-add, take-length, drop-drop, drop-at, getD-take, getD-drop, length-take-le, paste, length-paste, take-paste}
+use Rattle.parties.specs.declared.Measures.{Measures}
+use Rattle.parties.specs.protocol.Measures.{passes}
 use Rattle.parties.specs.protocol.Format.{readNumber, writeNumber, writeMany}
+use Rattle.parties.proofs.protocol.formats.MeasureLaws.{passed}
 use Rattle.parties.proofs.protocol.formats.PointerLaws.{length-number}
 use Rattle.parties.proofs.records.BytesLaws.{four-read}
 use Rattle.parties.proofs.records.SpliceLaws.{many-append}
 use Rattle.title.proofs.PartLaws.{both-true}
-use Rattle.runs.specs.Parcels.{Parcel, writeParcel, writeParcels, proper, properAll, Listed, keyed, bodies, FindsAt, Appended, Removed}
+use Rattle.runs.specs.Parcels.{Parcel, writeParcel, writeParcels, properKey, proper, properAll, Listed, keyed, bodies, FindsAt, Appended, Removed}
 
 pub taken-short : (n : ℕ) (l : List ℕ) → length (take n l) ≤ length l
 taken-short n l = omega (arith, length-take n l)
@@ -210,36 +213,52 @@ module _ (t : List ℕ) (at kind c i : ℕ) where
     pub node-tells : getD t (at + 1) 0 ≡ c → eqb (getD t (at + 2) 0) i ≡ keyedAt
     node-tells f = sym (simp (eq-eqb (getD t at 0) kind e, eq-eqb (getD t (at + 1) 0) c f))
 
+-- the bounds of a key's numbers
+pub key-client : (s : Measures) (kind c i : ℕ) → properKey s kind c i ≡ true → c < s .m
+unfolding properKey
+key-client s kind c i e = ltb-true c (s .m) (both-true (ltb c (s .m)) _ (both-true (leb kind 3) _ e .1) .0)
+
+pub key-node : (s : Measures) (kind c i : ℕ) → properKey s kind c i ≡ true → i ≤ s .n
+unfolding properKey
+key-node s kind c i e = go (leb kind 1) (both-true (ltb c (s .m)) _ (both-true (leb kind 3) _ e .1) .1)
+  where
+    go : (b : Bool) → cond b (eqb i 0) (leb 1 i && leb i (s .n)) ≡ true → i ≤ s .n
+    go true q = omega (arith, eqb-true i 0 q)
+    go false q = leb-true i (s .n) (both-true (leb 1 i) _ q .1)
+
 -- parcels before a place, none of them looked for, and those from there on
-pub record Passed (kind c i : ℕ) (q : List Parcel) (used : ℕ) (post : List ℕ) (at : ℕ) : Type 0 where
+pub record Passed (s : Measures) (kind c i : ℕ) (q : List Parcel) (used : ℕ) (post : List ℕ) (at : ℕ) : Type 0 where
   pub before : List Parcel
   pub rest : List Parcel
   pub parts : q ≡ before ++ rest
   pub none : bodies kind c i before ≡ []
   pub first : at ≡ length (writeParcels before)
   pub left : drop at (take used post) ≡ writeParcels rest
-  pub good : properAll rest ≡ true
+  pub good : properAll s rest ≡ true
 
-pub passed-none : (kind c i : ℕ) (q : List Parcel) (used : ℕ) (post : List ℕ) → Listed q used post → Passed kind c i q used post 0
+pub passed-none : (s : Measures) (kind c i : ℕ) (q : List Parcel) (used : ℕ) (post : List ℕ) → Listed s q used post → Passed s kind c i q used post 0
 unfolding bodies writeMany
-passed-none kind c i q used post l =
+passed-none s kind c i q used post l =
     record { before = []; rest = q; parts = refl; none = refl; first = refl; left = l .written; good = l .allProper }
 
 -- the bytes of the parcel at a place
-module _ (used : ℕ) (post : List ℕ) (at : ℕ) (h : used ≤ length post) (p : Parcel) (tail : List Parcel)
-    (e : drop at (take used post) ≡ writeParcel p ++ writeParcels tail) (b : at + 7 ≤ used) (g : proper p ≡ true) where
+module _ (s : Measures) (ok : passes s ≡ true) (used : ℕ) (post : List ℕ) (at : ℕ) (h : used ≤ length post) (p : Parcel) (tail : List Parcel)
+    (e : drop at (take used post) ≡ writeParcel p ++ writeParcels tail) (b : at + 7 ≤ used) (g : proper s p ≡ true) where
   byte-at : (k : ℕ) → k < 7 → getD post (at + k) 0 ≡ getD (writeParcel p ++ writeParcels tail) k 0
   byte-at k l =
       sym (getD-take used post (at + k) 0 (omega arith)) ∙ sym (getD-drop at (take used post) k 0) ∙ ap (λ (x : List ℕ). getD x k 0) e
 
+  key-there : properKey s (p .kind) (p .client) (p .node) ≡ true
+  key-there = both-true (properKey s (p .kind) (p .client) (p .node)) _ g .0
+
   client-small : p .client < 256
-  client-small = ltb-true (p .client) 256 (both-true (ltb (p .client) 256) _ g .0)
+  client-small = omega (arith, key-client s (p .kind) (p .client) (p .node) key-there, passed s ok .clients .1)
 
   node-small : p .node < 256
-  node-small = ltb-true (p .node) 256 (both-true (ltb (p .node) 256) _ (both-true (ltb (p .client) 256) _ g .1) .0)
+  node-small = omega (arith, key-node s (p .kind) (p .client) (p .node) key-there, passed s ok .nodes .1)
 
   length-small : length (p .bytes) < 4294967296
-  length-small = ltb-true (length (p .bytes)) 4294967296 (both-true (ltb (p .node) 256) _ (both-true (ltb (p .client) 256) _ g .1) .1)
+  length-small = ltb-true (length (p .bytes)) 4294967296 (both-true (properKey s (p .kind) (p .client) (p .node)) _ g .1)
 
   pub parcel-fits : at + (7 + length (p .bytes)) ≤ used
   parcel-fits =
@@ -279,7 +298,8 @@ module _ (used : ℕ) (post : List ℕ) (at : ℕ) (h : used ≤ length post) (p
       ∙ ap (drop (7 + length (p .bytes))) e
       ∙ drop-at (writeParcel p) (writeParcels tail) (7 + length (p .bytes)) (length-parcel p)
 
-module _ (kind c i : ℕ) (q : List Parcel) (used : ℕ) (post : List ℕ) (at : ℕ) (h : used ≤ length post) (a : at ≤ used) (s : Passed kind c i q used post at) where
+module _ (z : Measures) (ok : passes z ≡ true) (kind c i : ℕ) (q : List Parcel) (used : ℕ) (post : List ℕ) (at : ℕ) (h : used ≤ length post) (a : at ≤ used)
+    (s : Passed z kind c i q used post at) where
   left-length : used - at ≡ length (writeParcels (s .rest))
   left-length = omega (arith, length-take-le used post h, length-drop at (take used post), ap length (s .left))
 
@@ -298,14 +318,14 @@ module _ (kind c i : ℕ) (q : List Parcel) (used : ℕ) (post : List ℕ) (at :
     pub tail : List Parcel
     pub made : q ≡ s .before ++ (parcel ∷ tail)
     pub bytes : drop at (take used post) ≡ writeParcel parcel ++ writeParcels tail
-    pub one : proper parcel ≡ true
-    pub all : properAll tail ≡ true
+    pub one : proper z parcel ≡ true
+    pub all : properAll z tail ≡ true
 
   pub passed-next : at + 7 ≤ used → Next
   unfolding writeMany properAll
   passed-next l = go (s .rest) (s .parts) (s .left) (s .good) left-length
     where
-      go : (rest : List Parcel) → q ≡ s .before ++ rest → drop at (take used post) ≡ writeParcels rest → properAll rest ≡ true
+      go : (rest : List Parcel) → q ≡ s .before ++ rest → drop at (take used post) ≡ writeParcels rest → properAll z rest ≡ true
           → used - at ≡ length (writeParcels rest) → Next
       go [] e w g n = absurd (omega arith)
       go (p ∷ rest) e w g n =
@@ -314,20 +334,20 @@ module _ (kind c i : ℕ) (q : List Parcel) (used : ℕ) (post : List ℕ) (at :
             tail = rest;
             made = e;
             bytes = w;
-            one = both-true (proper p) (properAll rest) g .0;
-            all = both-true (proper p) (properAll rest) g .1;
+            one = both-true (proper z p) (properAll z rest) g .0;
+            all = both-true (proper z p) (properAll z rest) g .1;
           }
 
   module _ (l : at + 7 ≤ used) (n : ℕ) (r : List ℕ) (x : readNumber 4 (drop (at + 3) post) ≡ some (record { value = n; rest = r })) where
     length-next : n ≡ length (passed-next l .parcel .bytes)
-    length-next = let w = passed-next l in length-there used post at h (w .parcel) (w .tail) (w .bytes) l (w .one) n r x
+    length-next = let w = passed-next l in length-there z ok used post at h (w .parcel) (w .tail) (w .bytes) l (w .one) n r x
 
     pub next-fits : at + 7 + n ≤ used
-    next-fits = let w = passed-next l in omega (arith, length-next, parcel-fits used post at h (w .parcel) (w .tail) (w .bytes) l (w .one))
+    next-fits = let w = passed-next l in omega (arith, length-next, parcel-fits z ok used post at h (w .parcel) (w .tail) (w .bytes) l (w .one))
 
     module _ (k : Bool) (f : k ≡ (eqb (getD post at 0) kind && (eqb (getD post (at + 1) 0) c && eqb (getD post (at + 2) 0) i))) where
       keyed-next : k ≡ keyed kind c i (passed-next l .parcel)
-      keyed-next = let w = passed-next l in f ∙ keyed-there used post at h (w .parcel) (w .tail) (w .bytes) l (w .one) kind c i
+      keyed-next = let w = passed-next l in f ∙ keyed-there z ok used post at h (w .parcel) (w .tail) (w .bytes) l (w .one) kind c i
 
       -- it is looked for
       pub next-found : k ≡ true → FindsAt kind c i q at (at + 7 + n)
@@ -345,11 +365,11 @@ module _ (kind c i : ℕ) (q : List Parcel) (used : ℕ) (post : List ℕ) (at :
           }
 
       -- or not
-      pub next-passed : k ≡ false → Passed kind c i q used post (at + 7 + n)
+      pub next-passed : k ≡ false → Passed z kind c i q used post (at + 7 + n)
       unfolding bodies writeMany
       next-passed t =
           let w = passed-next l in
-          let z : at + 7 + n ≡ at + (7 + length (w .parcel .bytes)) = omega (arith, length-next) in
+          let to : at + 7 + n ≡ at + (7 + length (w .parcel .bytes)) = omega (arith, length-next) in
           let b : bodies kind c i (w .parcel ∷ []) ≡ [] = ap (λ (y : Bool). cond y (w .parcel .bytes ∷ []) []) (sym keyed-next ∙ t) in
           let m : writeParcels (s .before ++ (w .parcel ∷ [])) ≡ writeParcels (s .before) ++ writeParcels (w .parcel ∷ []) =
           many-append writeParcel (s .before) (w .parcel ∷ [])
@@ -360,6 +380,6 @@ module _ (kind c i : ℕ) (q : List Parcel) (used : ℕ) (post : List ℕ) (at :
             parts = w .made ∙ sym (append-assoc (s .before) (w .parcel ∷ []) (w .tail));
             none = bodies-append kind c i (s .before) (w .parcel ∷ []) ∙ (λ j. s .none j ++ b j);
             first = omega (arith, s .first, length-next, ap length m, length-append (writeParcels (s .before)) (writeParcels (w .parcel ∷ [])), length-one (w .parcel));
-            left = ap (λ (y : ℕ). drop y (take used post)) z ∙ after-there used post at h (w .parcel) (w .tail) (w .bytes) l (w .one);
+            left = ap (λ (y : ℕ). drop y (take used post)) to ∙ after-there z ok used post at h (w .parcel) (w .tail) (w .bytes) l (w .one);
             good = w .all;
           }

@@ -2,9 +2,9 @@
 use mathlib.Core.Path.{_≡_, refl, sym, ap, _∙_}
 use mathlib.Core.Bool.{Bool, true, false, cond}
 use mathlib.Core.List.{List, [], _∷_, _++_, append-nil}
-use mathlib.Core.Option.{some, none}
+use mathlib.Core.Option.{Option, some, none}
 use Prim.Native.Nat.{ℕ, zero, suc, _+_, _-_, _*_, _<_, _≤_, min}
-use native.Mathlib.Nat.{mul-le-mul, suc-mul, mul-le-mul-right, mul-le-mul-left}
+use native.Mathlib.Nat.{mul-le-mul, suc-mul, mul-le-mul-right}
 use native.Mathlib.Numerals.{add-one}
 use native.Mathlib.Decide.{decLt}
 use native.Mathlib.Omega.{arith}
@@ -14,19 +14,21 @@ use lib.ListN.{length, take, drop, length-append, length-take, length-drop}
 use lib.Seq.{take-all}
 use Rattle.parties.specs.declared.Measures.{Measures}
 use Rattle.parties.specs.declared.Version.{Version}
-use Rattle.parties.specs.protocol.Measures.{passes}
+use Rattle.parties.specs.protocol.Measures.{passes, rowSize}
 use Rattle.parties.specs.protocol.Nodes.{stands}
 use Rattle.parties.specs.protocol.Format.{writeMany}
 use Rattle.parties.specs.protocol.Answer.{ClientAnswer as Answer, refused, waits, scan, update, stores, requests, deposited, empty, page, spent, failed}
-use Rattle.parties.specs.protocol.ClientEvents.{messageTo}
+use Rattle.parties.specs.protocol.ClientEvents.{roomSize, messageTo}
 use Rattle.parties.proofs.protocol.formats.MeasureLaws.{passed}
 use Rattle.parties.specs.declared.ClientAnswer.{ClientAnswer}
 use Rattle.parties.specs.client.Answer.{answered}
 use Rattle.parties.proofs.ClientAnswer.{the-type}
+use Rattle.parties.proofs.protocol.events.SentLengths.{Bounded}
 use Rattle.parties.proofs.records.SpliceLaws.{many-append}
 use Rattle.runs.specs.Parcels.{Parcel, writeParcel, writeParcels, Appended}
-use Rattle.runs.specs.Sent.{call, toNode, callBy, messageIn, messagesBy}
-use Rattle.runs.proofs.PostLaws.{taken-short, length-one, appended-none, appended-more}
+use Rattle.runs.specs.Sent.{call, toNode, callBy, messageIn, messagesBy, longestCall, longestMessage, needed, Sized}
+use Rattle.runs.proofs.PostLaws.{length-one, appended-none, appended-more}
+use Rattle.runs.proofs.SentLaws.{Short, message-short, piece-within, row-within}
 
 pub as-sent : {p q : List Parcel} {post : List ℕ} {used : ℕ} {after : List ℕ} {r : ℕ} → p ≡ q → Appended p post used after r → Appended q post used after r
 as-sent e x = rw e at x
@@ -62,13 +64,35 @@ least-part room at n from m e f =
     ∙ least-taken n m (drop from room) (f ∙ ap (min n) (sym (length-drop from room)))
     ∙ ap (take n) (least-dropped at from room e)
 
--- a message of two parts of a room has at most the front more than the room
-pub parts-fit : (room : List ℕ) (used front from m long : ℕ) → front ≤ 6 → used + (13 + length room) ≤ long
-    → used + (7 + (length (take front room) + length (take (from + m - from) (drop from room)))) ≤ long
-parts-fit room used front from m long h l =
-    let a : length (take front room) ≤ 6 = omega (arith, length-take front room) in
-    let n : ℕ = from + m - from in
-    let b : length (take n (drop from room)) ≤ length room = omega (arith, length-take n (drop from room), length-drop from room) in omega arith
+-- a message of two parts of a room, for a piece of so many bytes
+pub parts-fit : (s : Measures) (room : List ℕ) (front from m len : ℕ) → passes s ≡ true → front ≤ 6 → m ≤ len → len ≤ s .f
+    → length (take front room) + length (take (from + m - from) (drop from room)) ≤ roomSize s
+parts-fit s room front from m len ok h k l =
+    omega (arith, length-take front room, length-take (from + m - from) (drop from room), piece-within s ok)
+
+-- what an answer says of its lengths
+pub sized-update : (s : Measures) (a : ClientAnswer) (len : ℕ) → Sized s (answered a) → a ≡ ClientAnswer.Update len → len ≤ rowSize s
+sized-update s a len z e = rw e at z
+
+pub sized-stores : (s : Measures) (a : ClientAnswer) (v : Version) (len : ℕ) → Sized s (answered a) → a ≡ ClientAnswer.Stores v len → len ≤ s .f
+sized-stores s a v len z e = rw e at z
+
+pub sized-deposited : (s : Measures) (a : ClientAnswer) (v : Version) (len : ℕ) → Sized s (answered a) → a ≡ ClientAnswer.Deposited v len → len ≤ rowSize s
+sized-deposited s a v len z e = rw e at z
+
+-- the events' answers
+pub sized : (s : Measures) (a : Answer) → Bounded s a → Sized s a
+sized s (refused n) h = tt
+sized s waits h = tt
+sized s scan h = tt
+sized s (update len) h = h
+sized s (stores v len) h = h
+sized s (requests v nodes) h = tt
+sized s (deposited v len) h = h
+sized s empty h = tt
+sized s (page v len) h = tt
+sized s spent h = tt
+sized s failed h = tt
 
 -- ---- a call
 
@@ -139,60 +163,45 @@ no-message s c i ClientAnswer.Failed room k = refl
 
 -- ---- how long they are
 
-one-short : (c i : ℕ) (m : List ℕ) (n : ℕ) → length m ≤ 6 + n → length (writeParcels (messageIn c i (some m))) ≤ 13 + n
-one-short c i m n h = omega (arith, length-one (toNode c i m))
-
 none-short : (n : ℕ) → length (writeParcels []) ≤ n
 unfolding writeMany
 none-short n = omega arith
 
-pub call-short : (c : ℕ) (a : Answer) (room : List ℕ) → length (writeParcels (callBy c a room)) ≤ 8 + length room
-call-short c (refused n) room = none-short (8 + length room)
-call-short c waits room = none-short (8 + length room)
-call-short c scan room = omega (arith, length-one (call c (0 ∷ [])))
-call-short c (update len) room = omega (arith, length-one (call c (1 ∷ take len room)), taken-short len room)
-call-short c (stores v len) room = none-short (8 + length room)
-call-short c (requests v nodes) room = none-short (8 + length room)
-call-short c (deposited v len) room = none-short (8 + length room)
-call-short c empty room = none-short (8 + length room)
-call-short c (page v len) room = none-short (8 + length room)
-call-short c spent room = none-short (8 + length room)
-call-short c failed room = none-short (8 + length room)
+module _ (s : Measures) (ok : passes s ≡ true) (c : ℕ) (a : Answer) (z : Sized s a) (room : List ℕ) where
+  pub call-short : length (writeParcels (callBy c a room)) ≤ longestCall s
+  call-short = go a z
+    where
+      go : (a : Answer) → Sized s a → length (writeParcels (callBy c a room)) ≤ longestCall s
+      go (refused n) z = none-short (longestCall s)
+      go waits z = none-short (longestCall s)
+      go scan z = omega (arith, length-one (call c (0 ∷ [])))
+      go (update len) z = omega (arith, length-one (call c (1 ∷ take len room)), length-take len room, row-within s ok)
+      go (stores v len) z = none-short (longestCall s)
+      go (requests v nodes) z = none-short (longestCall s)
+      go (deposited v len) z = none-short (longestCall s)
+      go empty z = none-short (longestCall s)
+      go (page v len) z = none-short (longestCall s)
+      go spent z = none-short (longestCall s)
+      go failed z = none-short (longestCall s)
 
-message-short : (s : Measures) (c i : ℕ) (a : Answer) (room : List ℕ) → length (writeParcels (messageIn c i (messageTo s a room i))) ≤ 13 + length room
-message-short s c i (refused n) room = none-short (13 + length room)
-message-short s c i waits room = none-short (13 + length room)
-message-short s c i scan room = none-short (13 + length room)
-message-short s c i (update len) room = none-short (13 + length room)
-message-short s c i (stores v len) room =
-    let at : ℕ = 6 + (i - 1) * s .f in
-    one-short c i (take 6 room ++ take len (drop at room)) (length room)
-    (omega (arith, length-append (take 6 room) (take len (drop at room)), length-take 6 room, taken-short len (drop at room), length-drop at room))
-message-short s c i (requests v nodes) room = go (stands nodes i)
-  where
-    go : (b : Bool) → length (writeParcels (messageIn c i (cond b (some (take 6 room)) none))) ≤ 13 + length room
-    go true = one-short c i (take 6 room) (length room) (omega (arith, taken-short 6 room))
-    go false = none-short (13 + length room)
-message-short s c i (deposited v len) room = one-short c i (take len room) (length room) (omega (arith, taken-short len room))
-message-short s c i empty room = none-short (13 + length room)
-message-short s c i (page v len) room = none-short (13 + length room)
-message-short s c i spent room = none-short (13 + length room)
-message-short s c i failed room = none-short (13 + length room)
+  one-short : (i : ℕ) (m : Option (List ℕ)) → Short s m → length (writeParcels (messageIn c i m)) ≤ longestMessage s
+  one-short i none h = none-short (longestMessage s)
+  one-short i (some m) h = omega (arith, length-one (toNode c i m))
 
-pub messages-short : (s : Measures) (c : ℕ) (a : Answer) (room : List ℕ) (j : ℕ) → length (writeParcels (messagesBy s c a room j)) ≤ j * (13 + length room)
-unfolding messagesBy
-messages-short s c a room zero = none-short (0 * (13 + length room))
-messages-short s c a room (suc j) =
-    let p = messagesBy s c a room j in
-    let q = messageIn c (suc j) (messageTo s a room (suc j)) in
-    omega (
-      arith,
-      messages-short s c a room j,
-      message-short s c (suc j) a room,
-      ap length (many-append writeParcel p q),
-      length-append (writeParcels p) (writeParcels q),
-      suc-mul j (13 + length room),
-    )
+  pub messages-short : (j : ℕ) → length (writeParcels (messagesBy s c a room j)) ≤ j * longestMessage s
+  unfolding messagesBy
+  messages-short zero = none-short (0 * longestMessage s)
+  messages-short (suc j) =
+      let p = messagesBy s c a room j in
+      let q = messageIn c (suc j) (messageTo s a room (suc j)) in
+      omega (
+        arith,
+        messages-short j,
+        one-short (suc j) (messageTo s a room (suc j)) (message-short s ok a z room (suc j)),
+        ap length (many-append writeParcel p q),
+        length-append (writeParcels p) (writeParcels q),
+        suc-mul j (longestMessage s),
+      )
 
 -- ---- messages to the nodes one after the other
 
@@ -210,10 +219,10 @@ module _ (s : Measures) (c : ℕ) (a : Answer) (room post : List ℕ) (used : �
 
   module _ (i : ℕ) (mid : List ℕ) (at : ℕ) (x : Appended (messagesBy s c a room i) post used mid at) where
     -- there is room for one more
-    pub messages-room : i < s .n → used + s .n * (13 + length room) ≤ length post → at + (13 + length room) ≤ length mid
-    messages-room l h =
-        let k : suc i * (13 + length room) ≤ s .n * (13 + length room) = mul-le-mul-right (13 + length room) l in
-        omega (arith, messages-short s c a room i, x .count, x .long, suc-mul i (13 + length room))
+    pub messages-room : passes s ≡ true → Sized s a → i < s .n → used + s .n * longestMessage s ≤ length post → at + longestMessage s ≤ length mid
+    messages-room ok z l h =
+        let k : suc i * longestMessage s ≤ s .n * longestMessage s = mul-le-mul-right (longestMessage s) l in
+        omega (arith, messages-short s ok c a z room i, x .count, x .long, suc-mul i (longestMessage s))
 
     pub messages-more : (after : List ℕ) (r : ℕ) → Appended (messageIn c (i + 1) (messageTo s a room (i + 1))) mid at after r
         → Appended (messagesBy s c a room (i + 1)) post used after r
@@ -226,12 +235,6 @@ module _ (s : Measures) (c : ℕ) (a : Answer) (room post : List ℕ) (used : �
     messages-all l h = let e : i ≡ s .n = omega arith in rw e at x
 
   -- after a call there is room for the messages
-  pub call-room : (mid : List ℕ) (at : ℕ) → Appended (callBy c a room) post used mid at → used + (s .n + 1) * (16 + length room) ≤ length post
-      → at + s .n * (13 + length room) ≤ length mid
-  call-room mid at x h =
-      let l : 13 + length room ≤ 16 + length room = omega arith in
-      let k : s .n * (13 + length room) ≤ s .n * (16 + length room) = mul-le-mul-left (s .n) l in
-      let m : (s .n + 1) * (16 + length room) ≡ s .n * (16 + length room) + (16 + length room) =
-      ap (λ (y : ℕ). y * (16 + length room)) (add-one (s .n)) ∙ suc-mul (s .n) (16 + length room)
-      in
-      omega (arith, call-short c a room, x .count, x .long)
+  pub call-room : (mid : List ℕ) (at : ℕ) → passes s ≡ true → Sized s a → Appended (callBy c a room) post used mid at → used + needed s ≤ length post
+      → at + s .n * longestMessage s ≤ length mid
+  call-room mid at ok z x h = omega (arith, call-short s ok c a z room, x .count, x .long)

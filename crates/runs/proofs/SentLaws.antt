@@ -6,21 +6,24 @@ use mathlib.Core.Option.{Option, some, none}
 use Prim.Native.Nat.{ℕ, zero, suc, _+_, _-_, _*_, _≤_, _<_}
 use native.Mathlib.Omega.{arith}
 use native.Mathlib.Decide.{ℕ-discrete}
-use borrow.Author.Tests.{leb-true, le-leb}
+use native.Mathlib.Nat.{mul-le-mul, mul-le-mul-right}
+use borrow.Author.Tests.{leb-true, le-leb, lt-ltb}
 use lib.Dec.{leb}
-use lib.ListN.{length, take, drop, length-append, length-take, length-drop}
+use lib.ListN.{length, take, drop, length-append, length-take}
 use Rattle.parties.specs.declared.Measures.{Measures}
-use Rattle.parties.specs.protocol.Measures.{passes}
+use Rattle.parties.specs.protocol.Measures.{passes, rowSize}
+use Rattle.parties.specs.protocol.DirectoryEvents.{directorySize}
 use Rattle.parties.specs.protocol.Nodes.{stands}
 use Rattle.parties.specs.protocol.Answer.{ClientAnswer, refused, waits, scan, update, stores, requests, deposited, empty, page, spent, failed}
-use Rattle.parties.specs.protocol.ClientEvents.{ClientEnd, messageTo}
+use Rattle.parties.specs.protocol.ClientEvents.{ClientEnd, roomSize, messageTo}
 use Rattle.parties.specs.protocol.Run.{Call, called, sentTo, sends}
 use Rattle.parties.proofs.protocol.formats.MeasureLaws.{passed}
+use Rattle.parties.proofs.records.SizeLaws.{row-bound, table-bound}
 use Rattle.title.proofs.PartLaws.{both-true}
-use Rattle.runs.specs.Parcels.{Parcel, properAll, keyed, bodies}
-use Rattle.runs.specs.Sent.{call, toNode, callBy, messageIn, messagesBy, sent}
+use Rattle.runs.specs.Parcels.{Parcel, properKey, properAll, keyed, bodies}
+use Rattle.runs.specs.Sent.{call, toNode, callBy, messageIn, messagesBy, sent, Sized}
 use Rattle.runs.specs.UnderWay.{callOf}
-use Rattle.runs.proofs.PostLaws.{taken-short, bodies-append}
+use Rattle.runs.proofs.PostLaws.{bodies-append}
 use Rattle.runs.proofs.ParcelLaws.{nothing-in, body-keyed, body-other, keyed-by, not-kind, not-client, not-node, proper-++, proper-by, proper-one}
 
 abbrev inList : Option (List ℕ) → List (List ℕ)
@@ -174,66 +177,93 @@ sent-to-nodes s c e i q = go (leb 1 i && leb i (s .n)) refl
         let m = other-messages s c (e .answer) (e .room) i (s .n) (λ j lo up z. out-of-bounds i (s .n) t (omega arith) (omega arith)) in
         sym (append-nil q) ∙ ap (λ (l : List (List ℕ)). q ++ l) (sym (sent-messages s c (e .answer) (e .room) i ∙ m))
 
+-- ---- how long they are
+
+module _ (s : Measures) (ok : passes s ≡ true) where
+  -- a piece is no longer than n of them, a row than m
+  pub piece-within : s .f ≤ s .n * s .f
+  piece-within = let p = passed s ok in omega (arith, mul-le-mul-right (s .f) (p .nodes .0))
+
+  pub row-within : rowSize s ≤ directorySize s
+  row-within = let p = passed s ok in omega (arith, mul-le-mul-right (rowSize s) (p .clients .0))
+
+  pub room-small : roomSize s ≤ 70250
+  room-small = let p = passed s ok in omega (arith, row-bound s ok, mul-le-mul (p .nodes .1) (p .bytes .1))
+
+  pub rows-small : directorySize s ≤ 37664
+  rows-small = table-bound s ok
+
+abbrev pub Short : Measures → Option (List ℕ) → Type 0
+Short s none = Unit {0}
+Short s (some m) = length m ≤ roomSize s
+
+pub message-short : (s : Measures) → passes s ≡ true → (a : ClientAnswer) → Sized s a → (room : List ℕ) (i : ℕ) → Short s (messageTo s a room i)
+message-short s ok (refused n) z room i = tt
+message-short s ok waits z room i = tt
+message-short s ok scan z room i = tt
+message-short s ok (update len) z room i = tt
+message-short s ok (stores v len) z room i =
+    let at = 6 + (i - 1) * s .f in
+    omega (arith, length-append (take 6 room) (take len (drop at room)), length-take 6 room, length-take len (drop at room), piece-within s ok)
+message-short s ok (requests v nodes) z room i = go (stands nodes i)
+  where
+    go : (b : Bool) → Short s (cond b (some (take 6 room)) none)
+    go true = omega (arith, length-take 6 room)
+    go false = tt
+message-short s ok (deposited v len) z room i = omega (arith, length-take len room)
+message-short s ok empty z room i = tt
+message-short s ok (page v len) z room i = tt
+message-short s ok spent z room i = tt
+message-short s ok failed z room i = tt
+
 -- ---- they are proper
 
-Short : ℕ → Option (List ℕ) → Type 0
-Short l none = Unit {0}
-Short l (some m) = length m ≤ 6 + l
+-- the keys of a client's calls and messages
+pub call-key : (s : Measures) (c : ℕ) → c < s .m → properKey s 0 c 0 ≡ true
+unfolding properKey
+call-key s c l = rw (lt-ltb c (s .m) l) refl
 
-message-short : (s : Measures) (a : ClientAnswer) (room : List ℕ) (i : ℕ) → Short (length room) (messageTo s a room i)
-unfolding Short
-message-short s (refused n) room i = tt
-message-short s waits room i = tt
-message-short s scan room i = tt
-message-short s (update len) room i = tt
-message-short s (stores v len) room i =
-    let at = 6 + (i - 1) * s .f in
-    omega (arith, length-append (take 6 room) (take len (drop at room)), length-take 6 room, taken-short len (drop at room), length-drop at room)
-message-short s (requests v nodes) room i = go (stands nodes i)
-  where
-    go : (b : Bool) → Short (length room) (cond b (some (take 6 room)) none)
-    go true = omega (arith, taken-short 6 room)
-    go false = tt
-message-short s (deposited v len) room i = omega (arith, taken-short len room)
-message-short s empty room i = tt
-message-short s (page v len) room i = tt
-message-short s spent room i = tt
-message-short s failed room i = tt
+pub return-key : (s : Measures) (c : ℕ) → c < s .m → properKey s 1 c 0 ≡ true
+unfolding properKey
+return-key s c l = rw (lt-ltb c (s .m) l) refl
 
-module _ (c : ℕ) (room : List ℕ) (small : c < 256) (fits : 16 + length room ≤ 4294967295) where
-  nothing-proper : properAll [] ≡ true
+pub node-key : (s : Measures) (c i : ℕ) → c < s .m → 1 ≤ i → i ≤ s .n → properKey s 2 c i ≡ true
+unfolding properKey
+node-key s c i l lo up = rw (lt-ltb c (s .m) l, le-leb 1 i lo, le-leb i (s .n) up) refl
+
+pub client-key : (s : Measures) (c i : ℕ) → c < s .m → 1 ≤ i → i ≤ s .n → properKey s 3 c i ≡ true
+unfolding properKey
+client-key s c i l lo up = rw (lt-ltb c (s .m) l, le-leb 1 i lo, le-leb i (s .n) up) refl
+
+module _ (s : Measures) (ok : passes s ≡ true) (c : ℕ) (room : List ℕ) (small : c < s .m) where
+  nothing-proper : properAll s [] ≡ true
   unfolding properAll
   nothing-proper = refl
 
-  call-proper : (a : ClientAnswer) → properAll (callBy c a room) ≡ true
-  call-proper (refused n) = nothing-proper
-  call-proper waits = nothing-proper
-  call-proper scan = proper-one _ (proper-by 0 c 0 (0 ∷ []) small (omega arith) (omega arith))
-  call-proper (update len) = proper-one _ (proper-by 0 c 0 (1 ∷ take len room) small (omega arith) (omega (arith, taken-short len room)))
-  call-proper (stores v len) = nothing-proper
-  call-proper (requests v nodes) = nothing-proper
-  call-proper (deposited v len) = nothing-proper
-  call-proper empty = nothing-proper
-  call-proper (page v len) = nothing-proper
-  call-proper spent = nothing-proper
-  call-proper failed = nothing-proper
+  call-proper : (a : ClientAnswer) → Sized s a → properAll s (callBy c a room) ≡ true
+  call-proper (refused n) z = nothing-proper
+  call-proper waits z = nothing-proper
+  call-proper scan z = proper-one s _ (proper-by s 0 c 0 (0 ∷ []) (call-key s c small) (omega arith))
+  call-proper (update len) z =
+      proper-one s _ (proper-by s 0 c 0 (1 ∷ take len room) (call-key s c small) (omega (arith, length-take len room, row-within s ok, rows-small s ok)))
+  call-proper (stores v len) z = nothing-proper
+  call-proper (requests v nodes) z = nothing-proper
+  call-proper (deposited v len) z = nothing-proper
+  call-proper empty z = nothing-proper
+  call-proper (page v len) z = nothing-proper
+  call-proper spent z = nothing-proper
+  call-proper failed z = nothing-proper
 
-  message-proper : (i : ℕ) → i < 256 → (m : Option (List ℕ)) → Short (length room) m → properAll (messageIn c i m) ≡ true
-  unfolding Short
-  message-proper i l none h = nothing-proper
-  message-proper i l (some m) h = proper-one _ (proper-by 2 c i m small l (omega arith))
+  message-proper : (i : ℕ) → 1 ≤ i → i ≤ s .n → (m : Option (List ℕ)) → Short s m → properAll s (messageIn c i m) ≡ true
+  message-proper i lo up none h = nothing-proper
+  message-proper i lo up (some m) h = proper-one s _ (proper-by s 2 c i m (node-key s c i small lo up) (omega (arith, room-small s ok)))
 
-  messages-proper : (s : Measures) (a : ClientAnswer) (n : ℕ) → n < 256 → properAll (messagesBy s c a room n) ≡ true
+  messages-proper : (a : ClientAnswer) → Sized s a → (n : ℕ) → n ≤ s .n → properAll s (messagesBy s c a room n) ≡ true
   unfolding messagesBy
-  messages-proper s a zero l = nothing-proper
-  messages-proper s a (suc n) l =
-      proper-++ (messagesBy s c a room n) (messageIn c (suc n) (messageTo s a room (suc n))) (messages-proper s a n (omega arith))
-      (message-proper (suc n) l (messageTo s a room (suc n)) (message-short s a room (suc n)))
+  messages-proper a z zero l = nothing-proper
+  messages-proper a z (suc n) l =
+      proper-++ s (messagesBy s c a room n) (messageIn c (suc n) (messageTo s a room (suc n))) (messages-proper a z n (omega arith))
+      (message-proper (suc n) (omega arith) l (messageTo s a room (suc n)) (message-short s ok a z room (suc n)))
 
-pub sent-proper : (s : Measures) (c : ℕ) (a : ClientAnswer) (room : List ℕ) → passes s ≡ true → c < s .m → 16 + length room ≤ 4294967295
-    → properAll (sent s c a room) ≡ true
-sent-proper s c a room ok l fits =
-    let p = passed s ok in
-    let small : c < 256 = omega arith in
-    let nodes : s .n < 256 = omega arith in
-    proper-++ (callBy c a room) (messagesBy s c a room (s .n)) (call-proper c room small fits a) (messages-proper c room small fits s a (s .n) nodes)
+  pub sent-proper : (a : ClientAnswer) → Sized s a → properAll s (sent s c a room) ≡ true
+  sent-proper a z = proper-++ s (callBy c a room) (messagesBy s c a room (s .n)) (call-proper a z) (messages-proper a z (s .n) (omega arith))

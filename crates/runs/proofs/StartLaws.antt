@@ -1,36 +1,77 @@
 -- Starts of deposits with pages that are too long: all are refused alike.
-use mathlib.Core.Path.{_≡_, subst}
-use mathlib.Core.Bool.{Bool}
-use mathlib.Core.List.{List}
+use mathlib.Core.Path.{_≡_, sym, subst}
+use mathlib.Core.Bool.{Bool, true, false, cond}
+use mathlib.Core.List.{List, []}
+use mathlib.Core.Option.{Option, some, none}
 use Prim.Native.Nat.{ℕ, _-_, _*_, _<_}
+use borrow.Author.Tests.{ltb-true}
+use lib.Dec.{leb, ltb}
 use lib.ListN.{length}
 use Rattle.parties.specs.declared.Measures.{Measures}
-use Rattle.parties.specs.protocol.ClientEvents.{ClientEnd}
+use Rattle.parties.specs.protocol.ClientEvents.{ClientEnd, startDeposit, beginDeposit, onClient, unchanged, after, withPhase, isIdle, stays, does}
+use Rattle.parties.specs.protocol.Measures.{passes}
+use Rattle.parties.specs.protocol.Format.{Read}
+use Rattle.parties.specs.protocol.Client.{Client, readClient, clientSize, scanning}
+use Rattle.parties.specs.protocol.Answer.{scan, refused}
+use Rattle.parties.specs.declared.ClientAnswer.{ClientAnswer as Answer}
+use Rattle.parties.specs.client.Answer.{answered}
 use Rattle.parties.specs.protocol.Run.{deposit}
 use Rattle.parties.proofs.protocol.events.DepositStartLaws.{too-long}
 use Rattle.title.specs.Memory.{recordIn}
-use Rattle.runs.specs.declared.answer.Turn.{Turn}
+use Rattle.runs.specs.declared.answer.EventEnd.{EventEnd}
 use Rattle.runs.specs.Acts.{Lent, AtClient, Acts}
-use Rattle.runs.specs.Happens.{Capable, Happens}
+use Rattle.runs.specs.Happens.{Unready, Ready, Happens}
 use Rattle.runs.specs.Oldest.{alone}
+use Rattle.runs.specs.Sent.{Sized}
 use Rattle.runs.proofs.GoesLaws.{deposit-goes}
 
+-- a start of a deposit sends a scan's call, or nothing
+pub deposit-sized : (s : Measures) (c : ℕ) (b page : List ℕ) → Sized s (startDeposit s c b page .answer)
+unfolding startDeposit beginDeposit
+deposit-sized s c b page = go (passes s) (leb (clientSize s) (length b)) (ltb c (s .m)) (readClient s b)
+  where
+    begun : (r : Read Client) (x y : Bool)
+        → Sized s (after s b [] [] (r .rest) (cond x (cond y (does scan (withPhase (scanning page) (r .value)) [] []) (stays (refused 6))) (stays (refused 5))) .answer)
+    begun r true true = tt
+    begun r true false = tt
+    begun r false y = tt
+
+    go : (x y z : Bool) (r : Option (Read Client))
+        → Sized s (cond x (cond y (cond z (onClient s b [] [] r (λ k. beginDeposit s k page)) (unchanged (refused 3) b [] [])) (unchanged (refused 2) b [] []))
+        (unchanged (refused 1) b [] []) .answer)
+    go true true true none = tt
+    go true true true (some r) = begun r (isIdle (r .value .phase)) (leb (length page) (s .k * s .f - 4))
+    go true true false r = tt
+    go true false z r = tt
+    go false y z r = tt
+
+pub deposited-sized : (s : Measures) (a : Answer) (c : ℕ) (b page : List ℕ) → answered a ≡ startDeposit s c b page .answer → Sized s (answered a)
+deposited-sized s a c b page e = subst (Sized s) (sym e) (deposit-sized s c b page)
+
 module _ (s : Measures) (honest : ℕ → Bool) (c used : ℕ) (x y : Lent) (p q : List ℕ) (h : s .k * s .f - 4 < length p) (k : s .k * s .f - 4 < length q) where
-  acts-long : (turn : Turn) → Acts s honest used (alone x) (alone y) (deposit c p) turn
-      → Acts s honest used (alone x) (alone y) (deposit c q) turn
-  acts-long turn (Acts.rests e m w) = absurd m
-  acts-long turn (Acts.deposits d b a t w o z) =
-      Acts.deposits c q a turn (subst (λ (r : ClientEnd). AtClient s c a r (alone x) (alone y)) (too-long s c (recordIn s c (x .memory)) p q h k) w) o z
+  acts-long : (result : EventEnd) → Acts s honest used (alone x) (alone y) (deposit c p) result
+      → Acts s honest used (alone x) (alone y) (deposit c q) result
+  acts-long result (Acts.rests e m w) = absurd m
+  acts-long result (Acts.deposits d b a t w o z) =
+      Acts.deposits c q a result (subst (λ (r : ClientEnd). AtClient s c a r (alone x) (alone y)) (too-long s c (recordIn s c (x .memory)) p q h k) w) o z
 
-  acts-happen : (turn : Turn) → Capable s c 1 (length (x .post)) used 0 → length (y .post) ≡ length (x .post)
-      → Acts s honest used (alone x) (alone y) (deposit c q) turn
-      → Happens s honest (deposit c q) c 1 used (alone x) (alone y) turn
-  acts-happen turn v l (Acts.rests e m w) = absurd m
-  acts-happen turn v l (Acts.deposits d b a t w o z) =
-      Happens.happens turn v l (Acts.deposits c q a turn w o z)
-      (λ es g. deposit-goes s (v .measures) honest es (x .memory) (x .post) used g c q a (y .memory) (y .post) turn v (w .answer) (w .memory) z)
+  unready-long : (n : ℕ) → Unready s honest (deposit c p) used (alone x) n → Unready s honest (deposit c q) used (alone x) n
+  unready-long n (Unready.measures e) = Unready.measures e
+  unready-long n (Unready.short o e) = Unready.short o e
+  unready-long n (Unready.lacks r e b) = Unready.lacks r e b
+  unready-long n (Unready.outside r e b) = Unready.outside r e b
+  unready-long n (Unready.form r e b f) = Unready.form r e b f
 
-  pub deposit-long : (turn : Turn) → Happens s honest (deposit c p) c 1 used (alone x) (alone y) turn
-      → Happens s honest (deposit c q) c 1 used (alone x) (alone y) turn
-  deposit-long turn (Happens.unready r u e) = Happens.unready r u e
-  deposit-long turn (Happens.happens t v l w f) = acts-happen turn v l (acts-long turn w)
+  acts-happen : (result : EventEnd) → Ready s (deposit c p) used (alone x) → length (y .post) ≡ length (x .post)
+      → Acts s honest used (alone x) (alone y) (deposit c q) result
+      → Happens s honest (deposit c q) used (alone x) (alone y) result
+  acts-happen result v l (Acts.rests e o w) = absurd o
+  acts-happen result v l (Acts.deposits d b a t w o z) =
+      Happens.happens result (record { roomy = v .roomy; bounds = v .bounds; list = v .list }) l (Acts.deposits c q a result w o z)
+      (λ es g. deposit-goes s (v .roomy .measures) honest es (x .memory) (x .post) used g c q a (y .memory) (y .post) result (ltb-true c (s .m) (v .bounds))
+      (subst (Sized s) (sym (w .answer)) (deposit-sized s c (recordIn s c (x .memory)) q)) (w .answer) (w .memory) z)
+
+  pub deposit-long : (result : EventEnd) → Happens s honest (deposit c p) used (alone x) (alone y) result
+      → Happens s honest (deposit c q) used (alone x) (alone y) result
+  deposit-long result (Happens.unready r u e) = Happens.unready r (unready-long _ u) e
+  deposit-long result (Happens.happens t v l w f) = acts-happen result v l (acts-long result w)

@@ -1,15 +1,17 @@
 -- One event of a run, carried out on memory and parcels.
 use mathlib.Core.Path.{_≡_}
 use mathlib.Core.Bool.{Bool, true, false, cond, not, _&&_}
+use mathlib.Core.Logic.{_⊎_}
 use mathlib.Core.List.{List, [], _∷_, _++_}
 use mathlib.Core.Option.{Option, some, none}
-use Prim.Native.Nat.{ℕ, _+_, _*_, _≤_, _<_}
+use Prim.Native.Nat.{ℕ, _+_, _-_, _*_, _≤_, _<_}
 use lib.Dec.{leb, ltb}
 use lib.ListN.{length}
 use Rattle.parties.specs.declared.Measures.{Measures}
 use Rattle.parties.specs.protocol.Measures.{passes}
 use Rattle.parties.specs.protocol.Nodes.{stands}
-use Rattle.parties.specs.protocol.ClientEvents.{startReading, updateAnswer, scanAnswer, clientMessage}
+use Rattle.parties.specs.protocol.Answer.{number, Served, refuses, serves}
+use Rattle.parties.specs.protocol.ClientEvents.{roomSize, startReading, updateAnswer, scanAnswer, clientMessage}
 use Rattle.parties.specs.protocol.DirectoryEvents.{directoryScan}
 use Rattle.parties.specs.protocol.NodeEvents.{nodeMessage}
 use Rattle.parties.specs.protocol.Run.{State, Call, scanCall, updateCall, Return, updated, rows, Event, deposit, reading, carry, hand, bring, deliver, lie}
@@ -18,7 +20,10 @@ use Rattle.parties.specs.records.Answer.{number as numberOf}
 use Rattle.parties.specs.Answer.{served}
 use Rattle.parties.specs.client.Answer.{answered}
 use Rattle.runs.specs.declared.answer.Happened.{Happened}
-use Rattle.runs.specs.declared.answer.Turn.{Turn}
+use Rattle.runs.specs.declared.answer.EventEnd.{EventEnd}
+use Rattle.title.specs.Memory.{memorySize}
+use Rattle.runs.specs.Parcels.{IsList, Broken}
+use Rattle.runs.specs.Sent.{needed}
 use Rattle.runs.specs.UnderWay.{After}
 use Rattle.runs.specs.Acts.{Lent, Acts}
 
@@ -29,26 +34,46 @@ liesIn liars i = leb 1 i && (leb i 16 && stands liars i)
 abbrev pub honestIn : ℕ → ℕ → Bool
 honestIn liars i = not (liesIn liars i)
 
--- bytes that the parcels of one event take at most, for a room of so many bytes
-abbrev pub needed : Measures → ℕ → ℕ
-needed s room = (s .n + 1) * (16 + room)
+-- a client below m and, where an event has a node, one of 1 to n
+abbrev pub inBounds : Measures → Event → Bool
+inBounds s (deposit c page) = ltb c (s .m)
+inBounds s (reading c room) = ltb c (s .m)
+inBounds s (carry c room) = ltb c (s .m)
+inBounds s (hand c room) = ltb c (s .m)
+inBounds s (bring c i room) = ltb c (s .m) && (leb 1 i && leb i (s .n))
+inBounds s (deliver i c room out) = ltb c (s .m) && (leb 1 i && leb i (s .n))
+inBounds s (lie i c bytes room out) = ltb c (s .m) && (leb 1 i && leb i (s .n))
 
--- an event is carried out
-pub record Capable (s : Measures) (c i post used room : ℕ) : Type 0 where
+-- starts and a dishonest node's bytes go to a client whatever is under way: whether the slices suffice that it wants
+abbrev pub suffices : Measures → (ℕ → Bool) → Event → Lent → Bool
+suffices s honest (deposit c page) x = leb (memorySize s) (length (x .memory)) && true
+suffices s honest (reading c room) x = leb (memorySize s) (length (x .memory)) && leb (roomSize s) (length room)
+suffices s honest (carry c room) x = true
+suffices s honest (hand c room) x = true
+suffices s honest (bring c i room) x = true
+suffices s honest (deliver i c room out) x = true
+suffices s honest (lie i c bytes room out) x =
+    cond (honest i) true (leb (memorySize s) (length (x .memory)) && (leb (roomSize s) (length room) && leb (s .k * s .f - 4) (length out)))
+
+-- before a list is looked at: measures that pass, and a slice with room for what an event sends
+pub record Roomy (s : Measures) (post used : ℕ) : Type 0 where
   pub measures : passes s ≡ true
-  pub enough : used + needed s room ≤ post
-  pub small : post ≤ 4294967295
-  pub client : c < s .m
-  pub first : 1 ≤ i
-  pub last : i ≤ s .n
+  pub enough : used + needed s ≤ post
 
--- or it is not: 1, 2 for a slice of parcels without room for more (or of 2^32 bytes), 3
-pub data Unready (s : Measures) (c i post used room : ℕ) : ℕ → Type 0 where
-  measures : passes s ≡ false → Unready s c i post used room 1
-  short : passes s ≡ true → post < used + needed s room → Unready s c i post used room 2
-  huge : passes s ≡ true → 4294967295 < post → Unready s c i post used room 2
-  number : passes s ≡ true → used + needed s room ≤ post → post ≤ 4294967295 → (ltb c (s .m) && (leb 1 i && leb i (s .n))) ≡ false
-      → Unready s c i post used room 3
+-- an event is not carried out: 1; 2 for the slice of parcels; and where a number is out of bounds or the bytes are no list of parcels,
+-- 2 for another slice, 3, or 4
+pub data Unready (s : Measures) (honest : ℕ → Bool) (e : Event) (used : ℕ) (x : Lent) : ℕ → Type 0 where
+  measures : passes s ≡ false → Unready s honest e used x 1
+  short : passes s ≡ true → length (x .post) < used + needed s → Unready s honest e used x 2
+  lacks : Roomy s (length (x .post)) used → suffices s honest e x ≡ false → (inBounds s e ≡ false) ⊎ Broken s used (x .post) → Unready s honest e used x 2
+  outside : Roomy s (length (x .post)) used → suffices s honest e x ≡ true → inBounds s e ≡ false → Unready s honest e used x 3
+  form : Roomy s (length (x .post)) used → suffices s honest e x ≡ true → inBounds s e ≡ true → Broken s used (x .post) → Unready s honest e used x 4
+
+-- it is carried out
+pub record Ready (s : Measures) (e : Event) (used : ℕ) (x : Lent) : Type 0 where
+  pub roomy : Roomy s (length (x .post)) used
+  pub bounds : inBounds s e ≡ true
+  pub list : IsList s used (x .post)
 
 -- what an answer says of the run's event
 abbrev pub answerOf : Happened → Option Answered
@@ -57,6 +82,18 @@ answerOf Happened.Nothing = some nothing
 answerOf Happened.Taken = some nothing
 answerOf (Happened.ByClient a) = some (byClient (answered a))
 answerOf (Happened.ByServer a) = some (byServer (served a))
+
+-- document 01's number of an answer, if it has one
+abbrev pub numberServed : Served → Option ℕ
+numberServed (refuses n) = some n
+numberServed (serves len) = none
+
+abbrev pub numberHappened : Happened → Option ℕ
+numberHappened (Happened.Refused r) = some (numberOf r)
+numberHappened Happened.Nothing = none
+numberHappened Happened.Taken = none
+numberHappened (Happened.ByClient a) = number (answered a)
+numberHappened (Happened.ByServer a) = numberServed (served a)
 
 -- the output after an event that has one
 abbrev pub outDelivered : Measures → ℕ → ℕ → List ℕ → List ℕ → List ℕ → List (List ℕ) → List ℕ
@@ -101,17 +138,17 @@ roomAfter s honest (deliver i c room out) st = roomDelivered s i c (st .clients 
 roomAfter s honest (lie i c bytes room out) st = cond (honest i) room (clientMessage s c i (st .clients c) bytes room out .room)
 
 -- after a list of events, one more: memory, parcels, answer, room and output are the run's
-pub record Goes (s : Measures) (honest : ℕ → Bool) (es : List Event) (e : Event) (turn : Turn) (memory post room out : List ℕ) : Type 0 where
-  pub after : After s honest (es ++ (e ∷ [])) memory post (turn .used)
-  pub answer : answerOf (turn .what) ≡ some (carryOut s honest e (run s honest es (fresh s)) .answer)
+pub record Goes (s : Measures) (honest : ℕ → Bool) (es : List Event) (e : Event) (result : EventEnd) (memory post room out : List ℕ) : Type 0 where
+  pub after : After s honest (es ++ (e ∷ [])) memory post (result .used)
+  pub answer : answerOf (result .what) ≡ some (carryOut s honest e (run s honest es (fresh s)) .answer)
   pub written : room ≡ roomAfter s honest e (run s honest es (fresh s))
   pub output : out ≡ outAfter s honest e (run s honest es (fresh s))
 
--- an event with client c and node i (1 if it has none): nothing changes, or it is the run's next
-pub data Happens (s : Measures) (honest : ℕ → Bool) (e : Event) (c i used : ℕ) (x y : Lent) : Turn → Type 0 where
-  unready : (r : _) → Unready s c i (length (x .post)) used (length (x .room)) (numberOf r) → y ≡ x
-      → Happens s honest e c i used x y (record { used = used; what = Happened.Refused r })
-  happens : (turn : Turn) → Capable s c i (length (x .post)) used (length (x .room)) → length (y .post) ≡ length (x .post)
-      → Acts s honest used x y e turn
-      → ((es : List Event) → After s honest es (x .memory) (x .post) used → Goes s honest es e turn (y .memory) (y .post) (y .room) (y .out))
-      → Happens s honest e c i used x y turn
+-- an event: nothing changes, or it is the run's next
+pub data Happens (s : Measures) (honest : ℕ → Bool) (e : Event) (used : ℕ) (x y : Lent) : EventEnd → Type 0 where
+  unready : (r : _) → Unready s honest e used x (numberOf r) → y ≡ x
+      → Happens s honest e used x y (record { used = used; what = Happened.Refused r })
+  happens : (result : EventEnd) → Ready s e used x → length (y .post) ≡ length (x .post)
+      → Acts s honest used x y e result
+      → ((es : List Event) → After s honest es (x .memory) (x .post) used → Goes s honest es e result (y .memory) (y .post) (y .room) (y .out))
+      → Happens s honest e used x y result

@@ -6,7 +6,7 @@ use Prim.Native.Nat.{ℕ, zero, suc}
 use Rattle.parties.specs.declared.Measures.{Measures}
 use Rattle.parties.specs.protocol.Run.{Call, scanCall, updateCall, Return, updated, rows, State, Event, fresh, run}
 use Rattle.title.specs.Service.{Serves}
-use Rattle.runs.specs.Parcels.{Parcel, Listed, bodies}
+use Rattle.runs.specs.Parcels.{Parcel, callKind, returnKind, toNodeKind, toClientKind, noNode, Listed, bodies}
 
 -- a call's bytes
 abbrev pub callOf : List ℕ → Call
@@ -22,14 +22,14 @@ returnOf (suc t ∷ b) = rows b
 
 -- the parcels are what a state has under way
 pub record UnderWay (q : List Parcel) (st : State) : Type 0 where
-  pub calls : (c : ℕ) → st .calls c ≡ map callOf (bodies 0 c 0 q)
-  pub returns : (c : ℕ) → st .returns c ≡ map returnOf (bodies 1 c 0 q)
-  pub toNode : (c i : ℕ) → st .toNode c i ≡ bodies 2 c i q
-  pub toClient : (i c : ℕ) → st .toClient i c ≡ bodies 3 c i q
+  pub calls : (c : ℕ) → st .calls c ≡ map callOf (bodies callKind c noNode q)
+  pub returns : (c : ℕ) → st .returns c ≡ map returnOf (bodies returnKind c noNode q)
+  pub toNode : (c i : ℕ) → st .toNode c i ≡ bodies toNodeKind c i q
+  pub toClient : (i c : ℕ) → st .toClient i c ≡ bodies toClientKind c i q
 
 -- memory and parcels are those after a list of events
 pub record After (s : Measures) (honest : ℕ → Bool) (es : List Event) (memory post : List ℕ) (used : ℕ) : Type 0 where
   pub serves : Serves s honest es memory
   pub parcels : List Parcel
-  pub listed : Listed parcels used post
+  pub listed : Listed s parcels used post
   pub underWay : UnderWay parcels (run s honest es (fresh s))

@@ -14,7 +14,7 @@ pub enum Happened {
     ByServer(Service),
 }
 
-pub struct Turn {
+pub struct EventEnd {
     // How many bytes of parcels are under way after it.
     pub used: usize,
     pub what: Happened,

@@ -1,17 +1,29 @@
 // The events of a run, each on one page's memory and the parcels under way.
+use crate::answer::EventEnd;
 use crate::answer::Happened;
-use crate::answer::Turn;
 use crate::least::least;
+use crate::parcels::CALL;
+use crate::parcels::FILLED;
 use crate::parcels::Found;
+use crate::parcels::NO_NODE;
+use crate::parcels::PLAIN;
+use crate::parcels::RETURN;
+use crate::parcels::TO_CLIENT;
+use crate::parcels::TO_NODE;
 use crate::parcels::append;
 use crate::parcels::find;
+use crate::parcels::proper;
 use crate::parcels::remove;
+use crate::parcels::sound;
 use crate::send::send;
 use parties::ClientAnswer;
 use parties::Measures;
 use parties::Refusal;
 use parties::Service;
 use parties::records::nodes::has_node;
+use parties::sizes;
+use title::Part;
+use title::table_part;
 use title::title::deposit as start_deposit;
 use title::title::read as start_reading;
 use title::title::scan;
@@ -21,24 +33,61 @@ use title::title::to_node;
 use title::title::update;
 use title::title::updated;
 ghost use mathlib.Core.Path.{_≡_};
-ghost use mathlib.Core.Bool.{Bool, true, false};
+ghost use mathlib.Core.Bool.{Bool, true, false, _&&_};
 ghost use mathlib.Core.List.{[]};
-ghost use Prim.Native.Nat.{ℕ, _+_, _≤_};
+ghost use Prim.Native.Nat.{ℕ, _+_, _-_, _*_, _≤_, min};
+ghost use lib.Dec.{leb};
 ghost use lib.ListN.{length, take};
-ghost use Rattle.parties.specs.protocol.Run.{isRefused};
+ghost use Rattle.parties.specs.protocol.Measures.{passes};
+ghost use Rattle.parties.specs.Sizes.{sized};
+ghost use Rattle.parties.specs.protocol.ClientEvents.{roomSize};
+ghost use Rattle.parties.specs.protocol.Run.{isRefused, lengthOf};
+ghost use Rattle.parties.specs.records.Answer.{number};
+ghost use Rattle.parties.specs.Answer.{served};
 ghost use Rattle.parties.specs.protocol.Run.{deposit as depositEvent, reading as readingEvent, carry as carryEvent, hand as handEvent, bring as bringEvent, deliver as deliverEvent, lie as lieEvent};
 ghost use Rattle.parties.specs.client.Answer.{answered};
-ghost use Rattle.runs.specs.Acts.{body, tagged as taggedWith, Stands, Sends, Takes, Serves};
-ghost use Rattle.runs.specs.Event.{Readies, Carried};
-ghost use Rattle.runs.specs.Happens.{Capable, Happens, honestIn};
+ghost use Rattle.runs.specs.Parcels.{callKind, returnKind, toNodeKind, toClientKind, noNode, Stands};
+ghost use Rattle.runs.specs.Sent.{needed as neededFor, Sized};
+ghost use Rattle.runs.specs.Acts.{body, tagged as taggedWith, Sends, Takes, Serves};
+ghost use Rattle.runs.specs.Event.{Readies, Aheads, Clears, lowestOf, Carried};
+ghost use Rattle.runs.specs.Happens.{Roomy, Happens, honestIn};
 
 pub enum Readiness {
     Yes,
     No(Refusal),
 }
 
-fn ready(s: Measures, c: usize, i: usize, post: usize, used: usize, room: usize) -> Readiness
-    ensures { λ r. ⌜ Readies s c i post used room r ⌝ }
+// What an event that hands over a parcel finds.
+pub enum Ahead {
+    Refused(Refusal),
+    Nothing,
+    // The parcel from the first place to the second.
+    Found(usize, usize),
+}
+
+// What an event that goes to a client at once finds.
+pub enum Clear {
+    Yes,
+    // A number is out of bounds, or the bytes in use are no list of parcels.
+    Late,
+    No(Refusal),
+}
+
+// Bytes that the parcels of one event take at most; 0 where the measures do not pass.
+pub fn needed(s: Measures) -> usize
+    ensures { λ r. ⌜ r ≡ sized s (neededFor s) ⌝ }
+{
+    if !s.pass() {
+        return 0;
+    }
+    let rows = sizes::directory(s);
+    let room = sizes::room(s);
+    8 + rows + s.n * (7 + room)
+}
+
+// Measures, then the slice of parcels.
+pub(crate) fn ready(s: Measures, post: usize, used: usize) -> Readiness
+    ensures { λ r. ⌜ Readies s post used r ⌝ }
 {
     if !s.pass() {
         return Readiness::No(Refusal::Measures);
@@ -46,25 +95,79 @@ fn ready(s: Measures, c: usize, i: usize, post: usize, used: usize, room: usize)
     if post < used {
         return Readiness::No(Refusal::Short);
     }
-    if 4294967295 < post {
+    let more = needed(s);
+    if post - used < more {
         return Readiness::No(Refusal::Short);
-    }
-    if post < room {
-        return Readiness::No(Refusal::Short);
-    }
-    if post - used < (s.n + 1) * (16 + room) {
-        return Readiness::No(Refusal::Short);
-    }
-    if s.m <= c {
-        return Readiness::No(Refusal::Number);
-    }
-    if i < 1 {
-        return Readiness::No(Refusal::Number);
-    }
-    if s.n < i {
-        return Readiness::No(Refusal::Number);
     }
     Readiness::Yes
+}
+
+// Then numbers, the list, and what is under way.
+fn look_ahead(s: Measures, kind: u8, c: usize, i: usize, post: &[u8], used: usize) -> Ahead
+    ensures { λ r. ⌜ Aheads s kind c i (now (post .entry)) used r ⌝ }
+{
+    match ready(s, post.len(), used) {
+        Readiness::No(x) => Ahead::Refused(x),
+        Readiness::Yes => {
+            if !proper(s, kind, c, i) {
+                return Ahead::Refused(Refusal::Number);
+            }
+            match find(s, post, used, kind, c, i) {
+                Found::Broken => Ahead::Refused(Refusal::Form),
+                Found::Nothing => Ahead::Nothing,
+                Found::At(at, end) => Ahead::Found(at, end),
+            }
+        }
+    }
+}
+
+// Where a client is asked at once, its own 2 comes before its number and the list.
+fn clearance(s: Measures, c: usize, i: usize, post: &[u8], used: usize) -> Clear
+    ensures { λ r. ⌜ Clears s c i (now (post .entry)) used r ⌝ }
+{
+    match ready(s, post.len(), used) {
+        Readiness::No(x) => Clear::No(x),
+        Readiness::Yes => {
+            if !proper(s, TO_CLIENT, c, i) {
+                return Clear::Late;
+            }
+            if sound(s, post, used, 0) {
+                return Clear::Yes;
+            }
+            Clear::Late
+        }
+    }
+}
+
+// The lowest that applies: a client's 2, its 3, or the list's 4.
+fn lowest(s: Measures, c: usize, i: usize, memory: usize, enough: bool) -> Refusal
+    requires { ⌜ passes s ≡ true ⌝ }
+    ensures { λ r. ⌜ number r ≡ lowestOf s c i memory enough ⌝ }
+{
+    let part = table_part(s, 1, memory);
+    match part {
+        Part::Refused(x) => x,
+        Part::Within(_, _) => {
+            if !enough {
+                return Refusal::Short;
+            }
+            if !proper(s, TO_CLIENT, c, i) {
+                return Refusal::Number;
+            }
+            Refusal::Form
+        }
+    }
+}
+
+// The room and the output that a message to a client wants.
+fn message_slices(s: Measures, room: usize, out: usize) -> bool
+    requires { ⌜ passes s ≡ true ⌝ }
+    ensures { λ r. ⌜ r ≡ (leb (roomSize s) room && leb (s .k * s .f - 4) out) ⌝ }
+{
+    if room < sizes::room(s) {
+        return false;
+    }
+    s.k * s.f - 4 <= out
 }
 
 fn refused(a: ClientAnswer) -> bool
@@ -77,16 +180,23 @@ fn refused(a: ClientAnswer) -> bool
 }
 
 // A client's answer to a start or to dishonest bytes.
-fn starts(s: Measures, c: usize, a: ClientAnswer, room: &[u8], post: &mut [u8], used: usize) -> Turn
-    requires { ⌜ Capable s c 1 (length (now post)) used (length (now room)) ⌝ }
+fn starts(
+    s: Measures,
+    c: usize,
+    a: ClientAnswer,
+    room: &[u8],
+    post: &mut [u8],
+    used: usize,
+) -> EventEnd
+    requires { ⌜ Roomy s (length (now post)) used × Sized s (answered a) ⌝ }
     ensures { λ r. ⌜ (length (now (post .exit)) ≡ length (now (post .entry))) × Sends s c a (now (room .entry)) (now (post .entry)) used (now (post .exit)) r ⌝ }
 {
     let what = Happened::ByClient(a);
     if refused(a) {
-        return Turn { used, what };
+        return EventEnd { used, what };
     }
     let to = send(s, c, a, room, post, used);
-    Turn { used: to, what }
+    EventEnd { used: to, what }
 }
 
 // A client's answer to the parcel between two places.
@@ -99,21 +209,22 @@ fn takes(
     used: usize,
     at: usize,
     end: usize,
-) -> Turn
-    requires { ⌜ Capable s c 1 (length (now post)) used (length (now room)) × (at + 7 ≤ end) × (end ≤ used) ⌝ }
+) -> EventEnd
+    requires { ⌜ Roomy s (length (now post)) used × Sized s (answered a) × (at + 7 ≤ end) × (end ≤ used) ⌝ }
     ensures { λ r. ⌜ (length (now (post .exit)) ≡ length (now (post .entry))) × Takes s c a (now (room .entry)) (now (post .entry)) used at end (now (post .exit)) r ⌝ }
 {
     let what = Happened::ByClient(a);
     if refused(a) {
-        return Turn { used, what };
+        return EventEnd { used, what };
     }
     let left = remove(post, used, at, end);
     let to = send(s, c, a, room, post, left);
-    Turn { used: to, what }
+    EventEnd { used: to, what }
 }
 
 // The directory's or a node's answer to it: the front, then so many bytes of the room.
 fn serves(
+    s: Measures,
     kind: u8,
     c: usize,
     i: usize,
@@ -124,18 +235,18 @@ fn serves(
     used: usize,
     at: usize,
     end: usize,
-) -> Turn
-    requires { ⌜ (used + (8 + length (now room)) ≤ length (now post)) × (length (now post) ≤ 4294967295) × (length (now front) ≤ 1) × (at + 7 ≤ end) × (end ≤ used) ⌝ }
+) -> EventEnd
+    requires { ⌜ Roomy s (length (now post)) used × (8 + min (lengthOf (served a)) (length (now room)) ≤ neededFor s) × (length (now front) ≤ 1) × (at + 7 ≤ end) × (end ≤ used) ⌝ }
     ensures { λ r. ⌜ (length (now (post .exit)) ≡ length (now (post .entry))) × Serves kind c i (now (front .entry)) (now (room .entry)) (now (post .entry)) used at end (now (post .exit)) a r ⌝ }
 {
     let what = Happened::ByServer(a);
     match a {
-        Service::Refused(_) => Turn { used, what },
+        Service::Refused(_) => EventEnd { used, what },
         Service::Served(len) => {
             let left = remove(post, used, at, end);
             let part = least(len, room.len());
             let to = append(post, left, kind, c, i, front, &room[..part]);
-            Turn { used: to, what }
+            EventEnd { used: to, what }
         }
     }
 }
@@ -148,7 +259,7 @@ fn tagged(post: &[u8], at: usize, end: usize) -> bool
     if end <= at + 7 {
         return false;
     }
-    post[at + 7] != 0
+    post[at + 7] != PLAIN
 }
 
 // An update's call.
@@ -161,8 +272,8 @@ fn carry_update(
     used: usize,
     at: usize,
     end: usize,
-) -> Turn
-    requires { ⌜ Capable s c 1 (length (now post)) used (length (now room)) × Stands 0 c 0 used (now post) at end × (taggedWith (body (now post) at end) ≡ true) ⌝ }
+) -> EventEnd
+    requires { ⌜ Roomy s (length (now post)) used × Stands s callKind c noNode used (now post) at end × (taggedWith (body (now post) at end) ≡ true) ⌝ }
     ensures { λ r. ⌜ (length (now (post .exit)) ≡ length (now (post .entry)))
         × ((honest : ℕ → Bool) → Carried s honest (carryEvent c (now (room .entry))) used
         (record { memory = now (memory .entry); post = now (post .entry); room = now (room .entry); out = [] })
@@ -170,7 +281,19 @@ fn carry_update(
 {
     let from = at + 8;
     let a = update(s, c, memory, &post[from..end]);
-    serves(1, c, 0, a, &[0u8], &room[..0], post, used, at, end)
+    serves(
+        s,
+        RETURN,
+        c,
+        NO_NODE,
+        a,
+        &[PLAIN],
+        &room[..0],
+        post,
+        used,
+        at,
+        end,
+    )
 }
 
 // A scan's call.
@@ -183,15 +306,27 @@ fn carry_scan(
     used: usize,
     at: usize,
     end: usize,
-) -> Turn
-    requires { ⌜ Capable s c 1 (length (now post)) used (length (now room)) × Stands 0 c 0 used (now post) at end × (taggedWith (body (now post) at end) ≡ false) ⌝ }
+) -> EventEnd
+    requires { ⌜ Roomy s (length (now post)) used × Stands s callKind c noNode used (now post) at end × (taggedWith (body (now post) at end) ≡ false) ⌝ }
     ensures { λ r. ⌜ (length (now (post .exit)) ≡ length (now (post .entry)))
         × ((honest : ℕ → Bool) → Carried s honest (carryEvent c (now (room .entry))) used
         (record { memory = now (memory .entry); post = now (post .entry); room = now (room .entry); out = [] })
         (record { memory = now (memory .exit); post = now (post .exit); room = now (room .exit); out = [] }) r) ⌝ }
 {
     let a = scan(s, memory, room);
-    serves(1, c, 0, a, &[1u8], room, post, used, at, end)
+    serves(
+        s,
+        RETURN,
+        c,
+        NO_NODE,
+        a,
+        &[FILLED],
+        room,
+        post,
+        used,
+        at,
+        end,
+    )
 }
 
 // An update's answer.
@@ -204,8 +339,8 @@ fn hand_updated(
     used: usize,
     at: usize,
     end: usize,
-) -> Turn
-    requires { ⌜ Capable s c 1 (length (now post)) used (length (now room)) × Stands 1 c 0 used (now post) at end × (taggedWith (body (now post) at end) ≡ false) ⌝ }
+) -> EventEnd
+    requires { ⌜ Roomy s (length (now post)) used × Stands s returnKind c noNode used (now post) at end × (taggedWith (body (now post) at end) ≡ false) ⌝ }
     ensures { λ r. ⌜ (length (now (post .exit)) ≡ length (now (post .entry)))
         × ((honest : ℕ → Bool) → Carried s honest (handEvent c (now (room .entry))) used
         (record { memory = now (memory .entry); post = now (post .entry); room = now (room .entry); out = [] })
@@ -225,8 +360,8 @@ fn hand_rows(
     used: usize,
     at: usize,
     end: usize,
-) -> Turn
-    requires { ⌜ Capable s c 1 (length (now post)) used (length (now room)) × Stands 1 c 0 used (now post) at end × (taggedWith (body (now post) at end) ≡ true) ⌝ }
+) -> EventEnd
+    requires { ⌜ Roomy s (length (now post)) used × Stands s returnKind c noNode used (now post) at end × (taggedWith (body (now post) at end) ≡ true) ⌝ }
     ensures { λ r. ⌜ (length (now (post .exit)) ≡ length (now (post .entry)))
         × ((honest : ℕ → Bool) → Carried s honest (handEvent c (now (room .entry))) used
         (record { memory = now (memory .entry); post = now (post .entry); room = now (room .entry); out = [] })
@@ -248,8 +383,8 @@ fn bring_honest(
     used: usize,
     at: usize,
     end: usize,
-) -> Turn
-    requires { ⌜ Capable s c i (length (now post)) used (length (now room)) × Stands 2 c i used (now post) at end ⌝ }
+) -> EventEnd
+    requires { ⌜ Roomy s (length (now post)) used × Stands s toNodeKind c i used (now post) at end ⌝ }
     ensures { λ r. ⌜ (length (now (post .exit)) ≡ length (now (post .entry)))
         × ((honest : ℕ → Bool) → honest i ≡ true → Carried s honest (bringEvent c i (now (room .entry))) used
         (record { memory = now (memory .entry); post = now (post .entry); room = now (room .entry); out = [] })
@@ -258,7 +393,7 @@ fn bring_honest(
     let from = at + 7;
     let a = to_node(s, i, memory, &post[from..end], room);
     let none: &[u8] = &[0u8];
-    serves(3, c, i, a, &none[..0], room, post, used, at, end)
+    serves(s, TO_CLIENT, c, i, a, &none[..0], room, post, used, at, end)
 }
 
 // A message to a dishonest node.
@@ -272,15 +407,15 @@ fn bring_dishonest(
     used: usize,
     at: usize,
     end: usize,
-) -> Turn
-    requires { ⌜ Capable s c i (length (now post)) used (length (now room)) × Stands 2 c i used (now post) at end ⌝ }
+) -> EventEnd
+    requires { ⌜ Roomy s (length (now post)) used × Stands s toNodeKind c i used (now post) at end ⌝ }
     ensures { λ r. ⌜ (length (now (post .exit)) ≡ length (now (post .entry)))
         × ((honest : ℕ → Bool) → honest i ≡ false → Carried s honest (bringEvent c i (now (room .entry))) used
         (record { memory = now (memory .entry); post = now (post .entry); room = now (room .entry); out = [] })
         (record { memory = now (memory .exit); post = now (post .exit); room = now (room .exit); out = [] }) r) ⌝ }
 {
     let left = remove(post, used, at, end);
-    Turn {
+    EventEnd {
         used: left,
         what: Happened::Taken,
     }
@@ -298,8 +433,8 @@ fn deliver_message(
     used: usize,
     at: usize,
     end: usize,
-) -> Turn
-    requires { ⌜ Capable s c i (length (now post)) used (length (now room)) × Stands 3 c i used (now post) at end ⌝ }
+) -> EventEnd
+    requires { ⌜ Roomy s (length (now post)) used × Stands s toClientKind c i used (now post) at end ⌝ }
     ensures { λ r. ⌜ (length (now (post .exit)) ≡ length (now (post .entry)))
         × ((honest : ℕ → Bool) → Carried s honest (deliverEvent i c (now (room .entry)) (now (out .entry))) used
         (record { memory = now (memory .entry); post = now (post .entry); room = now (room .entry); out = now (out .entry) })
@@ -318,17 +453,24 @@ pub fn deposit(
     page: &[u8],
     post: &mut [u8],
     used: usize,
-) -> Turn
-    ensures { λ r. ⌜ ((honest : ℕ → Bool) → Happens s honest (depositEvent c (now (page .entry))) c 1 used
+) -> EventEnd
+    ensures { λ r. ⌜ ((honest : ℕ → Bool) → Happens s honest (depositEvent c (now (page .entry))) used
         (record { memory = now (memory .entry); post = now (post .entry); room = []; out = [] })
         (record { memory = now (memory .exit); post = now (post .exit); room = []; out = [] }) r) ⌝ }
 {
-    match ready(s, c, 1, post.len(), used, 0) {
-        Readiness::No(x) => Turn {
+    match clearance(s, c, 1, post, used) {
+        Clear::No(x) => EventEnd {
             used,
             what: Happened::Refused(x),
         },
-        Readiness::Yes => {
+        Clear::Late => {
+            let x = lowest(s, c, 1, memory.len(), true);
+            EventEnd {
+                used,
+                what: Happened::Refused(x),
+            }
+        }
+        Clear::Yes => {
             let a = start_deposit(s, c, memory, page);
             let none: &[u8] = &[0u8];
             starts(s, c, a, &none[..0], post, used)
@@ -344,17 +486,25 @@ pub fn reading(
     room: &mut [u8],
     post: &mut [u8],
     used: usize,
-) -> Turn
-    ensures { λ r. ⌜ ((honest : ℕ → Bool) → Happens s honest (readingEvent c (now (room .entry))) c 1 used
+) -> EventEnd
+    ensures { λ r. ⌜ ((honest : ℕ → Bool) → Happens s honest (readingEvent c (now (room .entry))) used
         (record { memory = now (memory .entry); post = now (post .entry); room = now (room .entry); out = [] })
         (record { memory = now (memory .exit); post = now (post .exit); room = now (room .exit); out = [] }) r) ⌝ }
 {
-    match ready(s, c, 1, post.len(), used, room.len()) {
-        Readiness::No(x) => Turn {
+    match clearance(s, c, 1, post, used) {
+        Clear::No(x) => EventEnd {
             used,
             what: Happened::Refused(x),
         },
-        Readiness::Yes => {
+        Clear::Late => {
+            let enough = sizes::room(s) <= room.len();
+            let x = lowest(s, c, 1, memory.len(), enough);
+            EventEnd {
+                used,
+                what: Happened::Refused(x),
+            }
+        }
+        Clear::Yes => {
             let a = start_reading(s, c, memory, room);
             starts(s, c, a, room, post, used)
         }
@@ -369,29 +519,25 @@ pub fn carry(
     room: &mut [u8],
     post: &mut [u8],
     used: usize,
-) -> Turn
-    ensures { λ r. ⌜ ((honest : ℕ → Bool) → Happens s honest (carryEvent c (now (room .entry))) c 1 used
+) -> EventEnd
+    ensures { λ r. ⌜ ((honest : ℕ → Bool) → Happens s honest (carryEvent c (now (room .entry))) used
         (record { memory = now (memory .entry); post = now (post .entry); room = now (room .entry); out = [] })
         (record { memory = now (memory .exit); post = now (post .exit); room = now (room .exit); out = [] }) r) ⌝ }
 {
-    match ready(s, c, 1, post.len(), used, room.len()) {
-        Readiness::No(x) => Turn {
+    match look_ahead(s, CALL, c, NO_NODE, post, used) {
+        Ahead::Refused(x) => EventEnd {
             used,
             what: Happened::Refused(x),
         },
-        Readiness::Yes => {
-            match find(post, used, 0, c, 0) {
-                Found::Nothing => Turn {
-                    used,
-                    what: Happened::Nothing,
-                },
-                Found::At(at, end) => {
-                    if tagged(post, at, end) {
-                        carry_update(s, c, memory, room, post, used, at, end)
-                    } else {
-                        carry_scan(s, c, memory, room, post, used, at, end)
-                    }
-                }
+        Ahead::Nothing => EventEnd {
+            used,
+            what: Happened::Nothing,
+        },
+        Ahead::Found(at, end) => {
+            if tagged(post, at, end) {
+                carry_update(s, c, memory, room, post, used, at, end)
+            } else {
+                carry_scan(s, c, memory, room, post, used, at, end)
             }
         }
     }
@@ -405,29 +551,25 @@ pub fn hand(
     room: &mut [u8],
     post: &mut [u8],
     used: usize,
-) -> Turn
-    ensures { λ r. ⌜ ((honest : ℕ → Bool) → Happens s honest (handEvent c (now (room .entry))) c 1 used
+) -> EventEnd
+    ensures { λ r. ⌜ ((honest : ℕ → Bool) → Happens s honest (handEvent c (now (room .entry))) used
         (record { memory = now (memory .entry); post = now (post .entry); room = now (room .entry); out = [] })
         (record { memory = now (memory .exit); post = now (post .exit); room = now (room .exit); out = [] }) r) ⌝ }
 {
-    match ready(s, c, 1, post.len(), used, room.len()) {
-        Readiness::No(x) => Turn {
+    match look_ahead(s, RETURN, c, NO_NODE, post, used) {
+        Ahead::Refused(x) => EventEnd {
             used,
             what: Happened::Refused(x),
         },
-        Readiness::Yes => {
-            match find(post, used, 1, c, 0) {
-                Found::Nothing => Turn {
-                    used,
-                    what: Happened::Nothing,
-                },
-                Found::At(at, end) => {
-                    if tagged(post, at, end) {
-                        hand_rows(s, c, memory, room, post, used, at, end)
-                    } else {
-                        hand_updated(s, c, memory, room, post, used, at, end)
-                    }
-                }
+        Ahead::Nothing => EventEnd {
+            used,
+            what: Happened::Nothing,
+        },
+        Ahead::Found(at, end) => {
+            if tagged(post, at, end) {
+                hand_rows(s, c, memory, room, post, used, at, end)
+            } else {
+                hand_updated(s, c, memory, room, post, used, at, end)
             }
         }
     }
@@ -443,29 +585,25 @@ pub fn bring(
     room: &mut [u8],
     post: &mut [u8],
     used: usize,
-) -> Turn
-    ensures { λ r. ⌜ Happens s (honestIn liars) (bringEvent c i (now (room .entry))) c i used
+) -> EventEnd
+    ensures { λ r. ⌜ Happens s (honestIn liars) (bringEvent c i (now (room .entry))) used
         (record { memory = now (memory .entry); post = now (post .entry); room = now (room .entry); out = [] })
         (record { memory = now (memory .exit); post = now (post .exit); room = now (room .exit); out = [] }) r ⌝ }
 {
-    match ready(s, c, i, post.len(), used, room.len()) {
-        Readiness::No(x) => Turn {
+    match look_ahead(s, TO_NODE, c, i, post, used) {
+        Ahead::Refused(x) => EventEnd {
             used,
             what: Happened::Refused(x),
         },
-        Readiness::Yes => {
-            match find(post, used, 2, c, i) {
-                Found::Nothing => Turn {
-                    used,
-                    what: Happened::Nothing,
-                },
-                Found::At(at, end) => {
-                    if has_node(liars, i) {
-                        bring_dishonest(s, c, i, memory, room, post, used, at, end)
-                    } else {
-                        bring_honest(s, c, i, memory, room, post, used, at, end)
-                    }
-                }
+        Ahead::Nothing => EventEnd {
+            used,
+            what: Happened::Nothing,
+        },
+        Ahead::Found(at, end) => {
+            if has_node(liars, i) {
+                bring_dishonest(s, c, i, memory, room, post, used, at, end)
+            } else {
+                bring_honest(s, c, i, memory, room, post, used, at, end)
             }
         }
     }
@@ -481,26 +619,58 @@ pub fn deliver(
     out: &mut [u8],
     post: &mut [u8],
     used: usize,
-) -> Turn
-    ensures { λ r. ⌜ ((honest : ℕ → Bool) → Happens s honest (deliverEvent i c (now (room .entry)) (now (out .entry))) c i used
+) -> EventEnd
+    ensures { λ r. ⌜ ((honest : ℕ → Bool) → Happens s honest (deliverEvent i c (now (room .entry)) (now (out .entry))) used
         (record { memory = now (memory .entry); post = now (post .entry); room = now (room .entry); out = now (out .entry) })
         (record { memory = now (memory .exit); post = now (post .exit); room = now (room .exit); out = now (out .exit) }) r) ⌝ }
 {
-    match ready(s, c, i, post.len(), used, room.len()) {
-        Readiness::No(x) => Turn {
+    match look_ahead(s, TO_CLIENT, c, i, post, used) {
+        Ahead::Refused(x) => EventEnd {
             used,
             what: Happened::Refused(x),
         },
-        Readiness::Yes => {
-            match find(post, used, 3, c, i) {
-                Found::Nothing => Turn {
-                    used,
-                    what: Happened::Nothing,
-                },
-                Found::At(at, end) => {
-                    deliver_message(s, c, i, memory, room, out, post, used, at, end)
-                }
+        Ahead::Nothing => EventEnd {
+            used,
+            what: Happened::Nothing,
+        },
+        Ahead::Found(at, end) => {
+            deliver_message(s, c, i, memory, room, out, post, used, at, end)
+        }
+    }
+}
+
+// Bytes of a dishonest node go to the client at once.
+fn lie_dishonest(
+    s: Measures,
+    i: usize,
+    c: usize,
+    bytes: &[u8],
+    memory: &mut [u8],
+    room: &mut [u8],
+    out: &mut [u8],
+    post: &mut [u8],
+    used: usize,
+) -> EventEnd
+    ensures { λ r. ⌜ ((honest : ℕ → Bool) → honest i ≡ false → Happens s honest (lieEvent i c (now (bytes .entry)) (now (room .entry)) (now (out .entry))) used
+        (record { memory = now (memory .entry); post = now (post .entry); room = now (room .entry); out = now (out .entry) })
+        (record { memory = now (memory .exit); post = now (post .exit); room = now (room .exit); out = now (out .exit) }) r) ⌝ }
+{
+    match clearance(s, c, i, post, used) {
+        Clear::No(x) => EventEnd {
+            used,
+            what: Happened::Refused(x),
+        },
+        Clear::Late => {
+            let enough = message_slices(s, room.len(), out.len());
+            let x = lowest(s, c, i, memory.len(), enough);
+            EventEnd {
+                used,
+                what: Happened::Refused(x),
             }
+        }
+        Clear::Yes => {
+            let a = to_client(s, c, i, memory, bytes, room, out);
+            starts(s, c, a, room, post, used)
         }
     }
 }
@@ -517,26 +687,22 @@ pub fn lie(
     out: &mut [u8],
     post: &mut [u8],
     used: usize,
-) -> Turn
-    ensures { λ r. ⌜ Happens s (honestIn liars) (lieEvent i c (now (bytes .entry)) (now (room .entry)) (now (out .entry))) c i used
+) -> EventEnd
+    ensures { λ r. ⌜ Happens s (honestIn liars) (lieEvent i c (now (bytes .entry)) (now (room .entry)) (now (out .entry))) used
         (record { memory = now (memory .entry); post = now (post .entry); room = now (room .entry); out = now (out .entry) })
         (record { memory = now (memory .exit); post = now (post .exit); room = now (room .exit); out = now (out .exit) }) r ⌝ }
 {
-    match ready(s, c, i, post.len(), used, room.len()) {
-        Readiness::No(x) => Turn {
+    if has_node(liars, i) {
+        return lie_dishonest(s, i, c, bytes, memory, room, out, post, used);
+    }
+    match look_ahead(s, TO_CLIENT, c, i, post, used) {
+        Ahead::Refused(x) => EventEnd {
             used,
             what: Happened::Refused(x),
         },
-        Readiness::Yes => {
-            if has_node(liars, i) {
-                let a = to_client(s, c, i, memory, bytes, room, out);
-                starts(s, c, a, room, post, used)
-            } else {
-                Turn {
-                    used,
-                    what: Happened::Nothing,
-                }
-            }
-        }
+        _ => EventEnd {
+            used,
+            what: Happened::Nothing,
+        },
     }
 }

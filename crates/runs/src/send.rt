@@ -1,5 +1,10 @@
 // What a client's answer sends is put under way.
 use crate::least::least;
+use crate::parcels::CALL;
+use crate::parcels::FILLED;
+use crate::parcels::NO_NODE;
+use crate::parcels::PLAIN;
+use crate::parcels::TO_NODE;
 use crate::parcels::append;
 use parties::ClientAnswer;
 use parties::Measures;
@@ -12,18 +17,25 @@ ghost use Rattle.parties.specs.protocol.Measures.{passes};
 ghost use Rattle.parties.specs.protocol.ClientEvents.{messageTo};
 ghost use Rattle.parties.specs.client.Answer.{answered};
 ghost use Rattle.runs.specs.Parcels.{Appended};
-ghost use Rattle.runs.specs.Sent.{callBy, messageIn, messagesBy, sent};
+ghost use Rattle.runs.specs.Sent.{callBy, messageIn, messagesBy, sent, longestCall, longestMessage, needed, Sized};
 
 // A directory call, if the answer is one.
-fn send_call(c: usize, a: ClientAnswer, room: &[u8], post: &mut [u8], used: usize) -> usize
-    requires { ⌜ (used + (8 + length (now room)) ≤ length (now post)) × (length (now post) ≤ 4294967295) ⌝ }
+fn send_call(
+    s: Measures,
+    c: usize,
+    a: ClientAnswer,
+    room: &[u8],
+    post: &mut [u8],
+    used: usize,
+) -> usize
+    requires { ⌜ (passes s ≡ true) × Sized s (answered a) × (used + longestCall s ≤ length (now post)) ⌝ }
     ensures { λ r. ⌜ Appended (callBy c (answered a) (now (room .entry))) (now (post .entry)) used (now (post .exit)) r ⌝ }
 {
     match a {
-        ClientAnswer::Scan => append(post, used, 0, c, 0, &[0u8], &room[..0]),
+        ClientAnswer::Scan => append(post, used, CALL, c, NO_NODE, &[PLAIN], &room[..0]),
         ClientAnswer::Update(len) => {
             let to = least(len, room.len());
-            append(post, used, 0, c, 0, &[1u8], &room[..to])
+            append(post, used, CALL, c, NO_NODE, &[FILLED], &room[..to])
         }
         _ => used,
     }
@@ -39,7 +51,7 @@ fn send_message(
     post: &mut [u8],
     used: usize,
 ) -> usize
-    requires { ⌜ (passes s ≡ true) × (1 ≤ i) × (i ≤ s .n) × (used + (13 + length (now room)) ≤ length (now post)) × (length (now post) ≤ 4294967295) ⌝ }
+    requires { ⌜ (passes s ≡ true) × (1 ≤ i) × (i ≤ s .n) × Sized s (answered a) × (used + longestMessage s ≤ length (now post)) ⌝ }
     ensures { λ r. ⌜ Appended (messageIn c i (messageTo s (answered a) (now (room .entry)) i)) (now (post .entry)) used (now (post .exit)) r ⌝ }
 {
     let front = least(6, room.len());
@@ -47,18 +59,18 @@ fn send_message(
         ClientAnswer::Stores(_, len) => {
             let from = least(6 + (i - 1) * s.f, room.len());
             let to = from + least(len, room.len() - from);
-            append(post, used, 2, c, i, &room[..front], &room[from..to])
+            append(post, used, TO_NODE, c, i, &room[..front], &room[from..to])
         }
         ClientAnswer::Requests(_, nodes) => {
             if has_node(nodes, i) {
-                append(post, used, 2, c, i, &room[..front], &room[..0])
+                append(post, used, TO_NODE, c, i, &room[..front], &room[..0])
             } else {
                 used
             }
         }
         ClientAnswer::Deposited(_, len) => {
             let to = least(len, room.len());
-            append(post, used, 2, c, i, &room[..to], &room[..0])
+            append(post, used, TO_NODE, c, i, &room[..to], &room[..0])
         }
         _ => used,
     }
@@ -73,7 +85,7 @@ fn send_messages(
     post: &mut [u8],
     used: usize,
 ) -> usize
-    requires { ⌜ (passes s ≡ true) × (used + s .n * (13 + length (now room)) ≤ length (now post)) × (length (now post) ≤ 4294967295) ⌝ }
+    requires { ⌜ (passes s ≡ true) × Sized s (answered a) × (used + s .n * longestMessage s ≤ length (now post)) ⌝ }
     ensures { λ r. ⌜ Appended (messagesBy s c (answered a) (now (room .entry)) (s .n)) (now (post .entry)) used (now (post .exit)) r ⌝ }
 {
     let nodes = s.n;
@@ -95,9 +107,9 @@ pub fn send(
     post: &mut [u8],
     used: usize,
 ) -> usize
-    requires { ⌜ (passes s ≡ true) × (used + (s .n + 1) * (16 + length (now room)) ≤ length (now post)) × (length (now post) ≤ 4294967295) ⌝ }
+    requires { ⌜ (passes s ≡ true) × Sized s (answered a) × (used + needed s ≤ length (now post)) ⌝ }
     ensures { λ r. ⌜ Appended (sent s c (answered a) (now (room .entry))) (now (post .entry)) used (now (post .exit)) r ⌝ }
 {
-    let at = send_call(c, a, room, post, used);
+    let at = send_call(s, c, a, room, post, used);
     send_messages(s, c, a, room, post, at)
 }

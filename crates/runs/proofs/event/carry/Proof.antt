@@ -1,29 +1,20 @@
 use borrow.Author.Needs.{needs}
 use mathlib.Core.Path.{refl, sym, _∙_}
-use mathlib.Core.List.{List}
-use Prim.Native.Nat.{_+_, _≤_}
 use native.Mathlib.Omega.{arith}
-use lib.ListN.{length}
 use Rattle.parties.specs.protocol.Run.{carry}
-use Rattle.runs.specs.Parcels.{Parcel, Listed, FindsAt}
-use Rattle.runs.specs.Happens.{Capable, Happens}
-use Rattle.runs.specs.Acts.{None, Acts}
+use Rattle.runs.specs.Acts.{Acts}
+use Rattle.runs.specs.Event.{Seen}
+use Rattle.runs.specs.Happens.{Happens}
 use Rattle.runs.proofs.GoesLaws.{carry-none}
-use Rattle.runs.proofs.EventLaws.{ready-yes, ready-no, found-none, found-at, found-within}
+use Rattle.runs.proofs.EventLaws.{ahead-refused, ahead-none, ahead-at, stopped-unready, vacant-ready, seen-ready, call-bounds}
 use Rattle.runs.proofs.event.carry.Statement.{statement}
 use Rattle.runs.proofs.event.carry.Tie as tie
 
-able : (c : tie.After-enum-told) → let a = c .before .before .before .before .before .before .args in Capable (a .s) (a .c) 1 (length (a .post .now)) (a .used) (length (a .room .now))
-able c = let a = c .before .before .before .before .before .before .args in ready-yes (a .s) (a .c) 1 (length (a .post .now)) (a .used) (length (a .room .now)) (c .before .before .ready .result) (c .before .before .ready .ensures) (c .enum-told .given .1)
+seen : (c : tie.After-at) → let a = c .before .before .before .before .before .before .before .args in Seen (a .s) 0 (a .c) 0 (a .post .now) (a .used) (c .at .given .0 .0) (c .at .given .0 .1 .0)
+seen c = let a = c .before .before .before .before .before .before .before .args in ahead-at (a .s) 0 (a .c) 0 (a .post .now) (a .used) (c .before .before .look-ahead .result) (c .before .before .look-ahead .ensures) (c .at .given .0 .0) (c .at .given .0 .1 .0) (c .at .given .1)
 
-within : (c : tie.After-at) → let e = c .at .given .0 in (e .0 + 7 ≤ e .1 .0) × (e .1 .0 ≤ c .before .before .before .before .before .before .before .before .before .before .args .used) × (c .before .before .before .before .before .before .before .before .before .before .args .used ≤ length (c .before .before .before .before .before .before .before .before .before .before .args .post .now))
-within c = found-within (c .before .before .before .before .before .before .before .before .before .before .args .used) (c .before .before .before .before .before .before .before .before .before .before .args .post .now) (c .before .before .find .result) (c .at .given .0 .0) (c .at .given .0 .1 .0) (c .before .before .find .ensures .0) (c .at .given .1)
-
-oldest : (c : tie.After-at) → (q : List Parcel) → Listed q (c .before .before .before .before .before .before .before .before .before .before .args .used) (c .before .before .before .before .before .before .before .before .before .before .args .post .now) → FindsAt 0 (c .before .before .before .before .before .before .before .before .before .before .args .c) 0 q (c .at .given .0 .0) (c .at .given .0 .1 .0)
-oldest c q l = found-at 0 (c .before .before .before .before .before .before .before .before .before .before .args .c) 0 q (c .before .before .find .result) (c .at .given .0 .0) (c .at .given .0 .1 .0) (c .before .before .find .ensures .1 q l) (c .at .given .1)
-
-ready-requires : tie.Need-ready-requires
-ready-requires c κs = search needs
+look-ahead-requires : tie.Need-look-ahead-requires
+look-ahead-requires c κs = search needs
 
 enum-known-x : tie.Need-enum-known-x
 enum-known-x c = search needs
@@ -31,40 +22,33 @@ enum-known-x c = search needs
 enum-told : tie.Need-enum-told
 enum-told c = search needs
 
-find-requires : tie.Need-find-requires
-find-requires c κs = search needs
-
-enum-told-2 : tie.Need-enum-told-2
-enum-told-2 c = search needs
-
 enum-known-at : tie.Need-enum-known-at
 enum-known-at c = search needs
 
 tagged-requires : tie.Need-tagged-requires
-tagged-requires c κs = let w = within (c .before .before) in (w .0, omega (arith, w .1, w .2))
+tagged-requires c κs = let w = seen (c .before .before) in (w .stands .first, omega (arith, w .stands .last, w .roomy .enough))
 
 carry-update-requires : tie.Need-carry-update-requires
-carry-update-requires c κs = let w = within (c .before .before .before .before .before .before .before) in (able (c .before .before .before .before .before .before .before .before .before .before .before), record { first = w .0; last = w .1; oldest = oldest (c .before .before .before .before .before .before .before) }, sym (c .before .before .before .before .tagged .ensures) ∙ c .before .before .before .if1 .taken)
+carry-update-requires c κs = let w = seen (c .before .before .before .before .before .before .before) in (w .roomy, w .stands, sym (c .before .before .before .before .tagged .ensures) ∙ c .before .before .before .if1 .taken)
 
 carry-scan-requires : tie.Need-carry-scan-requires
-carry-scan-requires c κs = let w = within (c .before .before .before .before .before .before .before) in (able (c .before .before .before .before .before .before .before .before .before .before .before), record { first = w .0; last = w .1; oldest = oldest (c .before .before .before .before .before .before .before) }, sym (c .before .before .before .before .tagged .ensures) ∙ c .before .before .before .if1 .left)
-
-returns : tie.Need-returns
-returns c = λ honest. ready-no (c .before .before .before .ready .ensures) (c .before .x .given .0 .0) (c .before .x .given .1)
+carry-scan-requires c κs = let w = seen (c .before .before .before .before .before .before .before) in (w .roomy, w .stands, sym (c .before .before .before .before .tagged .ensures) ∙ c .before .before .before .if1 .left)
 
 same-length : tie.Need-same-length
 same-length c = search needs
 
-returns-2 : tie.Need-returns-2
-returns-2 c =
-    λ honest. let a = c .before .before .before .before .before .before .before .before .before .before .args in
-    let f = c .before .before .find in
-    let none : None 0 (a .c) 0 (a .used) (a .post .now) = λ q l. found-none 0 (a .c) 0 q (f .result) (f .ensures .1 q l) (c .enum-told2 .given .1) in
-    Happens.happens _ (able (c .before .before .before .before)) refl (Acts.rests (carry (a .c) (a .room .now)) none refl)
-    (λ es h. carry-none (a .s) (able (c .before .before .before .before) .measures) honest es (a .memory .now) (a .post .now) (a .used) h (a .c) (a .room .now) (none (h .parcels) (h .listed)))
+returns : tie.Need-returns
+returns c = λ honest. let a = c .before .before .before .before .before .before .before .before .args in Happens.unready (c .before .x .given .0 .0) (stopped-unready (a .s) honest _ (a .used) _ 0 (a .c) 0 refl (call-bounds (a .s) (a .c)) _ (ahead-refused (a .s) 0 (a .c) 0 (a .post .now) (a .used) (c .before .before .before .look-ahead .result) (c .before .before .before .look-ahead .ensures) (c .before .x .given .0 .0) (c .before .x .given .1))) refl
 
 same-length-2 : tie.Need-same-length-2
 same-length-2 c = search needs
+
+returns-2 : tie.Need-returns-2
+returns-2 c =
+    λ honest. let a = c .before .before .before .before .before .before .before .args in
+    let v = ahead-none (a .s) 0 (a .c) 0 (a .post .now) (a .used) (c .before .before .look-ahead .result) (c .before .before .look-ahead .ensures) (c .enum-told .given .1) in
+    Happens.happens _ (vacant-ready (a .s) (carry (a .c) (a .room .now)) (a .used) _ 0 (a .c) 0 v (call-bounds (a .s) (a .c))) refl (Acts.rests (carry (a .c) (a .room .now)) (v .none) refl)
+    (λ es h. carry-none (a .s) (v .roomy .measures) honest es (a .memory .now) (a .post .now) (a .used) h (a .c) (a .room .now) (v .none .none (h .parcels) (h .listed)))
 
 same-length-3 : tie.Need-same-length-3
 same-length-3 c = search needs
@@ -72,13 +56,11 @@ same-length-3 c = search needs
 same-length-4 : tie.Need-same-length-4
 same-length-4 c = search needs
 
-returns-3 : tie.Need-returns-3
-returns-3 c =
-    λ honest. let t = c .before .before .before .before .before .before .carry-update in
-    Happens.happens (t .result) (able (c .before .before .before .before .before .before .before .before .before .before .before .before .before .before .before .before .before .before)) (t .ensures .0) (t .ensures .1 honest .0) (t .ensures .1 honest .1)
-
 same-length-5 : tie.Need-same-length-5
 same-length-5 c = search needs
+
+returns-3 : tie.Need-returns-3
+returns-3 c = λ honest. let a = c .before .before .before .before .before .before .before .before .before .before .before .before .before .before .before .before .before .before .before .before .before .args in let t = c .before .before .before .before .before .before .carry-update in Happens.happens (t .result) (seen-ready (a .s) (carry (a .c) (a .room .now)) (a .used) _ 0 (a .c) 0 _ _ (seen (c .before .before .before .before .before .before .before .before .before .before .before .before .before .before)) (call-bounds (a .s) (a .c))) (t .ensures .0) (t .ensures .1 honest .0) (t .ensures .1 honest .1)
 
 same-length-6 : tie.Need-same-length-6
 same-length-6 c = search needs
@@ -86,32 +68,32 @@ same-length-6 c = search needs
 same-length-7 : tie.Need-same-length-7
 same-length-7 c = search needs
 
+same-length-8 : tie.Need-same-length-8
+same-length-8 c = search needs
+
 returns-4 : tie.Need-returns-4
-returns-4 c =
-    λ honest. let t = c .before .before .before .before .before .before .carry-scan in
-    Happens.happens (t .result) (able (c .before .before .before .before .before .before .before .before .before .before .before .before .before .before .before .before .before .before)) (t .ensures .0) (t .ensures .1 honest .0) (t .ensures .1 honest .1)
+returns-4 c = λ honest. let a = c .before .before .before .before .before .before .before .before .before .before .before .before .before .before .before .before .before .before .before .before .before .args in let t = c .before .before .before .before .before .before .carry-scan in Happens.happens (t .result) (seen-ready (a .s) (carry (a .c) (a .room .now)) (a .used) _ 0 (a .c) 0 _ _ (seen (c .before .before .before .before .before .before .before .before .before .before .before .before .before .before)) (call-bounds (a .s) (a .c))) (t .ensures .0) (t .ensures .1 honest .0) (t .ensures .1 honest .1)
 
 pub carry-spec : {M : Type 1} → statement M
 carry-spec =
     tie.close
     (tie.spec
-    ready-requires
+    look-ahead-requires
     enum-known-x
     enum-told
-    find-requires
-    enum-told-2
     enum-known-at
     tagged-requires
     carry-update-requires
     carry-scan-requires
-    returns
     same-length
-    returns-2
+    returns
     same-length-2
+    returns-2
     same-length-3
     same-length-4
-    returns-3
     same-length-5
+    returns-3
     same-length-6
     same-length-7
+    same-length-8
     returns-4)

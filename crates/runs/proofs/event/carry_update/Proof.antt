@@ -1,8 +1,9 @@
 use borrow.Author.Needs.{needs}
 use mathlib.Core.Path.{refl}
+use native.Mathlib.Omega.{arith}
 use Rattle.runs.specs.Acts.{Acts}
 use Rattle.runs.proofs.GoesLaws.{carry-update-goes}
-use Rattle.runs.proofs.EventLaws.{tagged-long}
+use Rattle.runs.proofs.EventLaws.{tagged-long, update-length}
 use Rattle.runs.proofs.event.carry_update.Statement.{statement}
 use Rattle.runs.proofs.event.carry_update.Tie as tie
 
@@ -31,7 +32,7 @@ slice-aggregate-serves-2 : tie.Need-slice-aggregate-serves-2
 slice-aggregate-serves-2 c = search needs
 
 serves-requires : tie.Need-serves-requires
-serves-requires c κs = search needs
+serves-requires c κs = let p = c .before .before .before .before .before .before .before .before .before .before .before .before .pre in (p .0, omega arith, omega arith, p .1 .first, p .1 .last)
 
 same-length : tie.Need-same-length
 same-length c = search needs
@@ -49,7 +50,7 @@ returns c =
     let d = c .before .before .before .before .before .before .before .before .update in
     let t = c .before .before .serves in (
       t .ensures .0,
-      λ honest. (Acts.updates (a .c) (a .at) (a .end) (d .result) (t .result) (p .1) (p .2) (d .ensures .0) (d .ensures .1) refl refl (t .ensures .1), λ es h. carry-update-goes (a .s) (p .0 .measures) honest es (a .memory .now) (a .post .now) (a .used) h (a .c) (a .room .now) (a .at) (a .end) (d .result) (d .last .1 .1 .0) (t .last .1 .1 .1 .1 .1 .1 .0) (t .result) (p .0) (p .1 .oldest (h .parcels) (h .listed)) (p .2) (d .ensures .0) (d .ensures .1) (t .ensures .1)),
+      λ honest. (Acts.updates (a .c) (a .at) (a .end) (d .result) (t .result) (p .1) (p .2) (d .ensures .0) (d .ensures .1) refl refl (t .ensures .1), λ es h. carry-update-goes (a .s) (p .0 .measures) honest es (a .memory .now) (a .post .now) (a .used) h (a .c) (a .room .now) (a .at) (a .end) (d .result) (d .last .1 .1 .0) (t .last .1 .1 .1 .1 .1 .1 .1 .0) (t .result) (p .1 .oldest (h .parcels) (h .listed)) (omega (arith, update-length (a .s) (d .result) (a .c) _ _ (d .ensures .0))) (p .2) (d .ensures .0) (d .ensures .1) (t .ensures .1)),
     )
 
 pub carry-update-spec : {M : Type 1} → statement M

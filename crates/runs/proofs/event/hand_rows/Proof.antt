@@ -1,9 +1,8 @@
 use borrow.Author.Needs.{needs}
-use lib.ListN.{length}
 use mathlib.Core.Path.{refl}
 use Rattle.runs.specs.Acts.{Acts}
 use Rattle.runs.proofs.GoesLaws.{hand-rows-goes}
-use Rattle.runs.proofs.EventLaws.{capable-first, tagged-long}
+use Rattle.runs.proofs.EventLaws.{scanned-sized, tagged-long}
 use Rattle.runs.proofs.event.hand_rows.Statement.{statement}
 use Rattle.runs.proofs.event.hand_rows.Tie as tie
 
@@ -23,7 +22,7 @@ scanned-requires : tie.Need-scanned-requires
 scanned-requires c κs = search needs
 
 takes-requires : tie.Need-takes-requires
-takes-requires c κs = let a = c .before .before .before .before .before .before .before .before .before .before .before .before .before .before .args in let p = c .before .before .before .before .before .before .before .before .before .before .before .before .before .before .pre in (capable-first (a .s) (a .c) 1 (length (a .post .now)) (a .used) (length (a .room .now)) _ (p .0) (c .before .before .before .before .before .before .scanned .kept .1 .1 .1 .1 .0), p .1 .first, p .1 .last)
+takes-requires c κs = let a = c .before .before .before .before .before .before .before .before .before .before .before .before .before .before .args in let p = c .before .before .before .before .before .before .before .before .before .before .before .before .before .before .pre in (p .0, scanned-sized (a .s) (a .memory .now) (λ i. c .before .before .before .before .before .before .before .before .before .before .before .before .before .slice-known .given i .fits) (a .c) (c .before .before .before .before .before .before .scanned .result) _ _ (c .before .before .before .before .before .before .scanned .ensures .0), p .1 .first, p .1 .last)
 
 same-length : tie.Need-same-length
 same-length c = search needs
@@ -41,7 +40,7 @@ returns c =
     let d = c .before .before .before .before .before .before .before .before .before .scanned in
     let t = c .before .before .takes in (
       t .ensures .0,
-      λ honest. (Acts.shows (a .c) (a .at) (a .end) (d .result) (t .result) (p .1) (p .2) (record { answer = d .ensures .0; memory = d .ensures .1; room = d .ensures .2 }) refl (t .ensures .1), λ es h. hand-rows-goes (a .s) (p .0 .measures) honest es (a .memory .now) (a .post .now) (a .used) h (a .c) (a .room .now) (d .last .1 .1 .1 .1 .0) (a .at) (a .end) (d .result) (d .last .1 .1 .0) (t .last .1 .1 .1 .1 .0) (t .result) (p .0) (p .1 .oldest (h .parcels) (h .listed)) (p .2) (d .ensures .0) (d .ensures .1) (d .ensures .2) (d .kept .1 .1 .1 .1 .0) (t .ensures .1)),
+      λ honest. (Acts.shows (a .c) (a .at) (a .end) (d .result) (t .result) (p .1) (p .2) (record { answer = d .ensures .0; memory = d .ensures .1; room = d .ensures .2 }) refl (t .ensures .1), λ es h. hand-rows-goes (a .s) (p .0 .measures) honest es (a .memory .now) (a .post .now) (a .used) h (a .c) (a .room .now) (d .last .1 .1 .1 .1 .0) (a .at) (a .end) (d .result) (d .last .1 .1 .0) (t .last .1 .1 .1 .1 .0) (t .result) (scanned-sized (a .s) (a .memory .now) (λ i. c .before .before .before .before .before .before .before .before .before .before .before .before .before .before .before .before .slice-known .given i .fits) (a .c) (d .result) _ _ (d .ensures .0)) (p .1 .oldest (h .parcels) (h .listed)) (p .2) (d .ensures .0) (d .ensures .1) (d .ensures .2) (t .ensures .1)),
     )
 
 pub hand-rows-spec : {M : Type 1} → statement M

@@ -22,7 +22,7 @@ slice-aggregate-append : tie.Need-slice-aggregate-append
 slice-aggregate-append c = let a = c .before .before .before .before .before .before .before .before .before .before .before .before .before .args in sym (length-take-le (c .before .before .least .result) (a .room .now) (c .before .before .least .ensures .2))
 
 append-requires : tie.Need-append-requires
-append-requires c κs = let a = c .before .before .before .before .before .before .before .before .before .before .before .before .before .args in let n = c .before .before .least in let l = length-take-le (n .result) (a .room .now) (n .ensures .2) in appendable (a .front .now) (take (n .result) (a .room .now)) (a .room .now) (n .result) (a .post .now) (a .used) (a .at) (a .end) _ _ (c .before .before .before .before .before .before .before .before .before .before .before .before .before .pre) l (n .ensures .2) (c .before .before .before .before .before .remove .ensures)
+append-requires c κs = let a = c .before .before .before .before .before .before .before .before .before .before .before .before .before .args in let n = c .before .before .least in let l = length-take-le (n .result) (a .room .now) (n .ensures .2) in appendable (a .s) (a .a) _ (a .front .now) (take (n .result) (a .room .now)) (a .room .now) (n .result) (a .post .now) (a .used) (a .at) (a .end) _ _ (c .before .before .before .before .before .before .before .before .before .before .before .before .before .pre) (c .before .before .before .before .before .before .before .before .a .given .1) l (n .ensures .0) (c .before .before .before .before .before .remove .ensures)
 
 returns : tie.Need-returns
 returns c = let a = c .before .before .before .before .before .args in (refl, serves-refused (a .kind) (a .c) (a .i) (a .front .now) (a .room .now) (a .post .now) (a .used) (a .at) (a .end) (a .a) (c .enum-told .given .0 .0) (c .enum-told .given .1))

@@ -4,7 +4,8 @@ use lib.ListN.{length-take}
 use lib.Seq.{length-take-le}
 use borrow.Author.Needs.{needs}
 use Rattle.runs.proofs.PostLaws.{appended-none}
-use Rattle.runs.proofs.SendLaws.{as-sent, scan-sent, update-sent, no-call}
+use Rattle.runs.proofs.SentLaws.{row-within, rows-small}
+use Rattle.runs.proofs.SendLaws.{as-sent, scan-sent, update-sent, no-call, sized-update}
 use Rattle.runs.proofs.send.send_call.Statement.{statement}
 use Rattle.runs.proofs.send.send_call.Tie as tie
 
@@ -33,7 +34,13 @@ slice-aggregate-append-4 : tie.Need-slice-aggregate-append-4
 slice-aggregate-append-4 c = sym (length-take-le _ _ (c .before .before .before .least .ensures .2))
 
 append-requires-2 : tie.Need-append-requires-2
-append-requires-2 c κs = (simp length-take (omega arith), omega arith)
+append-requires-2 c κs =
+    let b = c .before .before .before .before .before .before .before .before .before in
+    let n = c .before .before .before .least in
+    let few = sized-update (b .args .s) (b .args .a) _ (b .pre .1) (c .before .before .before .before .before .a .given .1) in
+    let e = length-take (n .result) (b .args .room .now) in
+    let r = row-within (b .args .s) (b .pre .0) in
+    (omega (arith, few, n .ensures .1, e, r, b .pre .2), omega (arith, few, n .ensures .1, e, r, rows-small (b .args .s) (b .pre .0)))
 
 same-length : tie.Need-same-length
 same-length c = search needs

@@ -5,7 +5,8 @@ use lib.Seq.{length-take-le}
 use borrow.Author.Needs.{needs}
 use Rattle.parties.proofs.records.NodesLaws.{has-is}
 use Rattle.runs.proofs.PostLaws.{appended-none}
-use Rattle.runs.proofs.SendLaws.{as-sent, stores-sent, request-sent, no-request, free-sent, no-message, parts-fit, area-small}
+use Rattle.runs.proofs.SentLaws.{room-small}
+use Rattle.runs.proofs.SendLaws.{as-sent, stores-sent, request-sent, no-request, free-sent, no-message, parts-fit, area-small, sized-stores, sized-deposited}
 use Rattle.runs.proofs.send.send_message.Statement.{statement}
 use Rattle.runs.proofs.send.send_message.Tie as tie
 
@@ -49,7 +50,13 @@ part-append-end : tie.Need-part-append-end
 part-append-end c = search needs
 
 append-requires : tie.Need-append-requires
-append-requires c κs = let s = c .before .before .before .before .before .before .before .before .before .before .before .before in (parts-fit (s .args .room .now) _ _ (c .before .before .before .before .least2 .result) (c .before .before .before .least3 .result) _ (c .before .before .before .before .before .before .before .before .before .least .ensures .1) (s .pre .3), s .pre .4)
+append-requires c κs =
+    let b = c .before .before .before .before .before .before .before .before .before .before .before .before in
+    let few = sized-stores (b .args .s) (b .args .a) _ _ (b .pre .3) (c .before .before .before .before .before .before .before .a .given .1) in
+    let f =
+    parts-fit (b .args .s) (b .args .room .now) (c .before .before .before .before .before .before .before .before .before .least .result) (c .before .before .before .before .least2 .result) (c .before .before .before .least3 .result) _ (b .pre .0) (c .before .before .before .before .before .before .before .before .before .least .ensures .1) (c .before .before .before .least3 .ensures .1) few
+    in
+    (omega (arith, f, b .pre .4), omega (arith, f, room-small (b .args .s) (b .pre .0)))
 
 enum-known-a-2 : tie.Need-enum-known-a-2
 enum-known-a-2 c = search needs
@@ -64,7 +71,11 @@ slice-aggregate-append-3 : tie.Need-slice-aggregate-append-3
 slice-aggregate-append-3 c = search needs
 
 append-requires-2 : tie.Need-append-requires-2
-append-requires-2 c κs = (simp length-take (omega arith), omega arith)
+append-requires-2 c κs =
+    let b = c .before .before .before .before .before .before .before .before .before .before .before in
+    let n = c .before .before .before .before .before .before .before .before .least in
+    let e = length-take (n .result) (b .args .room .now) in
+    (omega (arith, e, n .ensures .1, b .pre .4), omega (arith, e, n .ensures .1))
 
 enum-known-a-3 : tie.Need-enum-known-a-3
 enum-known-a-3 c = search needs
@@ -79,7 +90,12 @@ slice-aggregate-append-5 : tie.Need-slice-aggregate-append-5
 slice-aggregate-append-5 c = search needs
 
 append-requires-3 : tie.Need-append-requires-3
-append-requires-3 c κs = (simp length-take (omega arith), omega arith)
+append-requires-3 c κs =
+    let b = c .before .before .before .before .before .before .before .before .before .before in
+    let n = c .before .before .before .least4 in
+    let few = sized-deposited (b .args .s) (b .args .a) _ _ (b .pre .3) (c .before .before .before .before .before .a3 .given .1) in
+    let e = length-take (n .result) (b .args .room .now) in
+    (omega (arith, few, e, n .ensures .1, b .pre .4), omega (arith, few, e, n .ensures .1, room-small (b .args .s) (b .pre .0)))
 
 same-length : tie.Need-same-length
 same-length c = search needs

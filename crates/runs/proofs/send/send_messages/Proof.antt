@@ -25,7 +25,7 @@ send-message-requires c κs =
     let s = c .before .before .before .before .before in
     let a = s .args in
     let l = c .before .before .loop in
-    (s .pre .0, omega arith, omega arith, messages-room (a .s) (a .c) _ (a .room .now) _ _ _ _ _ (l .inv .1) (omega arith) (s .pre .1), omega (arith, l .inv .1 .long))
+    (s .pre .0, omega arith, omega arith, s .pre .1, messages-room (a .s) (a .c) _ (a .room .now) _ _ _ _ _ (l .inv .1) (s .pre .0) (s .pre .1) (omega arith) (s .pre .2))
 
 loop-less : tie.Need-loop-less Inv-loop μ-loop
 loop-less c = omega arith
