@@ -18,7 +18,7 @@ fn refused(r: Refusal) -> u64
         Refusal::Short => 4294967298,
         Refusal::Number => 4294967299,
         Refusal::Form => 4294967300,
-        Refusal::Turn => 4294967301,
+        Refusal::OutOfTurn => 4294967301,
         Refusal::TooLong => 4294967302,
         Refusal::Spent => 4294967303,
         Refusal::Full => 4294967304,

@@ -49,7 +49,7 @@ pub enum Refusal {
     // 4: a record, table, message or joined frame breaks its form
     Form,
     // 5: a start while an operation is open, or a directory answer not awaited
-    Turn,
+    OutOfTurn,
     // 6: page too long
     TooLong,
     // 7: the last number is in use

@@ -36,7 +36,7 @@ use Rattle.parties.specs.records.Places.{versionAt, numberAt}
 use Rattle.parties.specs.client.Found.{retainedIn, pointerIn}
 use Rattle.parties.specs.client.Publish.{digestsIn, pointerFrom, updateOf, storedEnd}
 use Rattle.parties.proofs.client.FormLaws.{sizes}
-use Rattle.parties.proofs.client.AreaLaws.{Shown, written-parts, turnedTo, turned-written, area-length, retained-part, work-onward, beyond}
+use Rattle.parties.proofs.client.AreaLaws.{ShownClient, written-parts, turnedTo, turned-written, area-length, retained-part, work-onward, beyond}
 use Rattle.parties.proofs.client.FoundLaws.{kept-reads, kept-is, pointer-reads, pointer-is}
 use Rattle.parties.proofs.client.GateLaws.{work-within, Opened, found, found-shows, found-reads}
 use Rattle.parties.proofs.records.PlaceLaws.{number-told, number-there, version-there}
@@ -77,7 +77,7 @@ module _ (s : Measures) (p : Phase) (area : List ℕ) (opened : Opened s p area)
   h : passes s ≡ true
   h = opened .measures
 
-  shows : Shown s p area c rest
+  shows : ShownClient s p area c rest
   shows = found-shows s p area opened
 
   abbrev went : List ℕ → List ℕ → Step → ClientEnd
@@ -276,7 +276,7 @@ module _ (s : Measures) (p : Phase) (area : List ℕ) (opened : Opened s p area)
           abbrev turned : Phase
           turned = record { step = 3; reading = p .reading }
 
-          published-shows : Shown s turned x published rest
+          published-shows : ShownClient s turned x published rest
           published-shows =
               let r = writeRetained s (retained c) in
               let u = writeArea (workSize s) (writeWork s) (Work.updating q) in

@@ -37,7 +37,7 @@ number-same w m n a b e =
 -- ---- the record in its parts
 
 -- the phase and the area hold a client's record; what stands beyond it is `rest`
-pub record Shown (s : Measures) (p : Phase) (area : List ℕ) (c : Client) (rest : List ℕ) : Type 0 where
+pub record ShownClient (s : Measures) (p : Phase) (area : List ℕ) (c : Client) (rest : List ℕ) : Type 0 where
   pub good : GoodClient s c
   pub stands : p .step ≡ stepOf (c .phase)
   pub reading : p .reading ≡ c .readingIndex
@@ -63,7 +63,7 @@ written-parts s c rest =
     ∙ ap (λ (l : List ℕ). stepOf (c .phase) ∷ l) (append-assoc a (b ++ d) rest ∙ ap (λ (l : List ℕ). a ++ l) (append-assoc b d rest))
 
 pub shown : (s : Measures) (p : Phase) (area : List ℕ) → p .step < 256 → p .reading .0 < 256 ^ 4 → Bytes area
-    → (r : Read Client) → readClient s (recordOf p area) ≡ some r → Shown s p area (r .value) (r .rest)
+    → (r : Read Client) → readClient s (recordOf p area) ≡ some r → ShownClient s p area (r .value) (r .rest)
 shown s p area hs hr b r e =
     let n = writeNumber 4 (p .reading .0) in
     let x = client-only s (recordOf p area) r (bytes-cons (p .step) (n ++ area) hs (bytes-append n area (bytes-number 4 (p .reading .0)) b)) e in
@@ -85,7 +85,7 @@ shown s p area hs hr b r e =
     }
 
 -- where the fields stand
-module _ (s : Measures) (h : passes s ≡ true) (p : Phase) (area : List ℕ) (c : Client) (rest : List ℕ) (x : Shown s p area c rest) where
+module _ (s : Measures) (h : passes s ≡ true) (p : Phase) (area : List ℕ) (c : Client) (rest : List ℕ) (x : ShownClient s p area c rest) where
   work-length : length (writeArea (workSize s) (writeWork s) (c .phase)) ≡ workSize s
   work-length = length-area (workSize s) (writeWork s) (c .phase) (work-fits s (passed s h) (c .phase) (x .good .phase))
 
@@ -218,7 +218,7 @@ turnedTo q i c =
       frozenIndices = c .frozenIndices;
     }
 
-module _ (s : Measures) (h : passes s ≡ true) (p : Phase) (area : List ℕ) (c : Client) (rest : List ℕ) (x : Shown s p area c rest)
+module _ (s : Measures) (h : passes s ≡ true) (p : Phase) (area : List ℕ) (c : Client) (rest : List ℕ) (x : ShownClient s p area c rest)
     (q : Work) (i : ReadingIndex) where
   -- its work is written over the old one
   pub turned-written : GoodPhase s q

@@ -26,7 +26,7 @@ use Rattle.parties.specs.declared.Phase.{Phase}
 use Rattle.parties.specs.client.Record.{recordOf, workAt}
 use Rattle.parties.specs.client.Draw.{roomDigests, storesWork, pageOf, drawEnd}
 use Rattle.parties.proofs.client.FormLaws.{sizes}
-use Rattle.parties.proofs.client.AreaLaws.{Shown, turned-written}
+use Rattle.parties.proofs.client.AreaLaws.{ShownClient, turned-written}
 use Rattle.parties.proofs.client.GateLaws.{work-within, Opened, found, found-reads, found-shows}
 use Rattle.parties.proofs.client.DrawLaws.{length-room-digests, digests-there, page-short, page-length, page-there}
 use Rattle.parties.proofs.client.StepLaws.{scanning-step}
@@ -41,7 +41,7 @@ module _ (s : Measures) (own : ℕ) (within : own < s .m) (p : Phase) (area : Li
   h : passes s ≡ true
   h = opened .measures
 
-  shows : Shown s p area (read .value) (read .rest)
+  shows : ShownClient s p area (read .value) (read .rest)
   shows = found-shows s p area opened
 
   abbrev bytes : List ℕ

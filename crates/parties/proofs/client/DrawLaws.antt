@@ -45,7 +45,7 @@ use Rattle.parties.specs.client.Draw.{rowsOf, roomDigest, roomDigests, s
 use Rattle.parties.proofs.records.BytesLaws.{Copied, copied-length, copied-block, copied-all}
 use Rattle.parties.proofs.records.PlaceLaws.{number-read}
 use Rattle.parties.proofs.records.SpliceLaws.{to-end, paste-join, many-part}
-use Rattle.parties.proofs.client.AreaLaws.{byte-written, Shown, work-front}
+use Rattle.parties.proofs.client.AreaLaws.{byte-written, ShownClient, work-front}
 use Rattle.parties.proofs.client.FormLaws.{sizes}
 use Rattle.parties.proofs.client.GateLaws.{some-value}
 
@@ -283,7 +283,7 @@ stores-put s h v ds t at rest e l f =
 
 -- ---- the page in the work area
 
-module _ (s : Measures) (h : passes s ≡ true) (p : Phase) (area : List ℕ) (c : Client) (rest : List ℕ) (x : Shown s p area c rest) (bytes : List ℕ)
+module _ (s : Measures) (h : passes s ≡ true) (p : Phase) (area : List ℕ) (c : Client) (rest : List ℕ) (x : ShownClient s p area c rest) (bytes : List ℕ)
     (e : c .phase ≡ Work.scanning bytes) where
   abbrev spare : List ℕ
   spare = replicate (workSize s - length (writeWork s (c .phase))) 0 ++ rest

@@ -33,7 +33,7 @@ use Rattle.parties.specs.records.Places.{versionAt, splice}
 use Rattle.parties.specs.client.Draw.{rowsOf}
 use Rattle.parties.specs.client.Choose.{fetchEnd}
 use Rattle.parties.proofs.client.FormLaws.{sizes}
-use Rattle.parties.proofs.client.AreaLaws.{Shown, turned-written, turned-kept}
+use Rattle.parties.proofs.client.AreaLaws.{ShownClient, turned-written, turned-kept}
 use Rattle.parties.proofs.client.GateLaws.{Opened, found, found-reads, found-shows}
 use Rattle.parties.proofs.records.SpliceLaws.{paste-all, many-zeros}
 use Rattle.parties.proofs.records.RecordLaws.{not-none}
@@ -100,7 +100,7 @@ module _ (s : Measures) (own : ℕ) (p : Phase) (area : List ℕ) (opened : Open
   h : passes s ≡ true
   h = opened .measures
 
-  shows : Shown s p area (read .value) (read .rest)
+  shows : ShownClient s p area (read .value) (read .rest)
   shows = found-shows s p area opened
 
   module _ (rows room : List ℕ) (x : Pointer) (q : x ≡ pick own (p .reading) (rowsOf (readDirectory s rows))) (g : GoodPointer s x) where

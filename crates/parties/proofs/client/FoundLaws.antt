@@ -20,7 +20,7 @@ use Rattle.parties.specs.client.Record.{workAt, isSome}
 use Rattle.parties.specs.client.Found.{retainedOf, retainedIn, pointerOf, pointerIn}
 use Rattle.parties.proofs.records.RecordLaws.{bytes-drop}
 use Rattle.parties.proofs.client.GateLaws.{some-value}
-use Rattle.parties.proofs.client.AreaLaws.{Shown, Retains, work-front}
+use Rattle.parties.proofs.client.AreaLaws.{ShownClient, Retains, work-front}
 
 -- what an area retains that reads
 pub kept : (s : Measures) (area : List ℕ) → Bytes area → isSome (readRetained s area) ≡ true
@@ -38,7 +38,7 @@ kept s area b o =
     })
 
 -- of a record that is shown
-module _ (s : Measures) (h : passes s ≡ true) (p : Phase) (area : List ℕ) (c : Client) (rest : List ℕ) (x : Shown s p area c rest) where
+module _ (s : Measures) (h : passes s ≡ true) (p : Phase) (area : List ℕ) (c : Client) (rest : List ℕ) (x : ShownClient s p area c rest) where
   kept-read : readRetained s area ≡ some (record { value = retained c; rest = writeArea (workSize s) (writeWork s) (c .phase) ++ rest })
   kept-read = ap (readRetained s) (x .parts) ∙ retained-back s c (x .good) (writeArea (workSize s) (writeWork s) (c .phase) ++ rest)
 

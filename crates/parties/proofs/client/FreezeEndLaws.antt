@@ -29,7 +29,7 @@ use Rattle.parties.specs.records.Places.{versionAt}
 use Rattle.parties.specs.client.Draw.{rowsOf}
 use Rattle.parties.specs.client.Found.{retainedIn, pointerIn}
 use Rattle.parties.specs.client.Freeze.{Notices, retainedAfter, keptVersions, replacedBy, freedBy, newPointer, freezeEnd}
-use Rattle.parties.proofs.client.AreaLaws.{Shown, area-length, work-front, beyond, written-parts, idle-work}
+use Rattle.parties.proofs.client.AreaLaws.{ShownClient, area-length, work-front, beyond, written-parts, idle-work}
 use Rattle.parties.proofs.client.GateLaws.{Opened, found as open-found, found-reads, found-shows}
 use Rattle.parties.proofs.records.PlaceLaws.{version-there}
 use Rattle.parties.proofs.client.FoundLaws.{kept-reads, kept-is, pointer-reads, pointer-is}
@@ -87,7 +87,7 @@ module _ (s : Measures) (p : Phase) (area : List ℕ) (opened : Opened s p area)
   h : passes s ≡ true
   h = opened .measures
 
-  shows : Shown s p area found (read .rest)
+  shows : ShownClient s p area found (read .rest)
   shows = found-shows s p area opened
 
   abbrev new : Pointer

@@ -24,7 +24,7 @@ use Rattle.parties.specs.declared.client.gate.Gate.{Gate}
 use Rattle.parties.specs.records.Answer.{number}
 use Rattle.parties.specs.client.Record.{recordOf, areaSize, isSome, workAt}
 use Rattle.parties.specs.client.Gate.{Gated}
-use Rattle.parties.proofs.client.AreaLaws.{Shown, shown, area-length}
+use Rattle.parties.proofs.client.AreaLaws.{ShownClient, shown, area-length}
 
 pub record-length : (p : Phase) (area : List ℕ) → length (recordOf p area) ≡ 5 + length area
 record-length p area =
@@ -140,7 +140,7 @@ module _ (s : Measures) (p : Phase) (area : List ℕ) (opened : Opened s p area)
   pub found-reads : readClient s (recordOf p area) ≡ some found
   found-reads = some-value (readClient s (recordOf p area)) (opened .reads) .1
 
-  pub found-shows : Shown s p area (found .value) (found .rest)
+  pub found-shows : ShownClient s p area (found .value) (found .rest)
   found-shows = shown s p area (opened .step) (opened .reading) (opened .bytes) found found-reads
 
   pub work-within : workAt s + workSize s ≤ length area

@@ -41,7 +41,7 @@ use Rattle.parties.specs.records.Places.{numberAt}
 use Rattle.parties.specs.client.Record.{recordOf, workAt}
 use Rattle.parties.specs.client.Reply.{repliedEnd, mapsAt, standingAt, countsAt, digestPlace, matchesAt, wentOn, cleared, mapped, areaPut, piecePut, lengthsWith}
 use Rattle.parties.proofs.client.FormLaws.{sizes}
-use Rattle.parties.proofs.client.AreaLaws.{Shown, written-parts, area-length, idle-work, turned-written}
+use Rattle.parties.proofs.client.AreaLaws.{ShownClient, written-parts, area-length, idle-work, turned-written}
 use Rattle.parties.proofs.client.GateLaws.{work-within, Opened, found, found-reads, found-shows}
 use Rattle.parties.proofs.client.MatchLaws.{rank-below, digest-found}
 use Rattle.parties.proofs.records.PlaceLaws.{number-there, version-there}
@@ -144,7 +144,7 @@ other-step s i c room out v y (Work.fetching p n m ps) e = absurd (e refl)
 
 -- ---- what stands where
 
-module _ (s : Measures) (h : passes s ≡ true) (p : Phase) (area : List ℕ) (c : Client) (rest : List ℕ) (x : Shown s p area c rest)
+module _ (s : Measures) (h : passes s ≡ true) (p : Phase) (area : List ℕ) (c : Client) (rest : List ℕ) (x : ShownClient s p area c rest)
     (q : Pointer) (n m : ℕ) (ps : List (List ℕ)) (e : c .phase ≡ Work.fetching q n m ps) where
   good : GoodPhase s (Work.fetching q n m ps)
   good = subst (GoodPhase s) e (x .good .phase)
@@ -310,7 +310,7 @@ module _ (s : Measures) (h : passes s ≡ true) (p : Phase) (area : List ℕ) (c
         ∙ sym (front-joined (writeMany (writeNumber 2) (lengths more) ++ (areas s more ++ spare)))
 
     -- the record with it
-    piece-shown : Shown s p (piecePut (lengthsAt s) (s .n) (s .f) i y area) (withPhase (Work.fetching q n m more) c) rest
+    piece-shown : ShownClient s p (piecePut (lengthsAt s) (s .n) (s .f) i y area) (withPhase (Work.fetching q n m more) c) rest
     piece-shown =
         let gm : GoodPhase s (Work.fetching q n m more) = (good .0, good .1, good .2, good .3, good .4, more-short, more-many) in
         record {
@@ -440,7 +440,7 @@ module _ (s : Measures) (p : Phase) (area : List ℕ) (opened : Opened s p area)
   h : passes s ≡ true
   h = opened .measures
 
-  shows : Shown s p area (read .value) (read .rest)
+  shows : ShownClient s p area (read .value) (read .rest)
   shows = found-shows s p area opened
 
   pub lengths-within : lengthsAt s + 2 * s .n + s .n * s .f ≤ length area

@@ -28,7 +28,7 @@ use Rattle.parties.specs.client.Choose.{fetchEnd}
 use Rattle.parties.specs.client.Freeze.{newPointer, freezeEnd}
 use Rattle.parties.specs.client.Scan.{scannedEnd, spentEnd}
 use Rattle.parties.proofs.records.FormLaws.{left-read, none-read}
-use Rattle.parties.proofs.client.AreaLaws.{idle-work, Shown, turned-written}
+use Rattle.parties.proofs.client.AreaLaws.{idle-work, ShownClient, turned-written}
 use Rattle.parties.proofs.client.GateLaws.{long-record, through, Opened, found, found-reads, found-shows}
 use Rattle.parties.proofs.client.StepLaws.{scanning-step, freezing-step, picking-step}
 
@@ -55,7 +55,7 @@ module _ (s : Measures) (p : Phase) (area : List ℕ) (opened : Opened s p area)
   abbrev c : Client
   c = read .value
 
-  shows : Shown s p area c (read .rest)
+  shows : ShownClient s p area c (read .rest)
   shows = found-shows s p area opened
 
   -- the work is zeros

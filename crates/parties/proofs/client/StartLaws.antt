@@ -26,7 +26,7 @@ use Rattle.parties.specs.declared.Phase.{Phase}
 use Rattle.parties.specs.client.Record.{recordOf, areaSize, workAt}
 use Rattle.parties.specs.client.Freeze.{newPointer}
 use Rattle.parties.proofs.client.FormLaws.{sizes}
-use Rattle.parties.proofs.client.AreaLaws.{byte-written, idle-work, Shown, turned-written, turned-kept, work-onward, beyond, area-length}
+use Rattle.parties.proofs.client.AreaLaws.{byte-written, idle-work, ShownClient, turned-written, turned-kept, work-onward, beyond, area-length}
 use Rattle.parties.proofs.client.GateLaws.{long-record, through, Opened, found, found-reads, found-shows}
 use Rattle.parties.proofs.client.StepLaws.{idle-step, busy-step, updating-step, raising-step}
 
@@ -122,7 +122,7 @@ module _ (s : Measures) (own : ℕ) (p : Phase) (area : List ℕ) (opened : Open
   abbrev read : Read Client
   read = found s p area opened
 
-  shows : Shown s p area (read .value) (read .rest)
+  shows : ShownClient s p area (read .value) (read .rest)
   shows = found-shows s p area opened
 
   -- with a room

@@ -30,7 +30,7 @@ use Rattle.parties.proofs.records.RecordLaws.{bytes-drop, number-one, e
 use Rattle.parties.proofs.records.SizeLaws.{row-bound}
 use Rattle.parties.proofs.records.SpliceLaws.{many-at, many-set}
 use Rattle.parties.proofs.directory.RoomLaws.{built-area}
-use Rattle.parties.proofs.directory.UpdateLaws.{Shown, shown, renewed-row, row-bytes}
+use Rattle.parties.proofs.directory.UpdateLaws.{ShownRecord, shown, renewed-row, row-bytes}
 
 -- ---- the record
 
@@ -52,7 +52,7 @@ pub record Says (s : Measures) (t : List ℕ) (e : Ends) : Type 0 where
   pub update : List (Option Content)
   pub read : whole (readRecord s) t ≡ some update
   pub good : GoodRecord s update
-  pub shown : Shown t 1 (getD t 0 0) e update
+  pub shown : ShownRecord t 1 (getD t 0 0) e update
 
 pub says : (s : Measures) (t : List ℕ) (e : Ends) → Bytes t → Recorded s t (Parts.Sound e) → Says s t e
 says s t e b h =

@@ -98,7 +98,7 @@ sliced t p at a h l e =
 
 -- ---- the four fields
 
-pub record Shown (t : List ℕ) (at map : ℕ) (e : Ends) (l : List (Option Content)) : Type 0 where
+pub record ShownRecord (t : List ℕ) (at map : ℕ) (e : Ends) (l : List (Option Content)) : Type 0 where
   pub written : Option Content
   pub frozen : Option Content
   pub indices : Option Content
@@ -114,7 +114,7 @@ unfolding readFields
 no-fields s map u r e = sym (ap (λ (x : Read (List (Option Content))). x .value) (some-eq e))
 
 pub shown : (s : Measures) (t : List ℕ) (at map : ℕ) (e : Ends) (r : Read (List (Option Content))) → Bytes t → Ended s t at map e
-    → readFields s (fields s) map (drop at t) ≡ some r → Shown t at map e (r .value)
+    → readFields s (fields s) map (drop at t) ≡ some r → ShownRecord t at map e (r .value)
 shown s t at map e r b h q =
     let o = h .ordered in
     let w = first-field s (Field.pointers 1) (Field.pointers (s .m) ∷ Field.indices (s .m) ∷ Field.indices 1 ∷ []) map
@@ -192,7 +192,7 @@ unfolding writeRecord writeNumber mapOf
 row-bytes r = refl
 
 module _ (s : Measures) (u : List (Option Content)) (r : Row) (record-bytes table : List ℕ) (at map : ℕ) (e f : Ends) where
-  pub renewed-row : Shown record-bytes 1 map e u → Shown table (at + 1) 15 f (rowFields r) → GoodRecord s u → GoodRow s r
+  pub renewed-row : ShownRecord record-bytes 1 map e u → ShownRecord table (at + 1) 15 f (rowFields r) → GoodRecord s u → GoodRow s r
       → renewed map record-bytes e table at f ≡ writeRow (updateRow u r)
   unfolding renewed
   renewed-row x y g h =

@@ -97,6 +97,6 @@ pub fn after_scan(
     }
     Turned {
         phase: p,
-        answer: ClientAnswer::Refused(Refusal::Turn),
+        answer: ClientAnswer::Refused(Refusal::OutOfTurn),
     }
 }

@@ -100,7 +100,7 @@ pub fn start_deposit(p: Phase, s: Measures, own: usize, area: &mut [u8], page: &
     if p.step != IDLE {
         return Turned {
             phase: p,
-            answer: ClientAnswer::Refused(Refusal::Turn),
+            answer: ClientAnswer::Refused(Refusal::OutOfTurn),
         };
     }
     let n = page.len();
@@ -140,7 +140,7 @@ pub fn start_reading(p: Phase, s: Measures, own: usize, area: &mut [u8], room: &
     if p.step != IDLE {
         return Turned {
             phase: p,
-            answer: ClientAnswer::Refused(Refusal::Turn),
+            answer: ClientAnswer::Refused(Refusal::OutOfTurn),
         };
     }
     let reading = p.reading;
@@ -197,7 +197,7 @@ pub fn update_answer(p: Phase, s: Measures, own: usize, area: &mut [u8], room: &
     }
     Turned {
         phase: p,
-        answer: ClientAnswer::Refused(Refusal::Turn),
+        answer: ClientAnswer::Refused(Refusal::OutOfTurn),
     }
 }
 

@@ -12,7 +12,7 @@ impl Refusal {
             Refusal::Short => 2,
             Refusal::Number => 3,
             Refusal::Form => 4,
-            Refusal::Turn => 5,
+            Refusal::OutOfTurn => 5,
             Refusal::TooLong => 6,
             Refusal::Spent => 7,
             Refusal::Full => 8,

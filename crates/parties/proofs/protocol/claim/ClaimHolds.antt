@@ -23,7 +23,7 @@ use Rattle.parties.proofs.protocol.formats.MeasureLaws.{passed}
 use Rattle.parties.proofs.protocol.formats.NodeTableLaws.{format-table}
 use Rattle.parties.proofs.protocol.model.Model.{num, ver, Turn, Past, Model}
 use Rattle.parties.proofs.protocol.invariants.Invariants.{Known, Keeps, Member, Pointed, unnum}
-use Rattle.parties.proofs.protocol.invariants.Chronicle.{Rightly, Shown, Listed, Draws, Doing, Busy}
+use Rattle.parties.proofs.protocol.invariants.Chronicle.{Rightly, ShownPointer, Listed, Draws, Doing, Busy}
 use Rattle.parties.proofs.protocol.model.VersionNumbers.{unnum-num, below-num}
 use Rattle.parties.proofs.protocol.model.MemberLaws.{member-cases}
 use Rattle.parties.proofs.protocol.model.PastLaws.{pointed-version, some-formed}
@@ -54,9 +54,9 @@ first-listed x d (y ∷ l) (inr e) = Member.there y l (first-listed x d l (e .1)
 
 module _ (z : Measures) (honest : ℕ → Bool) (ok : passes z ≡ true) (s : Model) (v : Invariant z honest s) where
   -- a pointer that is shown has the version of its number
-  shown-version : (x : Pointer) → Shown (s .h) (s .p) x → x .version ≡ unnum (ver x)
-  shown-version x (Shown.absent e) = ap (λ (y : Pointer). y .version) e ∙ sym (ap (λ (y : Pointer). unnum (ver y)) e)
-  shown-version x (Shown.put d p b l) = go (v .drawing (ver x) d .pointer)
+  shown-version : (x : Pointer) → ShownPointer (s .h) (s .p) x → x .version ≡ unnum (ver x)
+  shown-version x (ShownPointer.absent e) = ap (λ (y : Pointer). y .version) e ∙ sym (ap (λ (y : Pointer). unnum (ver y)) e)
+  shown-version x (ShownPointer.put d p b l) = go (v .drawing (ver x) d .pointer)
     where
       go : (s .p .pointers (ver x) ≡ nonePointer) ⊎ Pointed z (s .p) (ver x) → x .version ≡ unnum (ver x)
       go (inl n) = absurd (some-formed (s .p) x p b n)
@@ -65,7 +65,7 @@ module _ (z : Measures) (honest : ℕ → Bool) (ok : passes z ≡ true) (s : Mo
   -- what an operation bears: a deposit's own version, or that of a pointer that a reading shows
   data Borne (o : ℕ) (u : Version) : Type 0 where
     drew : (bytes : List ℕ) → IsDeposit (s .h) o bytes → Draws (s .p) o bytes u → Borne o u
-    read : (x : Pointer) → IsReading (s .h) o → s .h .operation o .pointer ≡ some x → x .version ≡ u → Shown (s .h) (s .p) x → Borne o u
+    read : (x : Pointer) → IsReading (s .h) o → s .h .operation o .pointer ≡ some x → x .version ≡ u → ShownPointer (s .h) (s .p) x → Borne o u
 
   borne : (o : ℕ) (u : Version) → Bears (s .h) o u → Borne o u
   borne o u b = go (s .h .operation o .page) refl
@@ -103,22 +103,22 @@ module _ (z : Measures) (honest : ℕ → Bool) (ok : passes z ≡ true) (s : Mo
   -- equal numbers
   same-deposit : (o p : ℕ) (u : Version) → Borne o u → Borne p u → Alike (s .h) o p
   same-deposit o p u (drew b e g) (drew b′ e′ g′) = inl (o, Concerns.itself b e refl, Concerns.itself b′ e′ (sym (g′ .deposit) ∙ g .deposit))
-  same-deposit o p u (drew b e g) (read x e′ q r (Shown.absent n)) =
+  same-deposit o p u (drew b e g) (read x e′ q r (ShownPointer.absent n)) =
       let f : u .client ≡ 255 = ap (λ (y : Version). y .client) (sym r) ∙ ap (λ (y : Pointer). y .version .client) n in absurd (omega (arith, g .client))
-  same-deposit o p u (drew b e g) (read x e′ q r (Shown.put d k l m)) =
+  same-deposit o p u (drew b e g) (read x e′ q r (ShownPointer.put d k l m)) =
       let f : s .p .deposits (ver x) ≡ o = ap (λ (y : Version). s .p .deposits (num y)) r ∙ g .deposit in
       inl (o, Concerns.itself b e refl, subst (Concerns (s .h) p) f (shows-deposit p x e′ q k l m))
-  same-deposit o p u (read x e′ q r (Shown.absent n)) (drew b e g) =
+  same-deposit o p u (read x e′ q r (ShownPointer.absent n)) (drew b e g) =
       let f : u .client ≡ 255 = ap (λ (y : Version). y .client) (sym r) ∙ ap (λ (y : Pointer). y .version .client) n in absurd (omega (arith, g .client))
-  same-deposit o p u (read x e′ q r (Shown.put d k l m)) (drew b e g) =
+  same-deposit o p u (read x e′ q r (ShownPointer.put d k l m)) (drew b e g) =
       let f : s .p .deposits (ver x) ≡ p = ap (λ (y : Version). s .p .deposits (num y)) r ∙ g .deposit in
       inl (p, subst (Concerns (s .h) o) f (shows-deposit o x e′ q k l m), Concerns.itself b e refl)
-  same-deposit o p u (read x e q r (Shown.absent n)) (read y e′ q′ r′ (Shown.absent n′)) = inr ((e, q ∙ ap some n), (e′, q′ ∙ ap some n′))
-  same-deposit o p u (read x e q r (Shown.absent n)) (read y e′ q′ r′ (Shown.put d k l m)) =
+  same-deposit o p u (read x e q r (ShownPointer.absent n)) (read y e′ q′ r′ (ShownPointer.absent n′)) = inr ((e, q ∙ ap some n), (e′, q′ ∙ ap some n′))
+  same-deposit o p u (read x e q r (ShownPointer.absent n)) (read y e′ q′ r′ (ShownPointer.put d k l m)) =
       let f : ver y ≡ 255 = ap num (r′ ∙ sym r) ∙ ap ver n in absurd (omega arith)
-  same-deposit o p u (read x e q r (Shown.put d k l m)) (read y e′ q′ r′ (Shown.absent n)) =
+  same-deposit o p u (read x e q r (ShownPointer.put d k l m)) (read y e′ q′ r′ (ShownPointer.absent n)) =
       let f : ver x ≡ 255 = ap num (r ∙ sym r′) ∙ ap ver n in absurd (omega arith)
-  same-deposit o p u (read x e q r (Shown.put d k l m)) (read y e′ q′ r′ (Shown.put d′ k′ l′ m′)) =
+  same-deposit o p u (read x e q r (ShownPointer.put d k l m)) (read y e′ q′ r′ (ShownPointer.put d′ k′ l′ m′)) =
       let f : s .p .deposits (ver y) ≡ s .p .deposits (ver x) = ap (λ (w : Version). s .p .deposits (num w)) (r′ ∙ sym r) in
       inl (s .p .deposits (ver x), shows-deposit o x e q k l m, subst (Concerns (s .h) p) f (shows-deposit p y e′ q′ k′ l′ m′))
 
@@ -199,15 +199,15 @@ module _ (z : Measures) (honest : ℕ → Bool) (ok : passes z ≡ true) (s : Mo
       → (d : ℕ) × Concerns (s .h) o d × IsDeposit (s .h) d (s .p .pages (ver x))
   deposit-of o x l e p b = go (r .3)
     where
-      r : (y : Pointer) × (s .h .operation o .pointer ≡ some y) × (y .version ≡ x .version) × Shown (s .h) (s .p) y
+      r : (y : Pointer) × (s .h .operation o .pointer ≡ some y) × (y .version ≡ x .version) × ShownPointer (s .h) (s .p) y
       r = v .recording .reads o (x .version) l e (v .recording .pointer o x l p .1)
 
       a : r .0 ≡ x
       a = some-eq (sym (r .1) ∙ p)
 
-      go : Shown (s .h) (s .p) (r .0) → (d : ℕ) × Concerns (s .h) o d × IsDeposit (s .h) d (s .p .pages (ver x))
-      go (Shown.absent n) = let f : ver x ≡ 255 = ap ver (sym a ∙ n) in absurd (omega arith)
-      go (Shown.put d k c m) =
+      go : ShownPointer (s .h) (s .p) (r .0) → (d : ℕ) × Concerns (s .h) o d × IsDeposit (s .h) d (s .p .pages (ver x))
+      go (ShownPointer.absent n) = let f : ver x ≡ 255 = ap ver (sym a ∙ n) in absurd (omega arith)
+      go (ShownPointer.put d k c m) =
           let d′ : s .p .drawn (ver x) ≡ true = rw a at d in
           let k′ : s .p .pointers (ver x) ≡ x = rw a at k in
           let m′ : Listed (s .h) x = rw a at m in

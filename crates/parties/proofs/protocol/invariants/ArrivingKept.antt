@@ -27,7 +27,7 @@ use Rattle.parties.proofs.protocol.formats.MeasureLaws.{Passed}
 use Rattle.parties.proofs.protocol.formats.NodeMapLaws.{with-others, stands-none}
 use Rattle.parties.proofs.protocol.model.Model.{num, ver, Turn, Clients, Rows, Shown, Nodes, Past, Model, newest, last, rowsOf, notices}
 use Rattle.parties.proofs.protocol.model.Model.{drawnBy, frozenBy, sent, served, with-toClient, pointed, Comes, Next}
-use Rattle.parties.proofs.protocol.invariants.Invariants.{Own, Owned, Drawing, Current, Keeps, Stocked, Stocking, NoStore, Sound, Once, Arrived, Truthful, Acked, Arriving}
+use Rattle.parties.proofs.protocol.invariants.Invariants.{Own, Owned, Drawing, Depositing, Keeps, Stocked, Stocking, NoStore, Sound, Once, Arrived, Truthful, Acked, Arriving}
 use Rattle.parties.proofs.protocol.model.VersionNumbers.{num-eq}
 use Rattle.parties.proofs.protocol.invariants.DrawLaws.{draw-above, draw-new, draw-pages}
 use Rattle.parties.proofs.protocol.model.QueueLaws.{no-store-append, no-store-tail, once-tail, once-append, asked-stores, asked-once, hand-each}
@@ -86,7 +86,7 @@ module _ (z : Measures) (honest : ℕ → Bool) (s t : Model) (y : Lasting z hon
 -- ---- what a client keeps
 
 -- its turn is new
-keeps-turned : (z : Measures) (k : Clients) (c : ℕ) (u : Turn) (r : ℕ → ℕ) (w : ℕ) (v : Version) → (Current u v → Keeps z k c v)
+keeps-turned : (z : Measures) (k : Clients) (c : ℕ) (u : Turn) (r : ℕ → ℕ) (w : ℕ) (v : Version) → (Depositing u v → Keeps z k c v)
     → Keeps z (moved k c u r) w v → Keeps z k w v
 keeps-turned z k c u r w v n =
     keeps-as z (moved k c u r) k w v (λ p. by-eq w c (λ f g. rw g (n (rw f at p))) (λ f g. Keeps.current (rw f at p))) refl refl refl
@@ -125,7 +125,7 @@ Then s c u r d q ptrs sh h =
 
 -- the version last drawn, and the one that is current, stay
 turn-arriving : (z : Measures) (honest : ℕ → Bool) (s : Model) → Owned z s → Arriving z honest s → (c : ℕ) (old new : Turn) → s .c .turn c ≡ old
-    → ((y : ℕ) → newest new y ≡ newest old y) → ((v : Version) → Current new v → Current old v)
+    → ((y : ℕ) → newest new y ≡ newest old y) → ((v : Version) → Depositing new v → Depositing old v)
     → {r : ℕ → ℕ} {d : Shown} {q : ℕ → ℕ → List ToClient} {ptrs : ℕ → Pointer} {sh : ℕ → ℕ → ℕ} {h : History}
     → Acked z honest (with-toClient (s .n) q) new → Messages z honest s q → Names z honest s ptrs → Arriving z honest (Then s c new r d q ptrs sh h)
 turn-arriving z honest s o a c old new e same current {r} {d} {q} {ptrs} {sh} {h} ak ms nm =

@@ -77,9 +77,9 @@ abbrev pub Listed : History → Pointer → Type 0
 Listed h x = (d : ℕ) × Member (record { pointer = x; operation = d }) (h .puts)
 
 -- a pointer that a reading shows: none, or one that is put in
-pub data Shown (h : History) (p : Past) (x : Pointer) : Type 0 where
-  absent : x ≡ nonePointer → Shown h p x
-  put : p .drawn (ver x) ≡ true → p .pointers (ver x) ≡ x → 256 ≤ ver x → Listed h x → Shown h p x
+pub data ShownPointer (h : History) (p : Past) (x : Pointer) : Type 0 where
+  absent : x ≡ nonePointer → ShownPointer h p x
+  put : p .drawn (ver x) ≡ true → p .pointers (ver x) ≡ x → 256 ≤ ver x → Listed h x → ShownPointer h p x
 
 -- the deposit of a version that is drawn
 pub record Deposited (h : History) (p : Past) (v : ℕ) : Type 0 where
@@ -103,7 +103,7 @@ pub record Recording (z : Measures) (s : Model) : Type 0 where
   pub draws : (o : ℕ) (bytes : List ℕ) (v : Version) → o < s .h .begun → s .h .operation o .page ≡ some bytes → s .h .operation o .version ≡ some v
       → Draws (s .p) o bytes v
   pub reads : (o : ℕ) (v : Version) → o < s .h .begun → s .h .operation o .page ≡ none → s .h .operation o .version ≡ some v
-      → (x : Pointer) × (s .h .operation o .pointer ≡ some x) × (x .version ≡ v) × Shown (s .h) (s .p) x
+      → (x : Pointer) × (s .h .operation o .pointer ≡ some x) × (x .version ≡ v) × ShownPointer (s .h) (s .p) x
   -- a pointer is a reading's, and borne with its version
   pub pointer : (o : ℕ) (x : Pointer) → o < s .h .begun → s .h .operation o .pointer ≡ some x
       → (s .h .operation o .page ≡ none) × (s .h .operation o .version ≡ some (x .version))

@@ -17,7 +17,7 @@ use Rattle.parties.proofs.protocol.formats.MeasureLaws.{Passed}
 use Rattle.parties.proofs.protocol.formats.NodeMapLaws.{with-below}
 use Rattle.parties.proofs.protocol.model.Model.{num, ver, Rows, Turn, Clients, Shown, Nodes, Past, Model, newest, last}
 use Rattle.parties.proofs.protocol.model.Model.{turned, frozenBy, drawnBy, pointedBy, pointed, Above, Next}
-use Rattle.parties.proofs.protocol.invariants.Invariants.{Storing, Owned, Pointed, Draws, Drawing}
+use Rattle.parties.proofs.protocol.invariants.Invariants.{Storing, Owned, Pointed, DrawnVersion, Drawing}
 use Rattle.parties.proofs.protocol.model.VersionNumbers.{num-client, num-sequence, unnum-num}
 use Rattle.parties.proofs.protocol.model.PastLaws.{client-fits, pointed-version, draw-fresh}
 
@@ -25,7 +25,7 @@ use Rattle.parties.proofs.protocol.model.PastLaws.{client-fits, pointed
 
 -- its client's newest is no lower, its page is the same and its pointer is none or formed of it
 draws-later : (z : Measures) (s t : Model) (v : ℕ) → ((w : ℕ) → last (s .c) w ≤ last (t .c) w) → t .p .pages v ≡ s .p .pages v
-    → (t .p .pointers v ≡ nonePointer) ⊎ Pointed z (t .p) v → Draws z s v → Draws z t v
+    → (t .p .pointers v ≡ nonePointer) ⊎ Pointed z (t .p) v → DrawnVersion z s v → DrawnVersion z t v
 draws-later z s t v up e x o =
     record {
       proper = o .proper;
@@ -44,7 +44,7 @@ pointed-kept z p q v ea ep (inr o) =
     inr (record { nodes = o .nodes; pointer = rw (ep, ea) (o .pointer); within = o .within; enough = o .enough })
 
 draws-kept : (z : Measures) (s t : Model) (v : ℕ) → ((w : ℕ) → last (s .c) w ≤ last (t .c) w) → t .p .pages v ≡ s .p .pages v
-    → t .p .pointers v ≡ s .p .pointers v → Draws z s v → Draws z t v
+    → t .p .pointers v ≡ s .p .pointers v → DrawnVersion z s v → DrawnVersion z t v
 draws-kept z s t v up ea ep o = draws-later z s t v up ea (pointed-kept z (s .p) (t .p) v ea ep (o .pointer)) o
 
 -- ---- the newest version of a client never falls

@@ -84,7 +84,7 @@ pub record Pointed (z : Measures) (p : Past) (v : ℕ) : Type 0 where
   pub within : nodes < 2 ^ z .n
   pub enough : count nodes ≡ z .t + z .k
 
-pub record Draws (z : Measures) (s : Model) (v : ℕ) : Type 0 where
+pub record DrawnVersion (z : Measures) (s : Model) (v : ℕ) : Type 0 where
   pub proper : 256 ≤ v
   pub writer : v % 256 < z .m
   pub sequence : v / 256 < 2 ^ 32
@@ -94,7 +94,7 @@ pub record Draws (z : Measures) (s : Model) (v : ℕ) : Type 0 where
   pub pointer : (s .p .pointers v ≡ nonePointer) ⊎ Pointed z (s .p) v
 
 abbrev pub Drawing : Measures → Model → Type 0
-Drawing z s = (v : ℕ) → s .p .drawn v ≡ true → Draws z s v
+Drawing z s = (v : ℕ) → s .p .drawn v ≡ true → DrawnVersion z s v
 
 -- ---- the directory's rows and the clients
 
@@ -143,43 +143,43 @@ pub record Lagging (z : Measures) (s : Model) : Type 0 where
 -- ---- what is retained for readers
 
 -- the pointer that a deposit has put in has this version
-abbrev pub Put : Turn → Version → Type 0
-Put Turn.idle v = ⊥
-Put (Turn.scanning bytes) v = ⊥
-Put (Turn.scanned bytes a) v = ⊥
-Put (Turn.storing u bytes a) v = ⊥
-Put (Turn.updating x) v = ⊥
-Put (Turn.updated x) v = x .version ≡ v
-Put (Turn.freezing x) v = x .version ≡ v
-Put (Turn.noticing x a) v = x .version ≡ v
-Put Turn.raising v = ⊥
-Put Turn.raised v = ⊥
-Put Turn.picking v = ⊥
-Put (Turn.picked a) v = ⊥
-Put (Turn.fetching p n m ps) v = ⊥
+abbrev pub PutIn : Turn → Version → Type 0
+PutIn Turn.idle v = ⊥
+PutIn (Turn.scanning bytes) v = ⊥
+PutIn (Turn.scanned bytes a) v = ⊥
+PutIn (Turn.storing u bytes a) v = ⊥
+PutIn (Turn.updating x) v = ⊥
+PutIn (Turn.updated x) v = x .version ≡ v
+PutIn (Turn.freezing x) v = x .version ≡ v
+PutIn (Turn.noticing x a) v = x .version ≡ v
+PutIn Turn.raising v = ⊥
+PutIn Turn.raised v = ⊥
+PutIn Turn.picking v = ⊥
+PutIn (Turn.picked a) v = ⊥
+PutIn (Turn.fetching p n m ps) v = ⊥
 
 -- the rows of a second scan that are under way show reader c's index r
-abbrev pub Shows : Turn → ℕ → ℕ → Type 0
-Shows Turn.idle c r = Unit {0}
-Shows (Turn.scanning bytes) c r = Unit {0}
-Shows (Turn.scanned bytes a) c r = Unit {0}
-Shows (Turn.storing u bytes a) c r = Unit {0}
-Shows (Turn.updating x) c r = Unit {0}
-Shows (Turn.updated x) c r = Unit {0}
-Shows (Turn.freezing x) c r = Unit {0}
-Shows (Turn.noticing x a) c r = r ≤ a .reading c
-Shows Turn.raising c r = Unit {0}
-Shows Turn.raised c r = Unit {0}
-Shows Turn.picking c r = Unit {0}
-Shows (Turn.picked a) c r = Unit {0}
-Shows (Turn.fetching p n m ps) c r = Unit {0}
+abbrev pub NoticingShows : Turn → ℕ → ℕ → Type 0
+NoticingShows Turn.idle c r = Unit {0}
+NoticingShows (Turn.scanning bytes) c r = Unit {0}
+NoticingShows (Turn.scanned bytes a) c r = Unit {0}
+NoticingShows (Turn.storing u bytes a) c r = Unit {0}
+NoticingShows (Turn.updating x) c r = Unit {0}
+NoticingShows (Turn.updated x) c r = Unit {0}
+NoticingShows (Turn.freezing x) c r = Unit {0}
+NoticingShows (Turn.noticing x a) c r = r ≤ a .reading c
+NoticingShows Turn.raising c r = Unit {0}
+NoticingShows Turn.raised c r = Unit {0}
+NoticingShows Turn.picking c r = Unit {0}
+NoticingShows (Turn.picked a) c r = Unit {0}
+NoticingShows (Turn.fetching p n m ps) c r = Unit {0}
 
 -- writer w retains version v for reader c, whose index is r
 pub data Safe (k : Clients) (w c r : ℕ) (v : Version) : Type 0 where
   frozen : k .indices w c ≡ r → k .frozen w c .version ≡ v → Safe k w c r v
   reserved : k .indices w c ≡ r → k .reserved w c ≡ v → Safe k w c r v
-  put : k .indices w c < r → Put (k .turn w) v → Safe k w c r v
-  written : k .indices w c < r → k .written w .version ≡ v → Shows (k .turn w) c r → Safe k w c r v
+  put : k .indices w c < r → PutIn (k .turn w) v → Safe k w c r v
+  written : k .indices w c < r → k .written w .version ≡ v → NoticingShows (k .turn w) c r → Safe k w c r v
 
 -- what an open reading of client c may ask for is retained
 abbrev pub Retained : Measures → Clients → ℕ → Turn → Type 0
@@ -203,23 +203,23 @@ Retaining z s = (c : ℕ) → c < z .m → Retained z (s .c) c (s .c .turn c)
 -- ---- what a client keeps at the nodes
 
 -- the version that a deposit has drawn and not ended
-abbrev pub Current : Turn → Version → Type 0
-Current Turn.idle v = ⊥
-Current (Turn.scanning bytes) v = ⊥
-Current (Turn.scanned bytes a) v = ⊥
-Current (Turn.storing u bytes a) v = u ≡ v
-Current (Turn.updating x) v = x .version ≡ v
-Current (Turn.updated x) v = x .version ≡ v
-Current (Turn.freezing x) v = x .version ≡ v
-Current (Turn.noticing x a) v = x .version ≡ v
-Current Turn.raising v = ⊥
-Current Turn.raised v = ⊥
-Current Turn.picking v = ⊥
-Current (Turn.picked a) v = ⊥
-Current (Turn.fetching p n m ps) v = ⊥
+abbrev pub Depositing : Turn → Version → Type 0
+Depositing Turn.idle v = ⊥
+Depositing (Turn.scanning bytes) v = ⊥
+Depositing (Turn.scanned bytes a) v = ⊥
+Depositing (Turn.storing u bytes a) v = u ≡ v
+Depositing (Turn.updating x) v = x .version ≡ v
+Depositing (Turn.updated x) v = x .version ≡ v
+Depositing (Turn.freezing x) v = x .version ≡ v
+Depositing (Turn.noticing x a) v = x .version ≡ v
+Depositing Turn.raising v = ⊥
+Depositing Turn.raised v = ⊥
+Depositing Turn.picking v = ⊥
+Depositing (Turn.picked a) v = ⊥
+Depositing (Turn.fetching p n m ps) v = ⊥
 
 pub data Keeps (z : Measures) (k : Clients) (w : ℕ) (v : Version) : Type 0 where
-  current : Current (k .turn w) v → Keeps z k w v
+  current : Depositing (k .turn w) v → Keeps z k w v
   written : k .written w .version ≡ v → Keeps z k w v
   frozen : (q : ℕ) → q < z .m → k .frozen w q .version ≡ v → Keeps z k w v
   reserved : (q : ℕ) → q < z .m → k .reserved w q ≡ v → Keeps z k w v

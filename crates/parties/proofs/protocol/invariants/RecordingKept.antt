@@ -19,7 +19,7 @@ use Rattle.parties.proofs.protocol.formats.MeasureLaws.{Passed}
 use Rattle.parties.proofs.protocol.model.Model.{num, ver, Rows, Turn, Clients, Shown, Nodes, Past, Model, Marks, Quiet, Marked, Picks, Above, Next}
 use Rattle.parties.proofs.protocol.model.Model.{turned, raisedBy, frozenBy, published, drawnBy, pointedBy, begunBy, pointed, choosing}
 use Rattle.parties.proofs.protocol.invariants.Invariants.{Member, Known, Owned, Drawing}
-use Rattle.parties.proofs.protocol.invariants.Chronicle.{Current, Doing, Busy, Listed, Shown as ShownAt, Deposited, Recording, Putting}
+use Rattle.parties.proofs.protocol.invariants.Chronicle.{Current, Doing, Busy, Listed, ShownPointer, Deposited, Recording, Putting}
 use Rattle.parties.proofs.protocol.model.MemberLaws.{member-left}
 use Rattle.parties.proofs.protocol.model.PastLaws.{pointed-version, draw-fresh}
 use Rattle.parties.proofs.protocol.model.Growth.{Grown, grown-same, grown-drawn, grown-pointed}
@@ -202,7 +202,7 @@ module _ (z : Measures) (s : Model) (r : Recording z s) (c : ℕ) (l : c < z .m)
       let o : Operation = s .h .operation (s .h .latest c) in
       let b = rw e at (r .doing c l) in
       ends (choosing nonePointer o) (record { client = refl; page = refl; version = unborne o (some (nonePointer .version)) (b .1 .version) })
-      (fair-pointing (s .h) (s .p) c nonePointer (b .1) (b .0) (ShownAt.absent refl)) (b .0) (turned (s .c) c Turn.idle) (λ j. refl) (s .n) h q
+      (fair-pointing (s .h) (s .p) c nonePointer (b .1) (b .0) (ShownPointer.absent refl)) (b .0) (turned (s .c) c Turn.idle) (λ j. refl) (s .n) h q
 
   -- its reading gives a page
   gives : Owned z s → (x : Pointer) (i m : ℕ) (ps : List (List ℕ)) (n : Nodes) (h : History)

@@ -12,7 +12,7 @@ use Rattle.parties.specs.declared.Version.{Version}
 use Rattle.parties.specs.protocol.Pointer.{Pointer}
 use Rattle.parties.specs.protocol.Run.{History, Operation}
 use Rattle.parties.proofs.protocol.model.Model.{num, ver, Turn, Past, Model}
-use Rattle.parties.proofs.protocol.invariants.Chronicle.{Undrawn, Drawn, Unpicked, Picked, Current, Doing, Busy, Listed, Shown, Deposited, Draws, Recording}
+use Rattle.parties.proofs.protocol.invariants.Chronicle.{Undrawn, Drawn, Unpicked, Picked, Current, Doing, Busy, Listed, ShownPointer, Deposited, Draws, Recording}
 use Rattle.parties.proofs.protocol.model.PastLaws.{formed-kept}
 use Rattle.parties.proofs.protocol.model.Growth.{Grown}
 
@@ -21,7 +21,7 @@ use Rattle.parties.proofs.protocol.model.Growth.{Grown}
 -- what an operation with number o tells: a deposit of what it drew, a reading of its pointer and of what it gave
 pub record Fair (h : History) (p : Past) (o : ℕ) (a : Operation) : Type 0 where
   pub draws : (bytes : List ℕ) (v : Version) → a .page ≡ some bytes → a .version ≡ some v → Draws p o bytes v
-  pub reads : (v : Version) → a .page ≡ none → a .version ≡ some v → (x : Pointer) × (a .pointer ≡ some x) × (x .version ≡ v) × Shown h p x
+  pub reads : (v : Version) → a .page ≡ none → a .version ≡ some v → (x : Pointer) × (a .pointer ≡ some x) × (x .version ≡ v) × ShownPointer h p x
   pub pointer : (x : Pointer) → a .pointer ≡ some x → (a .page ≡ none) × (a .version ≡ some (x .version))
   pub gives : (b : List ℕ) → a .given ≡ some b
       → (x : Pointer) × (a .page ≡ none) × (a .pointer ≡ some x) × (256 ≤ ver x) × (b ≡ p .pages (ver x))
@@ -33,9 +33,9 @@ fair-of z s r o l =
 -- ---- growth
 
 -- a version that a reading shows and that is not none is drawn
-shown-drawn : (h : History) (p : Past) (x : Pointer) → 256 ≤ ver x → Shown h p x → p .drawn (ver x) ≡ true
-shown-drawn h p x l (Shown.absent e) = let q : ver x ≡ 255 = ap ver e in absurd (omega arith)
-shown-drawn h p x l (Shown.put d e n i) = d
+shown-drawn : (h : History) (p : Past) (x : Pointer) → 256 ≤ ver x → ShownPointer h p x → p .drawn (ver x) ≡ true
+shown-drawn h p x l (ShownPointer.absent e) = let q : ver x ≡ 255 = ap ver e in absurd (omega arith)
+shown-drawn h p x l (ShownPointer.put d e n i) = d
 
 -- what a reading gave is a page of a version that is drawn
 given-drawn : (h : History) (p : Past) (o : ℕ) (a : Operation) → Fair h p o a → (x : Pointer) → a .pointer ≡ some x → 256 ≤ ver x
@@ -47,9 +47,9 @@ given-drawn h p o a f x e l =
     shown-drawn h p x l (rw q at (y .3))
 
 module _ (h h′ : History) (p p′ : Past) (g : Grown p p′) (listed : (x : Pointer) → Listed h x → Listed h′ x) where
-  shown-later : (x : Pointer) → Shown h p x → Shown h′ p′ x
-  shown-later x (Shown.absent e) = Shown.absent e
-  shown-later x (Shown.put d e n i) = Shown.put (g .later .drawn (ver x) d) (formed-kept p p′ x (g .later) d e n) n (listed x i)
+  shown-later : (x : Pointer) → ShownPointer h p x → ShownPointer h′ p′ x
+  shown-later x (ShownPointer.absent e) = ShownPointer.absent e
+  shown-later x (ShownPointer.put d e n i) = ShownPointer.put (g .later .drawn (ver x) d) (formed-kept p p′ x (g .later) d e n) n (listed x i)
 
   draws-later : (o : ℕ) (bytes : List ℕ) (v : Version) → Draws p o bytes v → Draws p′ o bytes v
   draws-later o bytes v a =

@@ -14,13 +14,13 @@ use Rattle.parties.proofs.protocol.model.Cells.{by-eq}
 use Rattle.parties.proofs.protocol.formats.MeasureLaws.{Passed}
 use Rattle.parties.proofs.protocol.model.Model.{ver, Turn, Rows, Clients, Past, Model, Next, Picks, putBy, shownWritten}
 use Rattle.parties.proofs.protocol.model.Model.{raisedTo, shownReading, offer, rowsOf, notices, turned, frozenBy}
-use Rattle.parties.proofs.protocol.invariants.Invariants.{Known, Own, Owned, Unput, Lag, Lagging, Put, Shows, Safe, Retained, Retaining, Current, Keeps}
+use Rattle.parties.proofs.protocol.invariants.Invariants.{Known, Own, Owned, Unput, Lag, Lagging, PutIn, NoticingShows, Safe, Retained, Retaining, Depositing, Keeps}
 use Rattle.parties.proofs.protocol.invariants.LaggingKept.{moved}
 
 -- ---- of a turn
 
 -- what is put in is the deposit's
-put-current : (t : Turn) (v : Version) → Put t v → Current t v
+put-current : (t : Turn) (v : Version) → PutIn t v → Depositing t v
 put-current Turn.idle v p = p
 put-current (Turn.scanning bytes) v p = p
 put-current (Turn.scanned bytes a) v p = p
@@ -37,8 +37,8 @@ put-current (Turn.fetching x n m ps) v p = p
 
 -- a row's written pointer is one that is put in, or its client's
 data Written (t : Turn) (x : Pointer) : Type 0 where
-  put : (Unput t → ⊥) → Put t (putBy t x .version) → Written t x
-  own : putBy t x ≡ x → ((c r : ℕ) → Shows t c r) → Written t x
+  put : (Unput t → ⊥) → PutIn t (putBy t x .version) → Written t x
+  own : putBy t x ≡ x → ((c r : ℕ) → NoticingShows t c r) → Written t x
 
 written-is : (t : Turn) (x : Pointer) → Written t x
 written-is Turn.idle x = Written.own refl (λ c r. tt)
@@ -76,7 +76,7 @@ abbrev AllRetained : Measures → Clients → Type 0
 AllRetained z k = (c : ℕ) → c < z .m → Retained z k c (k .turn c)
 
 -- what it has put in stays put in, and rows that are under way to it show the reader's index
-safe-moved : (k : Clients) (d : ℕ) (u : Turn) (f : ℕ → ℕ) (w c r : ℕ) (v : Version) → (Put (k .turn d) v → Put u v) → Shows u c r
+safe-moved : (k : Clients) (d : ℕ) (u : Turn) (f : ℕ → ℕ) (w c r : ℕ) (v : Version) → (PutIn (k .turn d) v → PutIn u v) → NoticingShows u c r
     → Safe k w c r v → Safe (moved k d u f) w c r v
 safe-moved k d u f w c r v p a (Safe.frozen i e) = Safe.frozen i e
 safe-moved k d u f w c r v p a (Safe.reserved i e) = Safe.reserved i e
@@ -102,14 +102,14 @@ retained-over z k n c (Turn.picked a) e f o = λ w l. rw e (f refl w _ (o w l))
 retained-over z k n c (Turn.fetching x i m ps) e f o = rw e (f refl (x .version .client) _ o)
 
 moved-retaining : (z : Measures) (k : Clients) (d : ℕ) (u : Turn) (f : ℕ → ℕ) → ((c : ℕ) → (c ≡ d → ⊥) → f c ≡ k .reading c)
-    → ((v : Version) → Put (k .turn d) v → Put u v) → ((c : ℕ) → shownReading k c ≡ k .reading c → Shows u c (k .reading c))
+    → ((v : Version) → PutIn (k .turn d) v → PutIn u v) → ((c : ℕ) → shownReading k c ≡ k .reading c → NoticingShows u c (k .reading c))
     → Retained z (moved k d u f) d u → AllRetained z k → AllRetained z (moved k d u f)
 moved-retaining z k d u f m p a n o c l =
     by-eq c d (λ b g. rw b (rw g n))
     (λ b g. rw b (retained-over z k (moved k d u f) c (k .turn c) (m c g) (λ i w v. safe-moved k d u f w c (k .reading c) v (p v) (a c i)) (o c l)))
 
 turned-retaining : (z : Measures) (k : Clients) (d : ℕ) (u : Turn)
-    → ((v : Version) → Put (k .turn d) v → Put u v) → ((c : ℕ) → shownReading k c ≡ k .reading c → Shows u c (k .reading c))
+    → ((v : Version) → PutIn (k .turn d) v → PutIn u v) → ((c : ℕ) → shownReading k c ≡ k .reading c → NoticingShows u c (k .reading c))
     → Retained z (turned k d u) d u → AllRetained z k → AllRetained z (turned k d u)
 turned-retaining z k d u = moved-retaining z k d u (k .reading) (λ c g. refl)
 
@@ -146,7 +146,7 @@ picked-safe z s c a x k n w o =
     let row = picked-row (s .p) (k .row) x n (rw (k .offered) at (w .1 (k .row) (k .within))) in
     subst (λ j. Safe (s .c) j c (s .c .reading c) (x .version)) (sym row) (rw (k .offered) at (o (k .row) (k .within)))
 
-fetching-retaining : (z : Measures) (k : Clients) (c : ℕ) (x : Pointer) (n m : ℕ) (ps : List (List ℕ)) → ((v : Version) → Put (k .turn c) v → ⊥)
+fetching-retaining : (z : Measures) (k : Clients) (c : ℕ) (x : Pointer) (n m : ℕ) (ps : List (List ℕ)) → ((v : Version) → PutIn (k .turn c) v → ⊥)
     → Safe k (x .version .client) c (k .reading c) (x .version) → AllRetained z k → AllRetained z (turned k c (Turn.fetching x n m ps))
 fetching-retaining z k c x n m ps p a =
     turned-retaining z k c (Turn.fetching x n m ps) p (λ j i. tt)

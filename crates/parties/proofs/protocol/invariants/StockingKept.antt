@@ -29,7 +29,7 @@ use Rattle.parties.proofs.protocol.events.NodeLaws.{keep-ascending, kee
 use Rattle.parties.proofs.protocol.formats.NodeMapLaws.{stands-none}
 use Rattle.parties.proofs.protocol.model.Model.{num, ver, Rows, Turn, Clients, Shown, Past, Model, Next, Frees, Replaced, Retains}
 use Rattle.parties.proofs.protocol.model.Model.{with-toClient, turned, frozenBy, sent, served, Picks, notices}
-use Rattle.parties.proofs.protocol.invariants.Invariants.{Known, KnownVersion, Owned, Drawing, Current, Keeps, Plays, Stocked, Sound, Stocking, effect, holding}
+use Rattle.parties.proofs.protocol.invariants.Invariants.{Known, KnownVersion, Owned, Drawing, Depositing, Keeps, Plays, Stocked, Sound, Stocking, effect, holding}
 use Rattle.parties.proofs.protocol.model.PastLaws.{Later, later-same, drawn-later, pointed-later, draw-fresh}
 use Rattle.parties.proofs.protocol.model.PlaysLaws.{holding-kept, holding-released, effect-other, Alike, keeps-as, plays-ext, plays-alike, plays-append, plays-bounded}
 use Rattle.parties.proofs.protocol.invariants.LaggingKept.{moved}
@@ -73,7 +73,7 @@ others z k k′ w t a b c u = (
 
 -- a turn changes, and what it has drawn stays
 turned-alike : (z : Measures) (k : Clients) (c : ℕ) (x : Turn) (r : ℕ → ℕ)
-    → ((u : Version) → (Current (k .turn c) u → Current x u) × (Current x u → Current (k .turn c) u))
+    → ((u : Version) → (Depositing (k .turn c) u → Depositing x u) × (Depositing x u → Depositing (k .turn c) u))
     → (w : ℕ)
     → Alike z k (moved k c x r) w
 turned-alike z k c x r h w u =
@@ -101,7 +101,7 @@ module _ (z : Measures) (honest : ℕ → Bool) (s : Model) (o : Stocking z hone
 
   -- nor does any but client c's turn change, which has drawn the same
   turns : (c : ℕ) (x : Turn) {y : Turn} {r : ℕ → ℕ} {d : Shown} {q : ℕ → ℕ → List ToClient} {p : Past} {h : History}
-      → Later (s .p) p → s .c .turn c ≡ y → Current y ≡ Current x
+      → Later (s .p) p → s .c .turn c ≡ y → Depositing y ≡ Depositing x
       → Stocking z honest
       (record {
         c = moved (s .c) c x r;

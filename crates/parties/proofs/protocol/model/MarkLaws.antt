@@ -13,7 +13,7 @@ use Rattle.parties.specs.protocol.Pointer.{Pointer}
 use Rattle.parties.specs.protocol.Run.{History, Operation, begin, bearing, ending, giving}
 use Rattle.parties.proofs.protocol.model.Model.{num, ver, Past, drawnBy, choosing}
 use Rattle.parties.proofs.protocol.invariants.Invariants.{Known}
-use Rattle.parties.proofs.protocol.invariants.Chronicle.{Undrawn, Drawn, Unpicked, Picked, Current, Listed, Shown, Deposited}
+use Rattle.parties.proofs.protocol.invariants.Chronicle.{Undrawn, Drawn, Unpicked, Picked, Current, Listed, ShownPointer, Deposited}
 use Rattle.parties.proofs.protocol.model.VersionNumbers.{unnum-num}
 use Rattle.parties.proofs.protocol.model.HistoryLaws.{markedAt, marked-last, opening, begun-last}
 use Rattle.parties.proofs.protocol.invariants.RecordingLaws.{Fair, Same}
@@ -81,9 +81,9 @@ module _ (h : History) (p : Past) (c : ℕ) (bytes : List ℕ) (v : Version) (a 
 
 -- ---- a reading's pointer
 
-pub picked-shown : (h : History) (p : Past) (w : ℕ) (x : Pointer) → (ver x ≡ 255 → ⊥) → Known p w x → Listed h x → Shown h p x
+pub picked-shown : (h : History) (p : Past) (w : ℕ) (x : Pointer) → (ver x ≡ 255 → ⊥) → Known p w x → Listed h x → ShownPointer h p x
 picked-shown h p w x ne (Known.absent e) i = absurd (ne (ap ver e))
-picked-shown h p w x ne (Known.formed d q c n) i = Shown.put d q n i
+picked-shown h p w x ne (Known.formed d q c n) i = ShownPointer.put d q n i
 
 pub picked-pointing : (h : History) (c : ℕ) (x : Pointer) → Unpicked h c → (replied : List (List ℕ))
     → Picked (markedAt h c (choosing x (h .operation (h .latest c))) replied) c x
@@ -91,7 +91,7 @@ picked-pointing h c x a replied =
     let y = marked-last h c (choosing x (h .operation (h .latest c))) replied in record { page = rw y (a .page); version = rw y refl; pointer = rw y refl }
 
 module _ (h : History) (p : Past) (c : ℕ) (x : Pointer) where
-  pub fair-pointing : Unpicked h c → Current h c → Shown h p x → Fair h p (h .latest c) (choosing x (h .operation (h .latest c)))
+  pub fair-pointing : Unpicked h c → Current h c → ShownPointer h p x → Fair h p (h .latest c) (choosing x (h .operation (h .latest c)))
   fair-pointing a b i =
       record {
         draws = λ y v e q. absurd (none≢some (sym (a .page) ∙ e));

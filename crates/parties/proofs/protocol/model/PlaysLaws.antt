@@ -20,7 +20,7 @@ use Rattle.parties.proofs.protocol.formats.MeasureLaws.{Passed}
 use Rattle.parties.proofs.protocol.formats.VersionLaws.{same-eq, eq-same}
 use Rattle.parties.proofs.protocol.events.NodeLaws.{hand-kept, hand-other, hand-released, hand-left}
 use Rattle.parties.proofs.protocol.model.Model.{Turn, Clients, Past, Model}
-use Rattle.parties.proofs.protocol.invariants.Invariants.{Owned, Current, Keeps, Member, Bounded, Plays, Sound, effect, holding}
+use Rattle.parties.proofs.protocol.invariants.Invariants.{Owned, Depositing, Keeps, Member, Bounded, Plays, Sound, effect, holding}
 use Rattle.parties.proofs.protocol.model.MemberLaws.{member-first}
 
 -- ---- a node's table
@@ -68,7 +68,7 @@ abbrev pub Alike : Measures → Clients → Clients → ℕ → Type 0
 Alike z k k′ w = (u : Version) → (Keeps z k w u → Keeps z k′ w u) × (Keeps z k′ w u → Keeps z k w u)
 
 -- records that agree but for the turn, whose drawn version passes over
-pub keeps-as : (z : Measures) (k k′ : Clients) (w : ℕ) (u : Version) → (Current (k .turn w) u → Keeps z k′ w u)
+pub keeps-as : (z : Measures) (k k′ : Clients) (w : ℕ) (u : Version) → (Depositing (k .turn w) u → Keeps z k′ w u)
     → k .written w ≡ k′ .written w → k .frozen w ≡ k′ .frozen w → k .reserved w ≡ k′ .reserved w → Keeps z k w u → Keeps z k′ w u
 keeps-as z k k′ w u t a b c (Keeps.current h) = t h
 keeps-as z k k′ w u t a b c (Keeps.written h) = Keeps.written (rw a at h)
@@ -127,7 +127,7 @@ spare-all k w q (suc n) h d = go (spare-all k w q n) (ℕ-discrete q n)
         by-eq n w (λ f g. rw f m) (λ f g. rw f (Member.there _ _ (Member.there _ _ (m .0)), Member.there _ _ (Member.there _ _ (m .1))))
 
 -- the version that a turn has drawn, if it has
-current-one : (t : Turn) (d : Version) → (v : Version) × ((u : Version) → Current t u → v ≡ u)
+current-one : (t : Turn) (d : Version) → (v : Version) × ((u : Version) → Depositing t u → v ≡ u)
 current-one Turn.idle d = (d, λ u h. absurd h)
 current-one (Turn.scanning bytes) d = (d, λ u h. absurd h)
 current-one (Turn.scanned bytes a) d = (d, λ u h. absurd h)
