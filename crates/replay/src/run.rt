@@ -14,7 +14,7 @@ use parties::Measures;
 use parties::records::nodes::add_node;
 use parties::records::nodes::count;
 use parties::records::nodes::has_node;
-use runs::answer::Turn;
+use runs::answer::EventEnd;
 use runs::event;
 use runs::least::least;
 use title::Part;
@@ -143,7 +143,7 @@ fn happens(
     out: &mut Page,
     post: &mut Post,
     page: &[u8],
-) -> Turn {
+) -> EventEnd {
     match e {
         Event::Deposit(c, len) => {
             let n = least(len, page.len());

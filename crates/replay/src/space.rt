@@ -6,7 +6,7 @@ pub type Memory = [u8; 40960];
 // Rows, 6,279 bytes, or what a client sends.
 pub type Room = [u8; 6400];
 
-// Parcels: an event may want 17 times a room and 16 bytes more.
+// Parcels: an event may want 56,367 bytes; the rest is for what is under way.
 pub type Post = [u8; 262144];
 
 // A page has at most 1,020 bytes; a longer one must be told from it.

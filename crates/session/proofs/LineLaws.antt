@@ -26,12 +26,12 @@ use Rattle.parties.specs.Answer.{served}
 use Rattle.title.specs.Memory.{memorySize, MemoryEnd, memoryFresh}
 use Rattle.title.specs.Part.{short}
 use Rattle.title.proofs.FreshMemoryLaws.{fresh-refused, fresh-served}
-use Rattle.runs.specs.declared.answer.Turn.{Turn}
+use Rattle.runs.specs.declared.answer.EventEnd.{EventEnd}
 use Rattle.runs.specs.Acts.{Lent}
-use Rattle.runs.specs.Happens.{needed, Happens}
+use Rattle.runs.specs.Sent.{needed}
+use Rattle.runs.specs.Happens.{Happens}
 use Rattle.runs.specs.Oldest.{honestAll, without, alone}
 use Rattle.runs.proofs.SendLaws.{least-taken}
-use Rattle.runs.proofs.EventLaws.{needed-room}
 use Rattle.runs.proofs.StartLaws.{deposit-long}
 use Rattle.lines.specs.declared.command.Command.{Command}
 use Rattle.lines.specs.declared.read.Reading.{Reading}
@@ -92,23 +92,15 @@ module _ (s : Measures) (l : Lengths) where
             rw (le-leb (roomSize s) (l .room) a, le-leb (directorySize s) (l .room) b, le-leb (frame - 4) (l .out) d, le-ltb (frame - 4) (l .page) e) refl
 
         module _ (e : frame - 4 < l .page) where
-          others : ample s l ≡ (leb (2 * frame + 32) (l .text) && (leb (l .post) 4294967295 && leb (2 * needed s (l .room)) (l .post)))
+          others : ample s l ≡ (leb (2 * frame + 32) (l .text) && leb (2 * needed s) (l .post))
           others =
               rw (le-leb (roomSize s) (l .room) a, le-leb (directorySize s) (l .room) b, le-leb (frame - 4) (l .out) d, lt-ltb (frame - 4) (l .page) e) refl
 
           pub no-text : l .text < 2 * frame + 32 → false ≡ ample s l
           no-text f = sym (others ∙ rw (lt-leb (2 * frame + 32) (l .text) f) refl)
 
-          pub huge-post : 2 * frame + 32 ≤ l .text → 4294967295 < l .post → false ≡ ample s l
-          huge-post f g = sym (others ∙ rw (le-leb (2 * frame + 32) (l .text) f, lt-leb (l .post) 4294967295 g) refl)
-
-          pub by-post : 2 * frame + 32 ≤ l .text → l .post ≤ 4294967295 → leb (2 * needed s (l .room)) (l .post) ≡ ample s l
-          by-post f g = sym (others ∙ rw (le-leb (2 * frame + 32) (l .text) f, le-leb (l .post) 4294967295 g) refl)
-
-          pub no-post : 2 * frame + 32 ≤ l .text → l .post ≤ 4294967295 → l .post < l .room → false ≡ ample s l
-          no-post f g h =
-              let n : l .post < 2 * needed s (l .room) = omega (arith, needed-room s (l .room)) in
-              sym (lt-leb (2 * needed s (l .room)) (l .post) n) ∙ by-post f g
+          pub by-post : 2 * frame + 32 ≤ l .text → leb (2 * needed s) (l .post) ≡ ample s l
+          by-post f = sym (others ∙ rw (le-leb (2 * frame + 32) (l .text) f) refl)
 
 -- ---- a `config`
 
@@ -225,24 +217,24 @@ kept-page bytes page n k =
     let w : n ≡ min (length page) (length bytes) = omega (arith, k .size) in k .front ∙ least-taken (length page) n bytes w
 
 -- if more were given, the page is too long for the measures either way
-kept-starts : (s : Measures) (c used n : ℕ) (bytes page : List ℕ) (x y : Lent) (turn : Turn) → Kept bytes n page
-    → StartsDeposit s c used (take n page) x y turn → StartsDeposit s c used (cond (ltb (s .k * s .f - 4) (length page)) bytes (take (length page) bytes)) x y turn
-kept-starts s c used n bytes page x y turn k h = go (ltb (s .k * s .f - 4) (length page)) refl
+kept-starts : (s : Measures) (c used n : ℕ) (bytes page : List ℕ) (x y : Lent) (result : EventEnd) → Kept bytes n page
+    → StartsDeposit s c used (take n page) x y result → StartsDeposit s c used (cond (ltb (s .k * s .f - 4) (length page)) bytes (take (length page) bytes)) x y result
+kept-starts s c used n bytes page x y result k h = go (ltb (s .k * s .f - 4) (length page)) refl
   where
-    by : (b : List ℕ) → Happens s honestAll (deposit c b) c 1 used (alone x) (alone y) turn → StartsDeposit s c used b x y turn
+    by : (b : List ℕ) → Happens s honestAll (deposit c b) used (alone x) (alone y) result → StartsDeposit s c used b x y result
     by b e = record { event = e; room = h .room; out = h .out }
 
-    part : Happens s honestAll (deposit c (take (length page) bytes)) c 1 used (alone x) (alone y) turn
+    part : Happens s honestAll (deposit c (take (length page) bytes)) used (alone x) (alone y) result
     part = rw (kept-page bytes page n k) at (h .event)
 
-    whole : s .k * s .f - 4 < length page → Dec (length bytes ≤ length page) → Happens s honestAll (deposit c bytes) c 1 used (alone x) (alone y) turn
+    whole : s .k * s .f - 4 < length page → Dec (length bytes ≤ length page) → Happens s honestAll (deposit c bytes) used (alone x) (alone y) result
     whole w (yes l) = rw (take-all (length page) bytes l) at part
     whole w (no l) =
         let m : length page ≤ length bytes = omega arith in
         let a : s .k * s .f - 4 < length (take (length page) bytes) = omega (arith, length-take-le (length page) bytes m) in
-        let b : s .k * s .f - 4 < length bytes = omega arith in deposit-long s honestAll c used (alone x) (alone y) (take (length page) bytes) bytes a b turn part
+        let b : s .k * s .f - 4 < length bytes = omega arith in deposit-long s honestAll c used (alone x) (alone y) (take (length page) bytes) bytes a b result part
 
-    go : (b : Bool) → ltb (s .k * s .f - 4) (length page) ≡ b → StartsDeposit s c used (cond b bytes (take (length page) bytes)) x y turn
+    go : (b : Bool) → ltb (s .k * s .f - 4) (length page) ≡ b → StartsDeposit s c used (cond b bytes (take (length page) bytes)) x y result
     go true q = by bytes (whole (ltb-true (s .k * s .f - 4) (length page) q) (decLe (length bytes) (length page)))
     go false q = by (take (length page) bytes) part
 
@@ -260,7 +252,7 @@ module _ (s : Measures) (x y : Desk) where
   later-line (Asked.deposit c bytes) page (Command.Read c′) h z = absurd h
   later-line (Asked.deposit c bytes) page (Command.Deposit c′ n) h z =
       let o : Operates s c (StartsDeposit s c (x .used) (take n page) (x .lent)) x y = rw (h .0) at z in
-      record { turn = o .turn; mid = o .mid; starts = kept-starts s c (x .used) n bytes page (x .lent) (o .mid) (o .turn) (h .1) (o .starts); settles = o .settles }
+      record { result = o .result; mid = o .mid; starts = kept-starts s c (x .used) n bytes page (x .lent) (o .mid) (o .result) (h .1) (o .starts); settles = o .settles }
   later-line (Asked.deposit c bytes) page Command.Other h z = absurd h
   later-line Asked.other page (Command.Config m n k t f) h z = absurd h
   later-line Asked.other page (Command.Read c) h z = absurd h
@@ -289,12 +281,12 @@ pub taken-read : (p : List ℕ) (x : Held) (b : ℕ) → b < 256 → Read p (x .
 taken-read p x b u h = next-read p (x .session .reading) b (x .page) u h
 
 -- an operation, from its start on
-module _ (s : Measures) (c used : ℕ) (before mid end : Lent) (turn : Turn) (text text′ : List ℕ) (r : Settled) (used′ len : ℕ)
-    (p : Settles s c turn mid text end text′ r) (u : used′ ≡ r .used) (l : len ≡ r .len) where
-  pub reads : ((honest : ℕ → Bool) → Happens s honest (reading c (before .room)) c 1 used (without before) (without mid) turn) → mid .out ≡ before .out
+module _ (s : Measures) (c used : ℕ) (before mid end : Lent) (result : EventEnd) (text text′ : List ℕ) (r : Settled) (used′ len : ℕ)
+    (p : Settles s c result mid text end text′ r) (u : used′ ≡ r .used) (l : len ≡ r .len) where
+  pub reads : ((honest : ℕ → Bool) → Happens s honest (reading c (before .room)) used (without before) (without mid) result) → mid .out ≡ before .out
       → Operates s c (Reads s c used before) (desk before used text 0) (desk end used′ text′ len)
-  reads h o = record { turn = turn; mid = mid; starts = record { event = h honestAll; out = o }; settles = rw (u, l) p }
+  reads h o = record { result = result; mid = mid; starts = record { event = h honestAll; out = o }; settles = rw (u, l) p }
 
-  pub deposits : (b : List ℕ) → Happens s honestAll (deposit c b) c 1 used (alone before) (alone mid) turn → mid .room ≡ before .room → mid .out ≡ before .out
+  pub deposits : (b : List ℕ) → Happens s honestAll (deposit c b) used (alone before) (alone mid) result → mid .room ≡ before .room → mid .out ≡ before .out
       → Operates s c (StartsDeposit s c used b before) (desk before used text 0) (desk end used′ text′ len)
-  deposits b h m o = record { turn = turn; mid = mid; starts = record { event = h; room = m; out = o }; settles = rw (u, l) p }
+  deposits b h m o = record { result = result; mid = mid; starts = record { event = h; room = m; out = o }; settles = rw (u, l) p }

@@ -20,7 +20,7 @@ use Rattle.title.specs.Memory.{memorySize, memoryFresh}
 use Rattle.title.specs.Part.{short}
 use Rattle.title.proofs.FreshMemoryLaws.{fresh-refused}
 use Rattle.title.proofs.Service.{fresh-serves}
-use Rattle.runs.specs.declared.answer.Turn.{Turn}
+use Rattle.runs.specs.declared.answer.EventEnd.{EventEnd}
 use Rattle.runs.specs.UnderWay.{After}
 use Rattle.runs.specs.Acts.{Lent}
 use Rattle.runs.specs.Happens.{Happens}
@@ -85,16 +85,16 @@ front-bytes (suc n) (a ∷ b) h zero = h 0
 front-bytes (suc n) (a ∷ b) h (suc i) = front-bytes n b (λ j. h (suc j)) i
 
 -- an operation: its start is an event of the run, and so is each parcel that is handed over
-pub operation-runs : (x y : Session) (s : Measures) (used c i : ℕ) (e : Event) (before after : Lent) (mid end : Lent) (turn : Turn) (text text′ : List ℕ) (r : Settled)
+pub operation-runs : (x y : Session) (s : Measures) (used c : ℕ) (e : Event) (before after : Lent) (mid end : Lent) (result : EventEnd) (text text′ : List ℕ) (r : Settled)
     → x .measures ≡ s → x .used ≡ used → Runs x (before .memory) (before .post) → y .measures ≡ s → y .used ≡ r .used
-    → ((honest : ℕ → Bool) → Happens s honest e c i used before after turn) → Given e → mid .memory ≡ after .memory → mid .post ≡ after .post
-    → Settles s c turn mid text end text′ r → Runs y (end .memory) (end .post)
-operation-runs x y s used c i e before after mid end turn text text′ r m u h n v o g q w p =
+    → ((honest : ℕ → Bool) → Happens s honest e used before after result) → Given e → mid .memory ≡ after .memory → mid .post ≡ after .post
+    → Settles s c result mid text end text′ r → Runs y (end .memory) (end .post)
+operation-runs x y s used c e before after mid end result text text′ r m u h n v o g q w p =
     let a : After s honestAll (h .events) (before .memory) (before .post) used = rw (m, u) at (h .after) in
-    let d : Continues s (h .events) (mid .memory) (mid .post) (turn .used) = rw (q, w) (happens-continues s e c i used before after turn (o honestAll) g (h .events) a) in
+    let d : Continues s (h .events) (mid .memory) (mid .post) (result .used) = rw (q, w) (happens-continues s e used before after result (o honestAll) g (h .events) a) in
     let f =
-    continues-more s (h .events) (mid .memory) (mid .post) (end .memory) (end .post) (turn .used) (r .used) d
-    (settles-continue s c turn mid text end text′ r p (h .events ++ d .more)) in
+    continues-more s (h .events) (mid .memory) (mid .post) (end .memory) (end .post) (result .used) (r .used) d
+    (settles-continue s c result mid text end text′ r p (h .events ++ d .more)) in
     record { events = h .events ++ f .more; lent = lent-more (h .events) (f .more) (h .lent) (f .lent); measures = rw (n, ← m) (h .measures); after = rw (n, v) (f .after) }
 
 -- ---- bytes of the input

@@ -9,7 +9,7 @@ use borrow.Author.Tests.{lt-ltb}
 use lib.Dec.{ltb}
 use Rattle.parties.specs.declared.Measures.{Measures}
 use Rattle.parties.specs.protocol.Run.{Event}
-use Rattle.runs.specs.declared.answer.Turn.{Turn}
+use Rattle.runs.specs.declared.answer.EventEnd.{EventEnd}
 use Rattle.runs.specs.UnderWay.{After}
 use Rattle.runs.specs.Acts.{Lent}
 use Rattle.runs.specs.Oldest.{honestAll}
@@ -26,13 +26,13 @@ module _ (s : Measures) (c : ℕ) where
       → Continues s es (y .lent .memory) (y .lent .post) (y .used)
   hands-continue x n y Hands.begun es a =
       continues-same s es (x .lent .memory) (x .lent .post) (x .lent .memory) (x .lent .post) (x .used) refl refl a
-  hands-continue x n z (Hands.goes m y e turn h g o u t) es a =
+  hands-continue x n z (Hands.goes m y e result h g o u t) es a =
       let d = hands-continue x m y h es a in
       continues-more s es (y .lent .memory) (y .lent .post) (z .lent .memory) (z .lent .post) (y .used) (z .used) d
       (λ b. subst (λ (k : ℕ). Continues s (es ++ d .more) (z .lent .memory) (z .lent .post) k) (sym u)
-      (oldest-continues s (y .used) (y .lent) (z .lent) turn o g (es ++ d .more) b))
+      (oldest-continues s (y .used) (y .lent) (z .lent) result o g (es ++ d .more) b))
 
-  pub settles-continue : (start : Turn) (x : Lent) (text : List ℕ) (y : Lent) (text′ : List ℕ) (r : Settled) → Settles s c start x text y text′ r
+  pub settles-continue : (start : EventEnd) (x : Lent) (text : List ℕ) (y : Lent) (text′ : List ℕ) (r : Settled) → Settles s c start x text y text′ r
       → (es : List Event) → After s honestAll es (x .memory) (x .post) (start .used) → Continues s es (y .memory) (y .post) (r .used)
   settles-continue start x text y text′ r h es a =
       hands-continue (desk x (start .used) (h .said) (h .len)) (h .events)
@@ -67,7 +67,7 @@ module _ (s : Measures) (c : ℕ) where
       → ((start : Desk) (n : ℕ) → Hands s c start n y → Hands s c start (n + 1) z) → Settling s c x z (left - 1)
   settling-more x y z left l h f = record { events = h .events + 1; count = omega (arith, h .count); hands = f x (h .events) (h .hands) }
 
-  pub settling-ends : (start : Turn) (x y : Lent) (text said text′ : List ℕ) (len left : ℕ) (r : Settled) → written said len ≡ putTold text (happenedLine c (start .what) (x .out))
+  pub settling-ends : (start : EventEnd) (x y : Lent) (text said text′ : List ℕ) (len left : ℕ) (r : Settled) → written said len ≡ putTold text (happenedLine c (start .what) (x .out))
       → Settling s c (desk x (start .used) said len) (desk y (r .used) text′ (r .len)) left
       → (r .used ≡ 0) ⊎ (left ≡ 0) → Settles s c start x text y text′ r
   settling-ends start x y text said text′ len left r o h d =

@@ -13,10 +13,11 @@ use Rattle.parties.specs.protocol.DirectoryEvents.{directorySize}
 use Rattle.parties.specs.protocol.Run.{Event, deposit, reading}
 use Rattle.parties.specs.protocol.Claim.{AllLent}
 use Rattle.title.specs.Memory.{memorySize, memoryFresh}
-use Rattle.runs.specs.declared.answer.Turn.{Turn}
+use Rattle.runs.specs.declared.answer.EventEnd.{EventEnd}
 use Rattle.runs.specs.UnderWay.{After}
 use Rattle.runs.specs.Acts.{Lent}
-use Rattle.runs.specs.Happens.{needed, Happens}
+use Rattle.runs.specs.Sent.{needed}
+use Rattle.runs.specs.Happens.{Happens}
 use Rattle.runs.specs.Oldest.{honestAll, without, alone}
 use Rattle.lines.specs.Read.{begun as lineBegun, nextOf, nextPage, endedOf, Read}
 use Rattle.lines.specs.Command.{Asked, askedOf, given}
@@ -77,11 +78,11 @@ abbrev pub small : Measures → Bool
 small s = leb (s .m) 3 && leb (s .f) 64
 
 -- and its slices suffice for them: a room for what a client sends and for rows, an output for a page, a page for one byte more, so that a longer
--- one is told from it, a text for a line, and parcels for twice what an event may send
+-- one is told from it, a text for a line, and parcels for twice what an event sends at most
 abbrev pub ample : Measures → Lengths → Bool
 ample s l =
     leb (roomSize s) (l .room) && (leb (directorySize s) (l .room) && (leb (s .k * s .f - 4) (l .out) && (ltb (s .k * s .f - 4) (l .page)
-    && (leb (2 * (s .k * s .f) + 32) (l .text) && (leb (l .post) 4294967295 && leb (2 * needed s (l .room)) (l .post))))))
+    && (leb (2 * (s .k * s .f) + 32) (l .text) && leb (2 * needed s) (l .post)))))
 
 abbrev pub lengths : Held → Lengths
 lengths x =
@@ -132,21 +133,21 @@ First a s l memory text memory′ text′ y len = Replies (firstReply a l memory
 -- ---- a later line
 
 -- the start of a reading of client c, which is lent no output; of a deposit, which is lent no room either
-pub record Reads (s : Measures) (c used : ℕ) (x y : Lent) (turn : Turn) : Type 0 where
-  pub event : Happens s honestAll (reading c (x .room)) c 1 used (without x) (without y) turn
+pub record Reads (s : Measures) (c used : ℕ) (x y : Lent) (result : EventEnd) : Type 0 where
+  pub event : Happens s honestAll (reading c (x .room)) used (without x) (without y) result
   pub out : y .out ≡ x .out
 
-pub record Deposits (s : Measures) (c used : ℕ) (page : List ℕ) (x y : Lent) (turn : Turn) : Type 0 where
-  pub event : Happens s honestAll (deposit c page) c 1 used (alone x) (alone y) turn
+pub record Deposits (s : Measures) (c used : ℕ) (page : List ℕ) (x y : Lent) (result : EventEnd) : Type 0 where
+  pub event : Happens s honestAll (deposit c page) used (alone x) (alone y) result
   pub room : y .room ≡ x .room
   pub out : y .out ≡ x .out
 
 -- an operation of client c: its start, then parcels are handed over
-pub record Operates (s : Measures) (c : ℕ) (Starts : Lent → Turn → Type 0) (x y : Desk) : Type 0 where
-  pub turn : Turn
+pub record Operates (s : Measures) (c : ℕ) (Starts : Lent → EventEnd → Type 0) (x y : Desk) : Type 0 where
+  pub result : EventEnd
   pub mid : Lent
-  pub starts : Starts mid turn
-  pub settles : Settles s c turn mid (x .text) (y .lent) (y .text) (record { used = y .used; len = y .len })
+  pub starts : Starts mid result
+  pub settles : Settles s c result mid (x .text) (y .lent) (y .text) (record { used = y .used; len = y .len })
 
 -- a refusal, by its number
 pub record Refuses (n : ℕ) (x y : Desk) : Type 0 where

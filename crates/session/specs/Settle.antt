@@ -9,7 +9,7 @@ use Rattle.parties.specs.declared.Measures.{Measures}
 use Rattle.parties.specs.protocol.Run.{deliver}
 use Rattle.parties.specs.protocol.Claim.{Lent as Given}
 use Rattle.runs.specs.declared.answer.Happened.{Happened}
-use Rattle.runs.specs.declared.answer.Turn.{Turn}
+use Rattle.runs.specs.declared.answer.EventEnd.{EventEnd}
 use Rattle.runs.specs.Acts.{Lent}
 use Rattle.runs.specs.Oldest.{Oldest}
 use Rattle.lines.specs.Text.{written}
@@ -38,17 +38,21 @@ pub record Tells (c : ℕ) (what : Happened) (out text : List ℕ) (len : ℕ) (
 -- so many parcels are handed over, the oldest first; the room and the output have bytes in them
 pub data Hands (s : Measures) (c : ℕ) (x : Desk) : ℕ → Desk → Type 0 where
   begun : Hands s c x 0 x
-  goes : (n : ℕ) (y z : Desk) (turn : Turn) → Hands s c x n y → Given (deliver 0 0 (y .lent .room) (y .lent .out))
-      → Oldest s (y .used) (y .lent) (z .lent) turn → z .used ≡ turn .used → Tells c (turn .what) (z .lent .out) (y .text) (y .len) (z .text) (z .len)
+  goes : (n : ℕ) (y z : Desk) (result : EventEnd) → Hands s c x n y → Given (deliver 0 0 (y .lent .room) (y .lent .out))
+      → Oldest s (y .used) (y .lent) (z .lent) result → z .used ≡ result .used → Tells c (result .what) (z .lent .out) (y .text) (y .len) (z .text) (z .len)
       → Hands s c x (n + 1) z
 
--- the start's line, then parcels until none is under way, at most 128
-pub record Settles (s : Measures) (c : ℕ) (start : Turn) (x : Lent) (text : List ℕ) (y : Lent) (text′ : List ℕ) (r : Settled) : Type 0 where
+-- more parcels than an operation has
+abbrev pub mostParcels : ℕ
+mostParcels = 128
+
+-- the start's line, then parcels until none is under way, or so many
+pub record Settles (s : Measures) (c : ℕ) (start : EventEnd) (x : Lent) (text : List ℕ) (y : Lent) (text′ : List ℕ) (r : Settled) : Type 0 where
   pub said : List ℕ
   pub len : ℕ
   pub starts : Tells c (start .what) (x .out) text 0 said len
   pub events : ℕ
-  pub most : events ≤ 128
-  pub done : (r .used ≡ 0) ⊎ (events ≡ 128)
+  pub most : events ≤ mostParcels
+  pub done : (r .used ≡ 0) ⊎ (events ≡ mostParcels)
   pub hands : Hands s c (desk x (start .used) said len) events
       (desk y (r .used) text′ (r .len))

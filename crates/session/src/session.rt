@@ -12,6 +12,7 @@ use parties::Measures;
 use parties::Service;
 use parties::sizes;
 use runs::event::deposit;
+use runs::event::needed;
 use runs::event::reading;
 use runs::least::least;
 use title::fresh::fresh;
@@ -119,13 +120,8 @@ fn ample(s: Measures, l: Lengths) -> bool
     if l.text < 2 * frame + 32 {
         return false;
     }
-    if 4294967295 < l.post {
-        return false;
-    }
-    if l.post < l.room {
-        return false;
-    }
-    2 * ((s.n + 1) * (16 + l.room)) <= l.post
+    let parcels = needed(s);
+    2 * parcels <= l.post
 }
 
 // Measures out of bounds come before those that are too big.
@@ -189,8 +185,8 @@ fn read(
         (desk (lend (now (memory .exit)) (now (post .exit)) (now (room .exit)) (now (out .exit))) (r .session .used) (now (text .exit)) (r .len))
         × (r .session ≡ newLine 1 s (r .session .used)) ⌝ }
 {
-    let turn = reading(s, c, memory, room, post, used);
-    let e = settle(s, c, turn, memory, room, out, post, text);
+    let result = reading(s, c, memory, room, post, used);
+    let e = settle(s, c, result, memory, room, out, post, text);
     at_stage(1, s, e.used, e.len)
 }
 
@@ -213,8 +209,8 @@ fn put(
         × (r .session ≡ newLine 1 s (r .session .used)) ⌝ }
 {
     let n = least(bytes, page.len());
-    let turn = deposit(s, c, memory, &page[..n], post, used);
-    let e = settle(s, c, turn, memory, room, out, post, text);
+    let result = deposit(s, c, memory, &page[..n], post, used);
+    let e = settle(s, c, result, memory, room, out, post, text);
     at_stage(1, s, e.used, e.len)
 }
 

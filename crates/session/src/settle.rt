@@ -1,7 +1,7 @@
 // An operation from its start to its end, with each message delivered at once: one queue, oldest first.
 use crate::say::say;
 use parties::Measures;
-use runs::answer::Turn;
+use runs::answer::EventEnd;
 use runs::oldest::oldest;
 ghost use mathlib.Core.Path.{_≡_};
 ghost use mathlib.Core.Bool.{cond};
@@ -40,21 +40,24 @@ fn hand_over(
     ensures { λ r. ⌜ ((start : Desk) (n : ℕ) → Hands s c start n (desk (lend (now (memory .entry)) (now (post .entry)) (now (room .entry)) (now (out .entry))) (x .used) (now (text .entry)) (x .len))
         → Hands s c start (n + 1) (desk (lend (now (memory .exit)) (now (post .exit)) (now (room .exit)) (now (out .exit))) (r .used) (now (text .exit)) (r .len))) ⌝ }
 {
-    let turn = oldest(s, memory, room, out, post, x.used);
-    let what = turn.what;
+    let result = oldest(s, memory, room, out, post, x.used);
+    let what = result.what;
     let n = say(c, what, out, text);
     let len = latest(n, x.len);
     Settled {
-        used: turn.used,
+        used: result.used,
         len,
     }
 }
+
+// More parcels than an operation has.
+const MOST_PARCELS: usize = 128;
 
 // By the algorithms a deposit takes 7 events and 4 for each node, 71 at most, of which 70 hand over a parcel; a reading 5 and at most 2 for each node.
 pub fn settle(
     s: Measures,
     c: usize,
-    start: Turn,
+    start: EventEnd,
     memory: &mut [u8],
     room: &mut [u8],
     out: &mut [u8],
@@ -70,7 +73,7 @@ pub fn settle(
         used: start.used,
         len,
     };
-    let mut left: usize = 128;
+    let mut left: usize = MOST_PARCELS;
     while 0 < left {
         if x.used == 0 {
             return x;

@@ -16,7 +16,7 @@ pub fn room() -> [u8; 6400]
     [0; 6400]
 }
 
-// Parcels: an event may want 17 times a room and 16 bytes more.
+// Parcels: an event may want 56,367 bytes, and as much may be under way.
 pub fn post() -> [u8; 262144]
     ensures { λ r. ⌜ r ≡ replicate 262144 0 ⌝ }
 {

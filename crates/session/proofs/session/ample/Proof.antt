@@ -1,12 +1,14 @@
 use borrow.Author.Needs.{needs}
-use Prim.Native.Nat.{_-_, _*_, _+_, _≤_, _<_}
+use mathlib.Core.Path.{ap, _∙_}
+use lib.Dec.{leb}
+use Prim.Native.Nat.{ℕ, _-_, _*_, _+_, _≤_, _<_}
 use native.Mathlib.Omega.{arith}
 use Rattle.parties.specs.protocol.ClientEvents.{roomSize}
 use Rattle.parties.specs.protocol.DirectoryEvents.{directorySize}
-use Rattle.parties.proofs.protocol.formats.MeasureLaws.{passed}
 use Rattle.parties.proofs.SizesLaws.{sized-passed}
-use Rattle.runs.proofs.EventLaws.{needed-fits}
-use Rattle.session.proofs.LineLaws.{frame-bound, no-room, no-rows, no-output, no-page, no-text, huge-post, no-post, by-post}
+use Rattle.runs.specs.Sent.{needed}
+use Rattle.runs.proofs.EventLaws.{sized-is, needed-small}
+use Rattle.session.proofs.LineLaws.{frame-bound, no-room, no-rows, no-output, no-page, no-text, by-post}
 use Rattle.session.proofs.session.ample.Statement.{statement}
 use Rattle.session.proofs.session.ample.Tie as tie
 
@@ -65,26 +67,18 @@ add-if5 c = omega (arith, frame-bound (c .before .before .before .before .before
 returns-5 : tie.Need-returns-5
 returns-5 c = let a = c .before .before .before .before .before .before .before .before .before .before .before .before .before .args in no-text (a .s) (a .l) (wide (c .before .before .before .before .before .before .before .before)) (rows (c .before .before .before .before .before .before)) (output (c .before .before .before .before)) (page (c .before .before)) (omega arith)
 
-returns-6 : tie.Need-returns-6
-returns-6 c = let a = c .before .before .before .before .before .before .before .before .before .before .before .before .before .before .before .args in huge-post (a .s) (a .l) (wide (c .before .before .before .before .before .before .before .before .before .before)) (rows (c .before .before .before .before .before .before .before .before)) (output (c .before .before .before .before .before .before)) (page (c .before .before .before .before)) (text (c .before .before)) (omega arith)
-
-returns-7 : tie.Need-returns-7
-returns-7 c = let a = c .before .before .before .before .before .before .before .before .before .before .before .before .before .before .before .before .before .args in no-post (a .s) (a .l) (wide (c .before .before .before .before .before .before .before .before .before .before .before .before)) (rows (c .before .before .before .before .before .before .before .before .before .before)) (output (c .before .before .before .before .before .before .before .before)) (page (c .before .before .before .before .before .before)) (text (c .before .before .before .before)) (omega arith) (omega arith)
-
-add-result : tie.Need-add-result
-add-result c = omega (arith, passed (c .before .before .before .before .before .before .before .before .before .before .before .before .before .before .before .before .before .before .args .s) (c .before .before .before .before .before .before .before .before .before .before .before .before .before .before .before .before .before .before .pre) .nodes .1)
-
-add-result-2 : tie.Need-add-result-2
-add-result-2 c = search needs
+needed-requires : tie.Need-needed-requires
+needed-requires c κs = search needs
 
 mul-result : tie.Need-mul-result
-mul-result c = let a = c .before .before .before .before .before .before .before .before .before .before .before .before .before .before .before .before .before .before .before .args in omega (arith, needed-fits (a .s) (a .l .room) (c .before .before .before .before .before .before .before .before .before .before .before .before .before .before .before .before .before .before .before .pre) (omega arith))
+mul-result c = let x = c .before .before .before .before .before .before .before .before .before .before .before .before .before .before in omega (arith, c .needed .ensures ∙ sized-is (x .args .s) _ (x .pre), needed-small (x .args .s) (x .pre))
 
-mul-result-2 : tie.Need-mul-result-2
-mul-result-2 c = let a = c .before .before .before .before .before .before .before .before .before .before .before .before .before .before .before .before .before .before .before .args in omega (arith, needed-fits (a .s) (a .l .room) (c .before .before .before .before .before .before .before .before .before .before .before .before .before .before .before .before .before .before .before .pre) (omega arith))
-
-returns-8 : tie.Need-returns-8
-returns-8 c = let a = c .before .before .before .before .before .before .before .before .before .before .before .before .before .before .before .before .before .before .before .before .args in by-post (a .s) (a .l) (wide (c .before .before .before .before .before .before .before .before .before .before .before .before .before .before .before)) (rows (c .before .before .before .before .before .before .before .before .before .before .before .before .before)) (output (c .before .before .before .before .before .before .before .before .before .before .before)) (page (c .before .before .before .before .before .before .before .before .before)) (text (c .before .before .before .before .before .before .before)) (omega arith)
+returns-6 : tie.Need-returns-6
+returns-6 c =
+    let x = c .before .before .before .before .before .before .before .before .before .before .before .before .before .before .before in
+    let e = c .before .needed .ensures ∙ sized-is (x .args .s) (needed (x .args .s)) (x .pre) in
+    ap (λ (n : ℕ). leb (2 * n) (x .args .l .post)) e
+    ∙ by-post (x .args .s) (x .args .l) (wide (c .before .before .before .before .before .before .before .before .before .before)) (rows (c .before .before .before .before .before .before .before .before)) (output (c .before .before .before .before .before .before)) (page (c .before .before .before .before)) (text (c .before .before))
 
 pub ample-spec : {M : Type 1} → statement M
 ample-spec =
@@ -102,10 +96,6 @@ ample-spec =
     mul-if5
     add-if5
     returns-5
-    returns-6
-    returns-7
-    add-result
-    add-result-2
+    needed-requires
     mul-result
-    mul-result-2
-    returns-8)
+    returns-6)

@@ -47,7 +47,7 @@ returns c =
     let e = c .before .before .before .before .before .before .before .before .before .before .before .settle .ensures in
     let g = c .before .before .before .before .before .before .before .before .before .before .before .before .before .before .before .before .before .before .before .before .before .before .before .before .before .before .before .before .before .before .before .before .args in
     let l = c .before .before .before .before .before .before .before .before .before .before .before .before .before .before .before .before .before .before .before .before .before .before .before .before .before .least in (
-      λ page x m u h. new-live _ _ _ _ _ _ page (a .1) (λ q. operation-runs x _ _ _ _ _ _ _ _ _ _ _ _ _ _ m u h (ap (λ (y : Session). y .measures) (a .1)) (ap (λ (y : Session). y .used) (a .1)) o (front-bytes (l .result) (g .page .now) (λ i. c .before .before .before .before .before .before .before .before .before .before .before .before .before .before .before .before .before .before .before .before .before .before .before .before .before .before .before .shared-slice-known .given i .fits)) refl refl e),
+      λ page x m u h. new-live _ _ _ _ _ _ page (a .1) (λ q. operation-runs x _ _ _ _ _ _ _ _ _ _ _ _ _ m u h (ap (λ (y : Session). y .measures) (a .1)) (ap (λ (y : Session). y .used) (a .1)) o (front-bytes (l .result) (g .page .now) (λ i. c .before .before .before .before .before .before .before .before .before .before .before .before .before .before .before .before .before .before .before .before .before .before .before .before .before .before .before .shared-slice-known .given i .fits)) refl refl e),
       rw (sym (least-taken _ _ (g .page .now) (l .ensures .0))) (deposits _ _ _ _ _ _ _ _ _ _ _ _ e (ap (λ (y : Session). y .used) (a .1)) (a .0) _ (o honestAll) refl refl),
       new-same _ _ _ _ (a .1),
     )

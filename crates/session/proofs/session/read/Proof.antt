@@ -36,7 +36,7 @@ returns c =
     let a = c .at-stage .ensures in
     let o = c .before .before .before .before .before .before .before .before .before .before .before .before .before .before .before .before .before .before .before .before .before .before .before .reading .ensures in
     let e = c .before .before .before .before .before .before .before .before .before .before .before .settle .ensures in (
-      λ page x m u h. new-live _ _ _ _ _ _ page (a .1) (λ g. operation-runs x _ _ _ _ _ _ _ _ _ _ _ _ _ _ m u h (ap (λ (y : Session). y .measures) (a .1)) (ap (λ (y : Session). y .used) (a .1)) o (λ i. c .before .before .before .before .before .before .before .before .before .before .before .before .before .before .before .before .before .before .before .before .before .before .before .before .before .before .before .before .before .before .slice-known2 .given i .fits) refl refl e),
+      λ page x m u h. new-live _ _ _ _ _ _ page (a .1) (λ g. operation-runs x _ _ _ _ _ _ _ _ _ _ _ _ _ m u h (ap (λ (y : Session). y .measures) (a .1)) (ap (λ (y : Session). y .used) (a .1)) o (λ i. c .before .before .before .before .before .before .before .before .before .before .before .before .before .before .before .before .before .before .before .before .before .before .before .before .before .before .before .before .before .before .slice-known2 .given i .fits) refl refl e),
       reads _ _ _ _ _ _ _ _ _ _ _ _ e (ap (λ (y : Session). y .used) (a .1)) (a .0) o refl,
       new-same _ _ _ _ (a .1),
     )
