@@ -25,8 +25,8 @@ use Rattle.parties.specs.Answer.{served}
 use Rattle.parties.specs.declared.Service.{Service}
 use Rattle.parties.specs.client.Answer.{answered}
 use Rattle.parties.specs.declared.ClientAnswer.{ClientAnswer}
-use Rattle.title.specs.Memory.{directoryIn, tableAt, tableIn, recordAt, recordIn, Put}
-use Rattle.title.specs.Service.{Shows, Called, Returned, Brought, Delivered, Lied, Handed, Serves as MemoryServes}
+use Rattle.title.specs.Memory.{directoryIn, tableAt, tableIn, recordAt, recordIn, PutBack}
+use Rattle.title.specs.Service.{MemoryShows, Called, Returned, Brought, Delivered, Lied, Handed, Serves as MemoryServes}
 use Rattle.title.proofs.Service.{serves-shows}
 use Rattle.title.proofs.PartLaws.{both-true}
 use Rattle.runs.specs.declared.answer.Happened.{Happened}
@@ -313,7 +313,7 @@ unfolding properKey
 key-first s c i e = leb-true 1 i (both-true (leb 1 i) _ (both-true (ltb c (s .m)) _ e .1) .0)
 
 module _ (s : Measures) (ok : passes s ≡ true) (honest : ℕ → Bool) (es : List Event) (memory post : List ℕ) (used : ℕ) (h : After s honest es memory post used) where
-  shown : Shows s memory (run s honest es (fresh s))
+  shown : MemoryShows s memory (run s honest es (fresh s))
   shown = serves-shows s ok honest es memory (h .serves)
 
   -- the numbers of a parcel that was found
@@ -350,7 +350,7 @@ module _ (s : Measures) (ok : passes s ≡ true) (honest : ℕ → Bool) (es : L
   pub deposit-goes : (c : ℕ) (page : List ℕ) (a : ClientAnswer) (memory′ after : List ℕ) (result : EventEnd)
       → c < s .m → Sized s (answered a)
       → answered a ≡ startDeposit s c (recordIn s c memory) page .answer
-      → Put memory (recordAt s c) (recordIn s c memory) (startDeposit s c (recordIn s c memory) page .client) memory′
+      → PutBack memory (recordAt s c) (recordIn s c memory) (startDeposit s c (recordIn s c memory) page .client) memory′
       → Sends s c a [] post used after result
       → Goes s honest es (deposit c page) result memory′ after [] []
   unfolding carryOut
@@ -368,7 +368,7 @@ module _ (s : Measures) (ok : passes s ≡ true) (honest : ℕ → Bool) (es : L
   pub reading-goes : (c : ℕ) (room room′ : List ℕ) (a : ClientAnswer) (memory′ after : List ℕ) (result : EventEnd)
       → c < s .m → Sized s (answered a)
       → answered a ≡ startReading s c (recordIn s c memory) room .answer
-      → Put memory (recordAt s c) (recordIn s c memory) (startReading s c (recordIn s c memory) room .client) memory′
+      → PutBack memory (recordAt s c) (recordIn s c memory) (startReading s c (recordIn s c memory) room .client) memory′
       → room′ ≡ startReading s c (recordIn s c memory) room .room
       → Sends s c a room′ post used after result
       → Goes s honest es (reading c room) result memory′ after room′ []
@@ -445,7 +445,7 @@ module _ (s : Measures) (ok : passes s ≡ true) (honest : ℕ → Bool) (es : L
       → lengthOf (served a) ≤ 70250
       → tagged (body post at end) ≡ true
       → served a ≡ directoryUpdate s c (directoryIn s memory) (behind post at end) .answer
-      → Put memory 0 (directoryIn s memory) (directoryUpdate s c (directoryIn s memory) (behind post at end) .table) memory′
+      → PutBack memory 0 (directoryIn s memory) (directoryUpdate s c (directoryIn s memory) (behind post at end) .table) memory′
       → Serves 1 c 0 (0 ∷ []) [] post used at end after a result
       → Goes s honest es (carry c room) result memory′ after room []
   carry-update-goes c room at end a memory′ after result f few t k p w =
@@ -518,7 +518,7 @@ module _ (s : Measures) (ok : passes s ≡ true) (honest : ℕ → Bool) (es : L
       → FindsAt 1 c 0 (h .parcels) at end
       → tagged (body post at end) ≡ false
       → answered a ≡ updateAnswer s c (recordIn s c memory) room .answer
-      → Put memory (recordAt s c) (recordIn s c memory) (updateAnswer s c (recordIn s c memory) room .client) memory′
+      → PutBack memory (recordAt s c) (recordIn s c memory) (updateAnswer s c (recordIn s c memory) room .client) memory′
       → room′ ≡ updateAnswer s c (recordIn s c memory) room .room
       → Takes s c a room′ post used at end after result
       → Goes s honest es (hand c room) result memory′ after room′ []
@@ -543,7 +543,7 @@ module _ (s : Measures) (ok : passes s ≡ true) (honest : ℕ → Bool) (es : L
       → FindsAt 1 c 0 (h .parcels) at end
       → tagged (body post at end) ≡ true
       → answered a ≡ scanAnswer s c (recordIn s c memory) (behind post at end) room .answer
-      → Put memory (recordAt s c) (recordIn s c memory) (scanAnswer s c (recordIn s c memory) (behind post at end) room .client) memory′
+      → PutBack memory (recordAt s c) (recordIn s c memory) (scanAnswer s c (recordIn s c memory) (behind post at end) room .client) memory′
       → room′ ≡ scanAnswer s c (recordIn s c memory) (behind post at end) room .room
       → Takes s c a room′ post used at end after result
       → Goes s honest es (hand c room) result memory′ after room′ []
@@ -571,7 +571,7 @@ module _ (s : Measures) (ok : passes s ≡ true) (honest : ℕ → Bool) (es : L
       → lengthOf (served a) ≤ 70250
       → FindsAt 2 c i (h .parcels) at end
       → served a ≡ nodeMessage s i (tableIn s i memory) (body post at end) room .answer
-      → Put memory (tableAt s i) (tableIn s i memory) (nodeMessage s i (tableIn s i memory) (body post at end) room .table) memory′
+      → PutBack memory (tableAt s i) (tableIn s i memory) (nodeMessage s i (tableIn s i memory) (body post at end) room .table) memory′
       → room′ ≡ nodeMessage s i (tableIn s i memory) (body post at end) room .room
       → Serves 3 c i [] room′ post used at end after a result
       → Goes s honest es (bring c i room) result memory′ after room′ []
@@ -619,7 +619,7 @@ module _ (s : Measures) (ok : passes s ≡ true) (honest : ℕ → Bool) (es : L
       → Sized s (answered a)
       → FindsAt 3 c i (h .parcels) at end
       → answered a ≡ clientMessage s c i (recordIn s c memory) (body post at end) room out .answer
-      → Put memory (recordAt s c) (recordIn s c memory) (clientMessage s c i (recordIn s c memory) (body post at end) room out .client) memory′
+      → PutBack memory (recordAt s c) (recordIn s c memory) (clientMessage s c i (recordIn s c memory) (body post at end) room out .client) memory′
       → room′ ≡ clientMessage s c i (recordIn s c memory) (body post at end) room out .room
       → out′ ≡ clientMessage s c i (recordIn s c memory) (body post at end) room out .out
       → Takes s c a room′ post used at end after result
@@ -654,7 +654,7 @@ module _ (s : Measures) (ok : passes s ≡ true) (honest : ℕ → Bool) (es : L
       → honest i ≡ false
       → c < s .m → Sized s (answered a)
       → answered a ≡ clientMessage s c i (recordIn s c memory) bytes room out .answer
-      → Put memory (recordAt s c) (recordIn s c memory) (clientMessage s c i (recordIn s c memory) bytes room out .client) memory′
+      → PutBack memory (recordAt s c) (recordIn s c memory) (clientMessage s c i (recordIn s c memory) bytes room out .client) memory′
       → room′ ≡ clientMessage s c i (recordIn s c memory) bytes room out .room
       → out′ ≡ clientMessage s c i (recordIn s c memory) bytes room out .out
       → Sends s c a room′ post used after result

@@ -13,7 +13,7 @@ use Rattle.parties.specs.declared.Service.{Service}
 use Rattle.parties.specs.Answer.{served}
 use Rattle.parties.specs.declared.ClientAnswer.{ClientAnswer}
 use Rattle.parties.specs.client.Answer.{answered}
-use Rattle.title.specs.Memory.{directoryIn, tableAt, tableIn, recordAt, recordIn, Put}
+use Rattle.title.specs.Memory.{directoryIn, tableAt, tableIn, recordAt, recordIn, PutBack}
 use Rattle.runs.specs.declared.answer.Happened.{Happened}
 use Rattle.runs.specs.declared.answer.EventEnd.{EventEnd}
 use Rattle.runs.specs.Parcels.{Parcel, callKind, returnKind, toNodeKind, toClientKind, noNode, Stands, NoneStands, Appended, Removed}
@@ -62,7 +62,7 @@ pub data Serves (kind c i : ℕ) (front room post : List ℕ) (used at end : ℕ
 -- a client's event on its record: the answer, the record in its place, and the room
 pub record AtClient (s : Measures) (c : ℕ) (a : ClientAnswer) (e : ClientEnd) (x y : Lent) : Type 0 where
   pub answer : answered a ≡ e .answer
-  pub memory : Put (x .memory) (recordAt s c) (recordIn s c (x .memory)) (e .client) (y .memory)
+  pub memory : PutBack (x .memory) (recordAt s c) (recordIn s c (x .memory)) (e .client) (y .memory)
   pub room : y .room ≡ e .room
 
 -- an event that finds nothing to hand over, or for which an honest node would have to lie
@@ -83,7 +83,7 @@ pub data Acts (s : Measures) (honest : ℕ → Bool) (used : ℕ) (x y : Lent) :
       → y .out ≡ x .out → Sends s c a (y .room) (x .post) used (y .post) result → Acts s honest used x y (reading c (x .room)) result
   updates : (c at end : ℕ) (a : Service) (result : EventEnd) → Stands s callKind c noNode used (x .post) at end → tagged (body (x .post) at end) ≡ true
       → served a ≡ directoryUpdate s c (directoryIn s (x .memory)) (behind (x .post) at end) .answer
-      → Put (x .memory) 0 (directoryIn s (x .memory)) (directoryUpdate s c (directoryIn s (x .memory)) (behind (x .post) at end) .table) (y .memory)
+      → PutBack (x .memory) 0 (directoryIn s (x .memory)) (directoryUpdate s c (directoryIn s (x .memory)) (behind (x .post) at end) .table) (y .memory)
       → y .room ≡ x .room → y .out ≡ x .out → Serves returnKind c noNode (plain ∷ []) [] (x .post) used at end (y .post) a result → Acts s honest used x y (carry c (x .room)) result
   scans : (c at end : ℕ) (a : Service) (result : EventEnd) → Stands s callKind c noNode used (x .post) at end → tagged (body (x .post) at end) ≡ false
       → served a ≡ directoryScan s (directoryIn s (x .memory)) (x .room) .answer → y .memory ≡ x .memory
@@ -97,7 +97,7 @@ pub data Acts (s : Measures) (honest : ℕ → Bool) (used : ℕ) (x y : Lent) :
       → y .out ≡ x .out → Takes s c a (y .room) (x .post) used at end (y .post) result → Acts s honest used x y (hand c (x .room)) result
   brings : (c i at end : ℕ) (a : Service) (result : EventEnd) → honest i ≡ true → Stands s toNodeKind c i used (x .post) at end
       → served a ≡ nodeMessage s i (tableIn s i (x .memory)) (body (x .post) at end) (x .room) .answer
-      → Put (x .memory) (tableAt s i) (tableIn s i (x .memory)) (nodeMessage s i (tableIn s i (x .memory)) (body (x .post) at end) (x .room) .table) (y .memory)
+      → PutBack (x .memory) (tableAt s i) (tableIn s i (x .memory)) (nodeMessage s i (tableIn s i (x .memory)) (body (x .post) at end) (x .room) .table) (y .memory)
       → y .room ≡ nodeMessage s i (tableIn s i (x .memory)) (body (x .post) at end) (x .room) .room → y .out ≡ x .out
       → Serves toClientKind c i [] (y .room) (x .post) used at end (y .post) a result → Acts s honest used x y (bring c i (x .room)) result
   loses : (c i at end left : ℕ) → honest i ≡ false → Stands s toNodeKind c i used (x .post) at end → y .memory ≡ x .memory → y .room ≡ x .room → y .out ≡ x .out

@@ -18,7 +18,7 @@ use Rattle.parties.specs.protocol.Run.{fresh}
 use Rattle.parties.proofs.protocol.events.FreshTableLaws.{directory-long, table-long, client-long}
 use Rattle.parties.proofs.directory.RoomLaws.{many-first}
 use Rattle.title.specs.Memory.{memorySize, tableAt, recordAt, freshMemory, memoryFresh}
-use Rattle.title.specs.Service.{Shows}
+use Rattle.title.specs.Service.{MemoryShows}
 use Rattle.title.proofs.MemoryLaws.{table-own, record-own, part-is}
 use Rattle.title.proofs.FreshMemoryLaws.{copies, tables, records, tables-long, records-long, front-long, fresh-served}
 
@@ -74,7 +74,7 @@ module _ (s : Measures) (ok : passes s ≡ true) (memory : List ℕ) (long : mem
       (long-sum (length rows) (length (tables s)) (length (records s)) (length memory) (directorySize s) (s .n * tableSize s) (s .m * clientSize s) (length rest)
       (directory-long s) (tables-long s) (records-long s ok) (length-drop (memorySize s) memory) long)))
 
-  made-shows : Shows s made (fresh s)
+  made-shows : MemoryShows s made (fresh s)
   made-shows =
       record {
         long = made-long;
@@ -93,6 +93,6 @@ module _ (s : Measures) (ok : passes s ≡ true) (memory : List ℕ) (long : mem
             (front-long s) (client-long s ok) c (s .m) l;
       }
 
-  pub fresh-shows : Shows s (memoryFresh s memory .memory) (fresh s)
+  pub fresh-shows : MemoryShows s (memoryFresh s memory .memory) (fresh s)
   unfolding freshMemory
   fresh-shows = rw (fresh-served s memory ok long) made-shows

@@ -25,7 +25,7 @@ use Rattle.parties.proofs.records.SpliceLaws.{splice-self, splice-back}
 use Rattle.parties.proofs.client.FormLaws.{sizes as clientSizes}
 use Rattle.parties.proofs.node.SizeLaws.{sizes as tableSizes}
 use Rattle.title.specs.declared.memory.Part.{Part}
-use Rattle.title.specs.Memory.{memorySize, tableAt, recordAt, partOf, Put}
+use Rattle.title.specs.Memory.{memorySize, tableAt, recordAt, partOf, PutBack}
 use Rattle.title.specs.Part.{Refuses, measures, short, Stands, Placed}
 
 -- ---- sizes
@@ -113,7 +113,7 @@ module _ (s : Measures) (at size : ℕ) (memory : List ℕ) where
       go (no h) = ap (splice memory at) (part-short (omega arith)) ∙ sym (splice-self memory at 0)
 
   -- an event that is refused leaves the memory as it was
-  pub put-kept : (new : List ℕ) → new ≡ partOf s at size memory → Put memory at (partOf s at size memory) new memory
+  pub put-kept : (new : List ℕ) → new ≡ partOf s at size memory → PutBack memory at (partOf s at size memory) new memory
   put-kept new e = record { long = ap length e; bytes = sym (ap (splice memory at) e ∙ part-kept) }
 
 -- ---- where the code finds a part
@@ -139,7 +139,7 @@ module _ (s : Measures) (at size : ℕ) (memory : List ℕ) (a b : ℕ) (z : Sta
       (λ j. take (n j) (drop (z .first j) memory)) ∙ sym (part-is s at size memory (z .long))
 
   pub put-back : (lent new : List ℕ) → length lent ≡ length (take (b - a) (drop a memory)) → lent ≡ new
-      → Put memory at (partOf s at size memory) new (take a memory ++ (lent ++ drop (b - a) (drop a memory)))
+      → PutBack memory at (partOf s at size memory) new (take a memory ++ (lent ++ drop (b - a) (drop a memory)))
   put-back lent new l e =
       record {
         long = ap length (sym e) ∙ l ∙ ap length part-lent;

@@ -15,7 +15,7 @@ use Rattle.parties.specs.protocol.NodeEvents.{tableSize}
 use Rattle.parties.specs.records.Places.{splice}
 use Rattle.parties.proofs.records.SizeLaws.{below-rows}
 use Rattle.parties.proofs.records.SpliceLaws.{length-splice, splice-self, spliced-own, spliced-before, spliced-after}
-use Rattle.title.specs.Memory.{memorySize, tableAt, recordAt, partOf, Put}
+use Rattle.title.specs.Memory.{memorySize, tableAt, recordAt, partOf, PutBack}
 use Rattle.title.proofs.MemoryLaws.{table-own, record-own, table-ends, part-is}
 
 -- ---- over plain numbers
@@ -85,7 +85,7 @@ fit : (a b c d e n : ℕ) → a ≡ b → b ≡ c → d + c ≤ e → e ≤ n �
 fit a b c d e n p q h k = omega arith
 
 module _ (s : Measures) (memory : List ℕ) (long : memorySize s ≤ length memory) (at size : ℕ) (fits : at + size ≤ memorySize s) (new after : List ℕ)
-    (p : Put memory at (partOf s at size memory) new after) where
+    (p : PutBack memory at (partOf s at size memory) new after) where
   sized : length new ≡ size
   sized = p .long ∙ part-long s memory long at size fits
 

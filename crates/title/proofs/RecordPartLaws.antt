@@ -9,7 +9,7 @@ use Rattle.parties.specs.protocol.Client.{clientSize}
 use Rattle.parties.specs.protocol.Answer.{ClientAnswer, refused}
 use Rattle.parties.specs.protocol.ClientEvents.{ClientEnd, unchanged}
 use Rattle.parties.proofs.protocol.events.LacksLaws.{Lacks}
-use Rattle.title.specs.Memory.{recordAt, recordIn, Put}
+use Rattle.title.specs.Memory.{recordAt, recordIn, PutBack}
 use Rattle.title.specs.Part.{Refuses, Stands}
 use Rattle.title.proofs.MemoryLaws.{part-lacks, put-kept, part-lent, put-back}
 
@@ -21,7 +21,7 @@ module _ (s : Measures) (memory : List ℕ) (c : ℕ) where
 
   -- its answer, and nothing changes
   pub refused-ends : (n : ℕ) (e : ClientEnd) (room out : List ℕ) → e ≡ unchanged (refused n) (recordIn s c memory) room out
-      → (refused n ≡ e .answer) × Put memory (recordAt s c) (recordIn s c memory) (e .client) memory × (room ≡ e .room) × (out ≡ e .out)
+      → (refused n ≡ e .answer) × PutBack memory (recordAt s c) (recordIn s c memory) (e .client) memory × (room ≡ e .room) × (out ≡ e .out)
   refused-ends n e room out q = (
     ap (λ (x : ClientEnd). x .answer) (sym q),
     put-kept s (recordAt s c) (clientSize s) memory (e .client) (ap (λ (x : ClientEnd). x .client) q),
@@ -38,7 +38,7 @@ module _ (s : Measures) (memory : List ℕ) (a b c : ℕ) (z : Stands s (length 
   module _ (x : ClientAnswer) (lent : List ℕ) (l : length lent ≡ length (take (b - a) (drop a memory))) where
     pub told-two : (let e = f (take (b - a) (drop a memory)) in (x ≡ e .answer) × (lent ≡ e .client))
         → (x ≡ f (recordIn s c memory) .answer)
-        × Put memory (recordAt s c) (recordIn s c memory) (f (recordIn s c memory) .client) (take a memory ++ (lent ++ drop (b - a) (drop a memory)))
+        × PutBack memory (recordAt s c) (recordIn s c memory) (f (recordIn s c memory) .client) (take a memory ++ (lent ++ drop (b - a) (drop a memory)))
     told-two h = (
       h .0 ∙ ap (λ (e : ClientEnd). e .answer) same,
       put-back s (recordAt s c) (clientSize s) memory a b z lent (f (recordIn s c memory) .client) l (h .1 ∙ ap (λ (e : ClientEnd). e .client) same),
@@ -46,7 +46,7 @@ module _ (s : Measures) (memory : List ℕ) (a b c : ℕ) (z : Stands s (length 
 
     pub told-three : (room : List ℕ) → (let e = f (take (b - a) (drop a memory)) in (x ≡ e .answer) × (lent ≡ e .client) × (room ≡ e .room))
         → (x ≡ f (recordIn s c memory) .answer)
-        × Put memory (recordAt s c) (recordIn s c memory) (f (recordIn s c memory) .client) (take a memory ++ (lent ++ drop (b - a) (drop a memory)))
+        × PutBack memory (recordAt s c) (recordIn s c memory) (f (recordIn s c memory) .client) (take a memory ++ (lent ++ drop (b - a) (drop a memory)))
         × (room ≡ f (recordIn s c memory) .room)
     told-three room h =
         let y = told-two (h .0, h .1) in (y .0, y .1, h .2 ∙ ap (λ (e : ClientEnd). e .room) same)
@@ -54,7 +54,7 @@ module _ (s : Measures) (memory : List ℕ) (a b c : ℕ) (z : Stands s (length 
     pub told-four : (room out : List ℕ)
         → (let e = f (take (b - a) (drop a memory)) in (x ≡ e .answer) × (lent ≡ e .client) × (room ≡ e .room) × (out ≡ e .out))
         → (x ≡ f (recordIn s c memory) .answer)
-        × Put memory (recordAt s c) (recordIn s c memory) (f (recordIn s c memory) .client) (take a memory ++ (lent ++ drop (b - a) (drop a memory)))
+        × PutBack memory (recordAt s c) (recordIn s c memory) (f (recordIn s c memory) .client) (take a memory ++ (lent ++ drop (b - a) (drop a memory)))
         × (room ≡ f (recordIn s c memory) .room)
         × (out ≡ f (recordIn s c memory) .out)
     told-four room out h =

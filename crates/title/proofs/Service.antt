@@ -11,13 +11,13 @@ use Rattle.parties.specs.protocol.Claim.{Claim, AllLent, Differ, RunPiece, dish
 use Rattle.parties.proofs.protocol.events.RunLaws.{run-last}
 use Rattle.parties.proofs.protocol.claim.Demand.{demand-3}
 use Rattle.title.specs.Memory.{memorySize, memoryFresh}
-use Rattle.title.specs.Service.{Shows, Serves}
+use Rattle.title.specs.Service.{MemoryShows, Serves}
 use Rattle.title.specs.ServiceClaim.{inMemory, ServiceClaim}
 use Rattle.title.proofs.ShowsLaws.{handed-shows}
 use Rattle.title.proofs.FreshLaws.{fresh-shows}
 
 -- the claim of a state is the claim of a memory that shows it
-shown-claim : (s : Measures) (honest : ℕ → Bool) (memory : List ℕ) (st : State) → Shows s memory st → Claim s honest st
+shown-claim : (s : Measures) (honest : ℕ → Bool) (memory : List ℕ) (st : State) → MemoryShows s memory st → Claim s honest st
     → Claim s honest (inMemory s memory st)
 shown-claim s honest memory st o claim =
     record {
@@ -35,11 +35,11 @@ shown-claim s honest memory st o claim =
 
 module _ (s : Measures) (ok : passes s ≡ true) (honest : ℕ → Bool) where
   -- the memory after a list of events shows the run's state after it
-  pub serves-shows : (es : List Event) (memory : List ℕ) → Serves s honest es memory → Shows s memory (run s honest es (fresh s))
+  pub serves-shows : (es : List Event) (memory : List ℕ) → Serves s honest es memory → MemoryShows s memory (run s honest es (fresh s))
   unfolding run
   serves-shows es memory (Serves.begins b o) = o
   serves-shows es memory (Serves.goes before e old after v h) =
-      subst⁻¹ (Shows s after) (run-last s honest before e (fresh s))
+      subst⁻¹ (MemoryShows s after) (run-last s honest before e (fresh s))
       (handed-shows s ok old after (run s honest before (fresh s)) (serves-shows before old v) honest e h)
 
   -- fresh memory begins a run

@@ -21,17 +21,17 @@ use Rattle.parties.proofs.protocol.model.Cells.{by-eq}
 use Rattle.parties.proofs.protocol.events.RunLaws.{head-scan, head-update, head-updated, head-rows, head-to-node, head-lost, head-to-client, none-called, none-returned, none-to-node, none-to-client}
 use Rattle.parties.proofs.protocol.events.RefusalLaws.{Guarded, left-record, deposit-guarded, reading-guarded, updated-guarded, scanned-guarded, message-guarded}
 use Rattle.parties.proofs.protocol.events.TableRefusalLaws.{Keeps, Refuses, refused-keeps, update-keeps, scan-keeps, node-keeps, node-refuses}
-use Rattle.title.specs.Memory.{partOf, directoryIn, tableAt, tableIn, recordAt, recordIn, Put}
-use Rattle.title.specs.Service.{Shows, Deposits, Reads, Updated, Scanned, ToClient, Updates, ToNode, Called, Returned, Brought, Delivered, Lied, Handed}
+use Rattle.title.specs.Memory.{partOf, directoryIn, tableAt, tableIn, recordAt, recordIn, PutBack}
+use Rattle.title.specs.Service.{MemoryShows, Deposits, Reads, Updated, Scanned, ToClient, Updates, ToNode, Called, Returned, Brought, Delivered, Lied, Handed}
 use Rattle.title.proofs.MemoryLaws.{table-within, record-within}
 use Rattle.title.proofs.PartLaws.{directory-table, directory-record, table-record, directory-fits, tables-apart, records-apart}
 use Rattle.title.proofs.PartLaws.{both-true, put-long, put-own, put-before, put-after, put-same}
 
-module _ (s : Measures) (ok : passes s ≡ true) (memory after : List ℕ) (st : State) (o : Shows s memory st) where
+module _ (s : Measures) (ok : passes s ≡ true) (memory after : List ℕ) (st : State) (o : MemoryShows s memory st) where
   -- the tables and records are those before
-  same-shows : after ≡ memory → (t : State) → t .directory ≡ st .directory → t .nodes ≡ st .nodes → t .clients ≡ st .clients → Shows s after t
+  same-shows : after ≡ memory → (t : State) → t .directory ≡ st .directory → t .nodes ≡ st .nodes → t .clients ≡ st .clients → MemoryShows s after t
   same-shows e t d n c =
-      subst⁻¹ (λ (u : List ℕ). Shows s u t) e
+      subst⁻¹ (λ (u : List ℕ). MemoryShows s u t) e
       (record {
         long = o .long;
         directory = o .directory ∙ sym d;
@@ -52,7 +52,7 @@ module _ (s : Measures) (ok : passes s ≡ true) (memory after : List ℕ) (st :
 
   -- ---- client c's record is written back
 
-  module _ (c : ℕ) (new : List ℕ) (p : Put memory (recordAt s c) (recordIn s c memory) new after) where
+  module _ (c : ℕ) (new : List ℕ) (p : PutBack memory (recordAt s c) (recordIn s c memory) new after) where
     record-same : new ≡ recordIn s c memory → after ≡ memory
     record-same = put-same s memory (o .long) (recordAt s c) (clientSize s) (record-within s ok c) new after p
 
@@ -68,7 +68,7 @@ module _ (s : Measures) (ok : passes s ≡ true) (memory after : List ℕ) (st :
             let e : c < j = omega arith in
             put-after s memory (o .long) (recordAt s c) (clientSize s) (record-within s ok c) new after p (recordAt s j) (clientSize s) (records-apart s c j e k)
 
-    record-shows : c < s .m → (t : State) → t .directory ≡ st .directory → t .nodes ≡ st .nodes → t .clients ≡ upd (st .clients) c new → Shows s after t
+    record-shows : c < s .m → (t : State) → t .directory ≡ st .directory → t .nodes ≡ st .nodes → t .clients ≡ upd (st .clients) c new → MemoryShows s after t
     record-shows l t d n q =
         record {
           long = put-long s memory (o .long) (recordAt s c) (clientSize s) (record-within s ok c) new after p;
@@ -85,9 +85,9 @@ module _ (s : Measures) (ok : passes s ≡ true) (memory after : List ℕ) (st :
 
   -- an event of client c: refused, nothing changes; else its record does
   module _ (c : ℕ) {room out : List ℕ} (f : List ℕ → ClientEnd) (g : Guarded s c room out f)
-      (p : Put memory (recordAt s c) (recordIn s c memory) (f (recordIn s c memory) .client) after) where
+      (p : PutBack memory (recordAt s c) (recordIn s c memory) (f (recordIn s c memory) .client) after) where
     turn-shows : (a : Answered) (h h′ : History) (returns : ℕ → List Return) (toClient : ℕ → ℕ → List (List ℕ))
-        → Shows s after (cond (isRefused (f (st .clients c) .answer)) (stays a h st) (goes s c (f (st .clients c)) returns toClient h′ st) .state)
+        → MemoryShows s after (cond (isRefused (f (st .clients c) .answer)) (stays a h st) (goes s c (f (st .clients c)) returns toClient h′ st) .state)
     turn-shows a h h′ returns toClient = go (decLt c (s .m))
       where
         unchanged : isRefused (f (recordIn s c memory) .answer) ≡ true → after ≡ memory
@@ -95,80 +95,80 @@ module _ (s : Measures) (ok : passes s ≡ true) (memory after : List ℕ) (st :
             (left-record (f (recordIn s c memory)) (recordIn s c memory) room out (g .left (recordIn s c memory)) e)
 
         known : c < s .m → recordIn s c memory ≡ st .clients c → (b : Bool) → isRefused (f (st .clients c) .answer) ≡ b
-            → Shows s after (cond b (stays a h st) (goes s c (f (st .clients c)) returns toClient h′ st) .state)
+            → MemoryShows s after (cond b (stays a h st) (goes s c (f (st .clients c)) returns toClient h′ st) .state)
         known l e true q = same-shows (unchanged (ap (λ (x : List ℕ). isRefused (f x .answer)) e ∙ q)) _ refl refl refl
         known l e false q =
             record-shows c (f (recordIn s c memory) .client) p l _ refl refl (ap (λ (x : List ℕ). upd (st .clients) c (f x .client)) (sym e))
 
         go : Dec (c < s .m)
-            → Shows s after (cond (isRefused (f (st .clients c) .answer)) (stays a h st) (goes s c (f (st .clients c)) returns toClient h′ st) .state)
+            → MemoryShows s after (cond (isRefused (f (st .clients c) .answer)) (stays a h st) (goes s c (f (st .clients c)) returns toClient h′ st) .state)
         go (yes l) = known l (o .clients c l) (isRefused (f (st .clients c) .answer)) refl
         go (no l) =
             let up : s .m ≤ c = omega arith in
             rw (g .bounded up (st .clients c)) (same-shows (unchanged (g .bounded up (recordIn s c memory))) _ refl refl refl)
 
   -- deposit
-  pub deposit-shows : (c : ℕ) (page : List ℕ) (honest : ℕ → Bool) → Deposits s c page memory after → Shows s after (carryOut s honest (deposit c page) st .state)
+  pub deposit-shows : (c : ℕ) (page : List ℕ) (honest : ℕ → Bool) → Deposits s c page memory after → MemoryShows s after (carryOut s honest (deposit c page) st .state)
   unfolding carryOut
   deposit-shows c page honest p = turn-shows c (λ b. startDeposit s c b page) (deposit-guarded s c page) p _ _ _ _ _
 
   -- read
-  pub read-shows : (c : ℕ) (room : List ℕ) (honest : ℕ → Bool) → Reads s c room memory after → Shows s after (carryOut s honest (reading c room) st .state)
+  pub read-shows : (c : ℕ) (room : List ℕ) (honest : ℕ → Bool) → Reads s c room memory after → MemoryShows s after (carryOut s honest (reading c room) st .state)
   unfolding carryOut
   read-shows c room honest p = turn-shows c (λ b. startReading s c b room) (reading-guarded s c room) p _ _ _ _ _
 
   -- updated
   pub updated-shows : (c : ℕ) (room : List ℕ) (honest : ℕ → Bool) (q : List Return) → st .returns c ≡ updated ∷ q → Updated s c room memory after
-      → Shows s after (carryOut s honest (hand c room) st .state)
+      → MemoryShows s after (carryOut s honest (hand c room) st .state)
   updated-shows c room honest q e p =
       rw (head-updated s honest st c room q e) (turn-shows c (λ b. updateAnswer s c b room) (updated-guarded s c room) p _ _ _ _ _)
 
   -- scanned
   pub scanned-shows : (c : ℕ) (l room : List ℕ) (honest : ℕ → Bool) (q : List Return) → st .returns c ≡ rows l ∷ q → Scanned s c l room memory after
-      → Shows s after (carryOut s honest (hand c room) st .state)
+      → MemoryShows s after (carryOut s honest (hand c room) st .state)
   scanned-shows c l room honest q e p =
       rw (head-rows s honest st c room l q e) (turn-shows c (λ b. scanAnswer s c b l room) (scanned-guarded s c l room) p _ _ _ _ _)
 
   hand-shows : (c : ℕ) (room : List ℕ) (honest : ℕ → Bool) → Returned s c room (st .returns c) memory after
-      → Shows s after (carryOut s honest (hand c room) st .state)
+      → MemoryShows s after (carryOut s honest (hand c room) st .state)
   hand-shows c room honest = go (st .returns c) refl
     where
-      go : (q : List Return) → st .returns c ≡ q → Returned s c room q memory after → Shows s after (carryOut s honest (hand c room) st .state)
+      go : (q : List Return) → st .returns c ≡ q → Returned s c room q memory after → MemoryShows s after (carryOut s honest (hand c room) st .state)
       go [] e p = rw (none-returned s honest st c room e) (same-shows p _ refl refl refl)
       go (updated ∷ q) e p = updated-shows c room honest q e p
       go (rows l ∷ q) e p = scanned-shows c l room honest q e p
 
   -- to_client
   pub to-client-shows : (i c : ℕ) (m room out : List ℕ) (honest : ℕ → Bool) (q : List (List ℕ)) → st .toClient i c ≡ m ∷ q
-      → ToClient s c i m room out memory after → Shows s after (carryOut s honest (deliver i c room out) st .state)
+      → ToClient s c i m room out memory after → MemoryShows s after (carryOut s honest (deliver i c room out) st .state)
   to-client-shows i c m room out honest q e p =
       rw (head-to-client s honest st i c room out m q e)
       (turn-shows c (λ b. clientMessage s c i b m room out) (message-guarded s c i m room out) p _ _ _ _ _)
 
   deliver-shows : (i c : ℕ) (room out : List ℕ) (honest : ℕ → Bool) → Delivered s c i room out (st .toClient i c) memory after
-      → Shows s after (carryOut s honest (deliver i c room out) st .state)
+      → MemoryShows s after (carryOut s honest (deliver i c room out) st .state)
   deliver-shows i c room out honest = go (st .toClient i c) refl
     where
       go : (q : List (List ℕ)) → st .toClient i c ≡ q → Delivered s c i room out q memory after
-          → Shows s after (carryOut s honest (deliver i c room out) st .state)
+          → MemoryShows s after (carryOut s honest (deliver i c room out) st .state)
       go [] e p = rw (none-to-client s honest st i c room out e) (same-shows p _ refl refl refl)
       go (m ∷ q) e p = to-client-shows i c m room out honest q e p
 
   -- to_client, with bytes of a dishonest node
   pub lie-shows : (i c : ℕ) (bytes room out : List ℕ) (honest : ℕ → Bool) → Lied s (honest i) c i bytes room out memory after
-      → Shows s after (carryOut s honest (lie i c bytes room out) st .state)
+      → MemoryShows s after (carryOut s honest (lie i c bytes room out) st .state)
   unfolding carryOut
   lie-shows i c bytes room out honest = go (honest i)
     where
       go : (h : Bool) → Lied s h c i bytes room out memory after
-          → Shows s after (cond h (stays nothing (tick (st .history)) st) (told s c bytes (st .toClient) (clientMessage s c i (st .clients c) bytes room out) st) .state)
+          → MemoryShows s after (cond h (stays nothing (tick (st .history)) st) (told s c bytes (st .toClient) (clientMessage s c i (st .clients c) bytes room out) st) .state)
       go true p = same-shows p _ refl refl refl
       go false p = turn-shows c (λ b. clientMessage s c i b bytes room out) (message-guarded s c i bytes room out) p _ _ _ _ _
 
   -- ---- the directory's table is written back
 
-  module _ (new : List ℕ) (p : Put memory 0 (directoryIn s memory) new after) where
-    directory-shows : (t : State) → t .directory ≡ new → t .nodes ≡ st .nodes → t .clients ≡ st .clients → Shows s after t
+  module _ (new : List ℕ) (p : PutBack memory 0 (directoryIn s memory) new after) where
+    directory-shows : (t : State) → t .directory ≡ new → t .nodes ≡ st .nodes → t .clients ≡ st .clients → MemoryShows s after t
     directory-shows t d n c =
         record {
           long = put-long s memory (o .long) 0 (directorySize s) (directory-fits s) new after p;
@@ -181,19 +181,19 @@ module _ (s : Measures) (ok : passes s ≡ true) (memory after : List ℕ) (st :
         behind = put-after s memory (o .long) 0 (directorySize s) (directory-fits s) new after p
 
   module _ (c : ℕ) (q : List Call) (r : Return) (done same : History) where
-    looked : after ≡ memory → (e : DirectoryEnd) → e .table ≡ st .directory → (a : Served) → Shows s after (carried c q r e done same a st .state)
+    looked : after ≡ memory → (e : DirectoryEnd) → e .table ≡ st .directory → (a : Served) → MemoryShows s after (carried c q r e done same a st .state)
     looked p e k (refuses n) = same-shows p _ refl refl refl
     looked p e k (serves len) = same-shows p _ k refl refl
 
-    put-in : (new : List ℕ) → Put memory 0 (directoryIn s memory) new after → (e : DirectoryEnd) → e .table ≡ new → (a : Served)
-        → Keeps (st .directory) a (e .table) → Shows s after (carried c q r e done same a st .state)
+    put-in : (new : List ℕ) → PutBack memory 0 (directoryIn s memory) new after → (e : DirectoryEnd) → e .table ≡ new → (a : Served)
+        → Keeps (st .directory) a (e .table) → MemoryShows s after (carried c q r e done same a st .state)
     put-in new p e f (refuses n) k =
         same-shows (put-same s memory (o .long) 0 (directorySize s) (directory-fits s) new after p (sym f ∙ k ∙ sym (o .directory))) _ refl refl refl
     put-in new p e f (serves len) k = directory-shows new p _ f refl refl
 
   -- update
   pub update-shows : (c : ℕ) (fields room : List ℕ) (honest : ℕ → Bool) (q : List Call) → st .calls c ≡ updateCall fields ∷ q → Updates s c fields memory after
-      → Shows s after (carryOut s honest (carry c room) st .state)
+      → MemoryShows s after (carryOut s honest (carry c room) st .state)
   update-shows c fields room honest q e p =
       let d = directoryUpdate s c (st .directory) fields in
       rw (head-update s honest st c room fields q e)
@@ -203,7 +203,7 @@ module _ (s : Measures) (ok : passes s ≡ true) (memory after : List ℕ) (st :
 
   -- scan: beside the memory, the answer and the rows are those of the run's directory
   pub scan-shows : (c : ℕ) (room : List ℕ) (honest : ℕ → Bool) (q : List Call) → st .calls c ≡ scanCall ∷ q → after ≡ memory
-      → Shows s after (carryOut s honest (carry c room) st .state) × (directoryScan s (directoryIn s memory) room ≡ directoryScan s (st .directory) room)
+      → MemoryShows s after (carryOut s honest (carry c room) st .state) × (directoryScan s (directoryIn s memory) room ≡ directoryScan s (st .directory) room)
   scan-shows c room honest q e p =
       let d = directoryScan s (st .directory) room in (
         rw (head-scan s honest st c room q e) (looked c q _ _ _ p d (scan-keeps s (st .directory) room) (d .answer)),
@@ -211,17 +211,17 @@ module _ (s : Measures) (ok : passes s ≡ true) (memory after : List ℕ) (st :
       )
 
   carry-shows : (c : ℕ) (room : List ℕ) (honest : ℕ → Bool) → Called s c (st .calls c) memory after
-      → Shows s after (carryOut s honest (carry c room) st .state)
+      → MemoryShows s after (carryOut s honest (carry c room) st .state)
   carry-shows c room honest = go (st .calls c) refl
     where
-      go : (q : List Call) → st .calls c ≡ q → Called s c q memory after → Shows s after (carryOut s honest (carry c room) st .state)
+      go : (q : List Call) → st .calls c ≡ q → Called s c q memory after → MemoryShows s after (carryOut s honest (carry c room) st .state)
       go [] e p = rw (none-called s honest st c room e) (same-shows p _ refl refl refl)
       go (scanCall ∷ q) e p = scan-shows c room honest q e p .0
       go (updateCall fields ∷ q) e p = update-shows c fields room honest q e p
 
   -- ---- node i's table is written back
 
-  module _ (i : ℕ) (new : List ℕ) (p : Put memory (tableAt s i) (tableIn s i memory) new after) where
+  module _ (i : ℕ) (new : List ℕ) (p : PutBack memory (tableAt s i) (tableIn s i memory) new after) where
     table-same : new ≡ tableIn s i memory → after ≡ memory
     table-same = put-same s memory (o .long) (tableAt s i) (tableSize s) (table-within s ok i) new after p
 
@@ -238,7 +238,7 @@ module _ (s : Measures) (ok : passes s ≡ true) (memory after : List ℕ) (st :
         go (yes h) = table-before (tableAt s j) (tableSize s) (tables-apart s j i lo′ h up)
         go (no h) = let e : i < j = omega arith in table-after (tableAt s j) (tableSize s) (tables-apart s i j lo e up′)
 
-    table-shows : 1 ≤ i → i ≤ s .n → (t : State) → t .directory ≡ st .directory → t .nodes ≡ upd (st .nodes) i new → t .clients ≡ st .clients → Shows s after t
+    table-shows : 1 ≤ i → i ≤ s .n → (t : State) → t .directory ≡ st .directory → t .nodes ≡ upd (st .nodes) i new → t .clients ≡ st .clients → MemoryShows s after t
     table-shows lo up t d n c =
         record {
           long = put-long s memory (o .long) (tableAt s i) (tableSize s) (table-within s ok i) new after p;
@@ -258,23 +258,23 @@ module _ (s : Measures) (ok : passes s ≡ true) (memory after : List ℕ) (st :
     there = nodeMessage s i (tableIn s i memory) m room
 
     -- a node out of bounds
-    strange : after ≡ memory → (e : NodeEnd) (a : Served) → Refuses a → Shows s after (keeps c i q e a st .state)
+    strange : after ≡ memory → (e : NodeEnd) (a : Served) → Refuses a → MemoryShows s after (keeps c i q e a st .state)
     strange f e (refuses n) h = same-shows f _ refl refl refl
     strange f e (serves len) h = absurd h
 
-    own : 1 ≤ i → i ≤ s .n → (e : NodeEnd) → there ≡ e → (a : Served) → Keeps (st .nodes i) a (e .table) → Shows s after (keeps c i q e a st .state)
+    own : 1 ≤ i → i ≤ s .n → (e : NodeEnd) → there ≡ e → (a : Served) → Keeps (st .nodes i) a (e .table) → MemoryShows s after (keeps c i q e a st .state)
     unfolding there
     own lo up e f (refuses n) k =
         same-shows (table-same i (there .table) p (ap (λ (x : NodeEnd). x .table) f ∙ k ∙ sym (o .nodes i lo up))) _ refl refl refl
     own lo up e f (serves len) k =
         table-shows i (there .table) p lo up _ refl (ap (λ (x : NodeEnd). upd (st .nodes) i (x .table)) (sym f)) refl
 
-    node-shows : Shows s after (keeps c i q (nodeMessage s i (st .nodes i) m room) (nodeMessage s i (st .nodes i) m room .answer) st .state)
+    node-shows : MemoryShows s after (keeps c i q (nodeMessage s i (st .nodes i) m room) (nodeMessage s i (st .nodes i) m room .answer) st .state)
     unfolding there
     node-shows = go (leb 1 i && leb i (s .n)) refl
       where
         go : (b : Bool) → (leb 1 i && leb i (s .n)) ≡ b
-            → Shows s after (keeps c i q (nodeMessage s i (st .nodes i) m room) (nodeMessage s i (st .nodes i) m room .answer) st .state)
+            → MemoryShows s after (keeps c i q (nodeMessage s i (st .nodes i) m room) (nodeMessage s i (st .nodes i) m room .answer) st .state)
         go true e =
             let b = both-true (leb 1 i) (leb i (s .n)) e in
             let lo = leb-true 1 i (b .0) in
@@ -289,26 +289,26 @@ module _ (s : Measures) (ok : passes s ≡ true) (memory after : List ℕ) (st :
 
   -- to_node
   pub to-node-shows : (c i : ℕ) (m room : List ℕ) (honest : ℕ → Bool) (q : List (List ℕ)) → honest i ≡ true → st .toNode c i ≡ m ∷ q → ToNode s i m room memory after
-      → Shows s after (carryOut s honest (bring c i room) st .state)
+      → MemoryShows s after (carryOut s honest (bring c i room) st .state)
   to-node-shows c i m room honest q h e p = rw (head-to-node s honest st c i room m q h e) (node-shows c i q m room p)
 
   bring-shows : (c i : ℕ) (room : List ℕ) (honest : ℕ → Bool) → Brought s (honest i) i room (st .toNode c i) memory after
-      → Shows s after (carryOut s honest (bring c i room) st .state)
+      → MemoryShows s after (carryOut s honest (bring c i room) st .state)
   bring-shows c i room honest = go (honest i) (st .toNode c i) refl refl
     where
       gone : (m : List ℕ) (q : List (List ℕ)) → honest i ≡ false → st .toNode c i ≡ m ∷ q → after ≡ memory
-          → Shows s after (carryOut s honest (bring c i room) st .state)
+          → MemoryShows s after (carryOut s honest (bring c i room) st .state)
       gone m q h e p = rw (head-lost s honest st c i room m q h e) (same-shows p _ refl refl refl)
 
       go : (h : Bool) (q : List (List ℕ)) → honest i ≡ h → st .toNode c i ≡ q → Brought s h i room q memory after
-          → Shows s after (carryOut s honest (bring c i room) st .state)
+          → MemoryShows s after (carryOut s honest (bring c i room) st .state)
       go true [] h e p = rw (none-to-node s honest st c i room e) (same-shows p _ refl refl refl)
       go false [] h e p = rw (none-to-node s honest st c i room e) (same-shows p _ refl refl refl)
       go true (m ∷ q) h e p = to-node-shows c i m room honest q h e p
       go false (m ∷ q) h e p = gone m q h e p
 
   -- every event
-  pub handed-shows : (honest : ℕ → Bool) (e : Event) → Handed s honest e st memory after → Shows s after (carryOut s honest e st .state)
+  pub handed-shows : (honest : ℕ → Bool) (e : Event) → Handed s honest e st memory after → MemoryShows s after (carryOut s honest e st .state)
   handed-shows honest (deposit c page) p = deposit-shows c page honest p
   handed-shows honest (reading c room) p = read-shows c room honest p
   handed-shows honest (carry c room) p = carry-shows c room honest p

@@ -12,7 +12,7 @@ use Rattle.parties.specs.protocol.DirectoryEvents.{DirectoryEnd, directorySize,
 use Rattle.parties.specs.protocol.NodeEvents.{NodeEnd, tableSize, nodeMessage}
 use Rattle.parties.proofs.protocol.formats.MeasureLaws.{passed}
 use Rattle.parties.proofs.protocol.events.LacksLaws.{Lacks, update-lacks, scan-lacks, node-lacks}
-use Rattle.title.specs.Memory.{directoryIn, tableAt, tableIn, Put}
+use Rattle.title.specs.Memory.{directoryIn, tableAt, tableIn, PutBack}
 use Rattle.title.specs.Part.{Refuses, Stands}
 use Rattle.title.proofs.MemoryLaws.{part-lacks, put-kept, part-lent, put-back}
 
@@ -23,7 +23,7 @@ module _ (s : Measures) (memory : List ℕ) (n : ℕ) (r : Refuses s (length mem
   directory-lacks = part-lacks s 0 (directorySize s) memory (λ h. let l : 1 ≤ rowSize s = omega arith in mul-le-mul (passed s h .clients .0) l) n r
 
   pub update-refused : (c : ℕ) (fields : List ℕ) → let e = directoryUpdate s c (directoryIn s memory) fields in
-      (refuses n ≡ e .answer) × Put memory 0 (directoryIn s memory) (e .table) memory
+      (refuses n ≡ e .answer) × PutBack memory 0 (directoryIn s memory) (e .table) memory
   update-refused c fields =
       let q = update-lacks s (directoryIn s memory) n directory-lacks c fields in (
         ap (λ (e : DirectoryEnd). e .answer) (sym q),
@@ -38,7 +38,7 @@ module _ (s : Measures) (memory : List ℕ) (n : ℕ) (r : Refuses s (length mem
       )
 
   pub node-refused : (i : ℕ) (message room : List ℕ) → let e = nodeMessage s i (tableIn s i memory) message room in
-      (refuses n ≡ e .answer) × Put memory (tableAt s i) (tableIn s i memory) (e .table) memory × (room ≡ e .room)
+      (refuses n ≡ e .answer) × PutBack memory (tableAt s i) (tableIn s i memory) (e .table) memory × (room ≡ e .room)
   node-refused i message room =
       let q =
       node-lacks s (tableIn s i memory) n (part-lacks s (tableAt s i) (tableSize s) memory (λ h. omega arith) n r) i message room
@@ -58,7 +58,7 @@ module _ (s : Measures) (memory : List ℕ) (a b : ℕ) where
     pub directory-updated : (x : Served) (lent : List ℕ) → length lent ≡ length (take (b - a) (drop a memory))
         → (let e = f (take (b - a) (drop a memory)) in (x ≡ e .answer) × (lent ≡ e .table))
         → (x ≡ f (directoryIn s memory) .answer)
-        × Put memory 0 (directoryIn s memory) (f (directoryIn s memory) .table) (take a memory ++ (lent ++ drop (b - a) (drop a memory)))
+        × PutBack memory 0 (directoryIn s memory) (f (directoryIn s memory) .table) (take a memory ++ (lent ++ drop (b - a) (drop a memory)))
     directory-updated x lent l h = (
       h .0 ∙ ap (λ (e : DirectoryEnd). e .answer) directory-same,
       put-back s 0 (directorySize s) memory a b z lent (f (directoryIn s memory) .table) l (h .1 ∙ ap (λ (e : DirectoryEnd). e .table) directory-same),
@@ -76,7 +76,7 @@ module _ (s : Measures) (memory : List ℕ) (a b : ℕ) where
       → length lent ≡ length (take (b - a) (drop a memory))
       → (let e = f (take (b - a) (drop a memory)) in (x ≡ e .answer) × (lent ≡ e .table) × (room ≡ e .room))
       → (x ≡ f (tableIn s i memory) .answer)
-      × Put memory (tableAt s i) (tableIn s i memory) (f (tableIn s i memory) .table) (take a memory ++ (lent ++ drop (b - a) (drop a memory)))
+      × PutBack memory (tableAt s i) (tableIn s i memory) (f (tableIn s i memory) .table) (take a memory ++ (lent ++ drop (b - a) (drop a memory)))
       × (room ≡ f (tableIn s i memory) .room)
   node-told i z f x lent room l h =
       let same : f (take (b - a) (drop a memory)) ≡ f (tableIn s i memory) = ap f (part-lent s (tableAt s i) (tableSize s) memory a b z) in (

@@ -40,7 +40,7 @@ abbrev pub recordIn : Measures → ℕ → List ℕ → List ℕ
 recordIn s c memory = partOf s (recordAt s c) (clientSize s) memory
 
 -- a part is written back in its place: it is as long as it was, and nothing else changes
-pub record Put (memory : List ℕ) (at : ℕ) (old new after : List ℕ) : Type 0 where
+pub record PutBack (memory : List ℕ) (at : ℕ) (old new after : List ℕ) : Type 0 where
   pub long : length new ≡ length old
   pub bytes : after ≡ splice memory at new
 

@@ -9,10 +9,10 @@ use Rattle.parties.specs.protocol.ClientEvents.{startDeposit, startReading, upd
 use Rattle.parties.specs.protocol.DirectoryEvents.{directoryUpdate}
 use Rattle.parties.specs.protocol.NodeEvents.{nodeMessage}
 use Rattle.parties.specs.protocol.Run.{Call, scanCall, updateCall, Return, updated, rows, State, Event, deposit, reading, carry, hand, bring, deliver, lie, fresh, run}
-use Rattle.title.specs.Memory.{memorySize, directoryIn, tableAt, tableIn, recordAt, recordIn, Put}
+use Rattle.title.specs.Memory.{memorySize, directoryIn, tableAt, tableIn, recordAt, recordIn, PutBack}
 
 -- the memory has the tables and records of a state
-pub record Shows (s : Measures) (memory : List ℕ) (st : State) : Type 0 where
+pub record MemoryShows (s : Measures) (memory : List ℕ) (st : State) : Type 0 where
   pub long : memorySize s ≤ length memory
   pub directory : directoryIn s memory ≡ st .directory
   pub nodes : (i : ℕ) → 1 ≤ i → i ≤ s .n → tableIn s i memory ≡ st .nodes i
@@ -21,26 +21,26 @@ pub record Shows (s : Measures) (memory : List ℕ) (st : State) : Type 0 where
 -- ---- what each of its functions leaves of the memory, as its contract says; a scan leaves it as it was
 
 abbrev pub Deposits : Measures → ℕ → List ℕ → List ℕ → List ℕ → Type 0
-Deposits s c page memory after = Put memory (recordAt s c) (recordIn s c memory) (startDeposit s c (recordIn s c memory) page .client) after
+Deposits s c page memory after = PutBack memory (recordAt s c) (recordIn s c memory) (startDeposit s c (recordIn s c memory) page .client) after
 
 abbrev pub Reads : Measures → ℕ → List ℕ → List ℕ → List ℕ → Type 0
-Reads s c room memory after = Put memory (recordAt s c) (recordIn s c memory) (startReading s c (recordIn s c memory) room .client) after
+Reads s c room memory after = PutBack memory (recordAt s c) (recordIn s c memory) (startReading s c (recordIn s c memory) room .client) after
 
 abbrev pub Updated : Measures → ℕ → List ℕ → List ℕ → List ℕ → Type 0
-Updated s c room memory after = Put memory (recordAt s c) (recordIn s c memory) (updateAnswer s c (recordIn s c memory) room .client) after
+Updated s c room memory after = PutBack memory (recordAt s c) (recordIn s c memory) (updateAnswer s c (recordIn s c memory) room .client) after
 
 abbrev pub Scanned : Measures → ℕ → List ℕ → List ℕ → List ℕ → List ℕ → Type 0
-Scanned s c b room memory after = Put memory (recordAt s c) (recordIn s c memory) (scanAnswer s c (recordIn s c memory) b room .client) after
+Scanned s c b room memory after = PutBack memory (recordAt s c) (recordIn s c memory) (scanAnswer s c (recordIn s c memory) b room .client) after
 
 abbrev pub ToClient : Measures → ℕ → ℕ → List ℕ → List ℕ → List ℕ → List ℕ → List ℕ → Type 0
 ToClient s c i message room out memory after =
-    Put memory (recordAt s c) (recordIn s c memory) (clientMessage s c i (recordIn s c memory) message room out .client) after
+    PutBack memory (recordAt s c) (recordIn s c memory) (clientMessage s c i (recordIn s c memory) message room out .client) after
 
 abbrev pub Updates : Measures → ℕ → List ℕ → List ℕ → List ℕ → Type 0
-Updates s c fields memory after = Put memory 0 (directoryIn s memory) (directoryUpdate s c (directoryIn s memory) fields .table) after
+Updates s c fields memory after = PutBack memory 0 (directoryIn s memory) (directoryUpdate s c (directoryIn s memory) fields .table) after
 
 abbrev pub ToNode : Measures → ℕ → List ℕ → List ℕ → List ℕ → List ℕ → Type 0
-ToNode s i message room memory after = Put memory (tableAt s i) (tableIn s i memory) (nodeMessage s i (tableIn s i memory) message room .table) after
+ToNode s i message room memory after = PutBack memory (tableAt s i) (tableIn s i memory) (nodeMessage s i (tableIn s i memory) message room .table) after
 
 -- ---- which function an event is handed to; the queues are the run's
 
@@ -79,6 +79,6 @@ Handed s honest (lie i c bytes room out) st memory after = Lied s (honest i) c i
 -- ---- the memory after a list of events, from one that shows fresh tables and records
 
 pub data Serves (s : Measures) (honest : ℕ → Bool) : List Event → List ℕ → Type 0 where
-  begins : (memory : List ℕ) → Shows s memory (fresh s) → Serves s honest [] memory
+  begins : (memory : List ℕ) → MemoryShows s memory (fresh s) → Serves s honest [] memory
   goes : (es : List Event) (e : Event) (memory after : List ℕ) → Serves s honest es memory
       → Handed s honest e (run s honest es (fresh s)) memory after → Serves s honest (es ++ (e ∷ [])) after

@@ -6,7 +6,7 @@ use Rattle.parties.specs.declared.Measures.{Measures}
 use Rattle.parties.specs.protocol.Run.{State}
 use Rattle.parties.specs.protocol.Claim.{Claim}
 use Rattle.title.specs.Memory.{directoryIn, tableIn, recordIn}
-use Rattle.title.specs.Service.{Shows}
+use Rattle.title.specs.Service.{MemoryShows}
 
 -- a run's state, with the memory's tables and records in place of its own
 abbrev pub inMemory : Measures → List ℕ → State → State
@@ -24,7 +24,7 @@ inMemory s memory st =
 
 pub record ServiceClaim (s : Measures) (honest : ℕ → Bool) (memory : List ℕ) (st : State) : Type 0 where
   -- the memory has the run's tables and records
-  pub shows : Shows s memory st
+  pub shows : MemoryShows s memory st
   -- the claim holds of the run
   pub ofRun : Claim s honest st
   -- and of the memory itself: an honest node's table there reads; named by an open reading's pointer it has the piece, and of one writer at most 2m
