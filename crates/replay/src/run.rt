@@ -153,10 +153,10 @@ fn happens(
         Event::Carry(c) => event::carry(s, c, memory, room, post, used),
         Event::Hand(c) => event::hand(s, c, memory, room, post, used),
         Event::Bring(c, i) => event::bring(s, liars, c, i, memory, room, post, used),
-        Event::Deliver(i, c) => event::deliver(s, i, c, memory, room, out, post, used),
+        Event::Deliver(i, c) => event::deliver(s, c, i, memory, room, out, post, used),
         Event::Lie(i, c, len) => {
             let n = least(len, page.len());
-            event::lie(s, liars, i, c, &page[0..n], memory, room, out, post, used)
+            event::lie(s, liars, c, i, &page[0..n], memory, room, out, post, used)
         }
     }
 }

@@ -10,11 +10,12 @@ use lib.ListN.{length}
 use Rattle.parties.specs.declared.Measures.{Measures}
 use Rattle.parties.specs.protocol.Measures.{passes}
 use Rattle.parties.specs.protocol.Nodes.{stands}
-use Rattle.parties.specs.protocol.Answer.{number, Served, refuses, serves}
+use Rattle.parties.specs.protocol.Answer.{number}
 use Rattle.parties.specs.protocol.ClientEvents.{roomSize, startReading, updateAnswer, scanAnswer, clientMessage}
 use Rattle.parties.specs.protocol.DirectoryEvents.{directoryScan}
 use Rattle.parties.specs.protocol.NodeEvents.{nodeMessage}
 use Rattle.parties.specs.protocol.Run.{State, Call, scanCall, updateCall, Return, updated, rows, Event, deposit, reading, carry, hand, bring, deliver, lie}
+use Rattle.parties.specs.protocol.Claim.{servedNumber}
 use Rattle.parties.specs.protocol.Run.{Answered, nothing, byClient, byServer, carryOut, fresh, run}
 use Rattle.parties.specs.records.Answer.{number as numberOf}
 use Rattle.parties.specs.Answer.{served}
@@ -84,16 +85,12 @@ answerOf (Happened.ByClient a) = some (byClient (answered a))
 answerOf (Happened.ByServer a) = some (byServer (served a))
 
 -- document 01's number of an answer, if it has one
-abbrev pub numberServed : Served → Option ℕ
-numberServed (refuses n) = some n
-numberServed (serves len) = none
-
 abbrev pub numberHappened : Happened → Option ℕ
 numberHappened (Happened.Refused r) = some (numberOf r)
 numberHappened Happened.Nothing = none
 numberHappened Happened.Taken = none
 numberHappened (Happened.ByClient a) = number (answered a)
-numberHappened (Happened.ByServer a) = numberServed (served a)
+numberHappened (Happened.ByServer a) = servedNumber (served a)
 
 -- the output after an event that has one
 abbrev pub outDelivered : Measures → ℕ → ℕ → List ℕ → List ℕ → List ℕ → List (List ℕ) → List ℕ

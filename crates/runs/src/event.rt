@@ -396,7 +396,7 @@ fn bring_honest(
     serves(s, TO_CLIENT, c, i, a, &none[..0], room, post, used, at, end)
 }
 
-// A message to a dishonest node.
+// A message to a dishonest node is gone; all but the slice of parcels is for the contract alone.
 fn bring_dishonest(
     s: Measures,
     c: usize,
@@ -612,8 +612,8 @@ pub fn bring(
 // The oldest message from node i to client c is handed over.
 pub fn deliver(
     s: Measures,
-    i: usize,
     c: usize,
+    i: usize,
     memory: &mut [u8],
     room: &mut [u8],
     out: &mut [u8],
@@ -642,8 +642,8 @@ pub fn deliver(
 // Bytes of a dishonest node go to the client at once.
 fn lie_dishonest(
     s: Measures,
-    i: usize,
     c: usize,
+    i: usize,
     bytes: &[u8],
     memory: &mut [u8],
     room: &mut [u8],
@@ -679,8 +679,8 @@ fn lie_dishonest(
 pub fn lie(
     s: Measures,
     liars: u16,
-    i: usize,
     c: usize,
+    i: usize,
     bytes: &[u8],
     memory: &mut [u8],
     room: &mut [u8],
@@ -693,7 +693,7 @@ pub fn lie(
         (record { memory = now (memory .exit); post = now (post .exit); room = now (room .exit); out = now (out .exit) }) r ⌝ }
 {
     if has_node(liars, i) {
-        return lie_dishonest(s, i, c, bytes, memory, room, out, post, used);
+        return lie_dishonest(s, c, i, bytes, memory, room, out, post, used);
     }
     match look_ahead(s, TO_CLIENT, c, i, post, used) {
         Ahead::Refused(x) => EventEnd {

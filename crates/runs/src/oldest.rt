@@ -65,7 +65,7 @@ pub fn oldest(
             if kind == TO_NODE {
                 return bring(s, 0, c, i, memory, room, post, used);
             }
-            deliver(s, i, c, memory, room, out, post, used)
+            deliver(s, c, i, memory, room, out, post, used)
         }
     }
 }

@@ -43,7 +43,7 @@ fn adds(i: usize, v: Version, area: &[u8], at: usize) -> bool
     !stands(u16_at(area, at + 5), i)
 }
 
-// With the last node the pointer is formed, and its update called.
+// With the last node the pointer is formed, and its update called; node and version are for the contract alone.
 fn publish(
     s: Measures,
     i: usize,

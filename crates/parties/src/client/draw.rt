@@ -46,7 +46,7 @@ fn larger(a: Sequence, b: Sequence) -> Sequence
     b
 }
 
-// The written sequence of row i, which starts with its map.
+// The written sequence of row i, which starts with its map; the measures are for the contract alone.
 fn written_sequence(s: Measures, size: usize, rows: &[u8], i: usize) -> Sequence
     requires { ⌜ (passes s ≡ true) × (size ≡ rowSize s) × (isSome (readDirectory s (now rows)) ≡ true) × (i < s .m) ⌝ }
     ensures { λ r. ⌜ r ≡ getD (rowsOf (readDirectory s (now (rows .entry)))) i noRow .written .version .sequence ⌝ }
@@ -90,7 +90,7 @@ fn put_digest(t: &mut [u8], at: usize, d: [u8; 32])
     }
 }
 
-// The digest of a node's piece of a version, which goes by the piece alone.
+// The digest of a node's piece of a version. It goes by the piece; version and node are for the contract alone.
 pub fn digest_piece(v: Version, node: usize, piece: &[u8]) -> [u8; 32]
     ensures { λ r. ⌜ r ≡ pieceDigest (writeVersion v) node (now (piece .entry)) ⌝ }
 {

@@ -27,7 +27,7 @@ ghost use Rattle.parties.specs.client.Found.{retainedIn};
 ghost use Rattle.parties.specs.client.Freeze.{keptVersions, freedBy, frozenNow, reservedNow};
 ghost use Rattle.parties.specs.client.FreeList.{Holds, Added, Adds, Listing, Frees, freedUpTo};
 
-// What the area retains.
+// What the area retains; of the written version the measures are for the contract alone.
 fn written_version(s: Measures, area: &[u8]) -> Version
     requires { ⌜ Holds s (now area) ⌝ }
     ensures { λ r. ⌜ r ≡ retainedIn s (now (area .entry)) .written .version ⌝ }

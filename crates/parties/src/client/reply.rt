@@ -240,7 +240,7 @@ fn join_with(
     a
 }
 
-// The k-th matching piece: the pieces are joined, or refused.
+// The k-th matching piece: the pieces are joined, or refused. The version of the reply is for the contract alone.
 fn finish(
     s: Measures,
     i: usize,

@@ -28,7 +28,7 @@ ghost use Rattle.parties.specs.client.Answer.{answered};
 ghost use Rattle.parties.specs.client.Record.{recordOf, isSome};
 ghost use Rattle.parties.specs.client.Scan.{scannedEnd, spentEnd};
 
-// A deposit that has no sequence ends: its page is cleared.
+// A deposit that has no sequence ends: its page is cleared. The room is for the contract alone.
 fn give_up(s: Measures, p: Phase, area: &mut [u8], room: &[u8]) -> Turned
     requires { ⌜ (passes s ≡ true) × (isSome (readClient s (recordOf p (now area))) ≡ true) ⌝ }
     ensures { λ r. ⌜ (answered (r .answer) ≡ spentEnd s (recordOf p (now (area .entry))) (now (room .entry)) .answer)

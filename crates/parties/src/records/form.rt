@@ -121,7 +121,7 @@ fn pointers_if(s: Measures, stands: bool, n: usize, t: &[u8], at: usize) -> Form
     pointers(s, n, t, at)
 }
 
-// A field of n indices, if its bit stands.
+// A field of n indices, if its bit stands; the measures are for the contract alone.
 fn indices_if(s: Measures, stands: bool, n: usize, t: &[u8], at: usize) -> Form
     requires { ⌜ (n ≤ 8) × (at ≤ length (now t)) ⌝ }
     ensures { λ r. ⌜ Formed (now (t .entry)) at (afterIf s (Field.indices n) stands (drop at (now (t .entry)))) r ⌝ }
