@@ -222,7 +222,7 @@ fn takes(
     EventEnd { used: to, what }
 }
 
-// The directory's or a node's answer to it: the front, then so many bytes of the room.
+// The directory's or a node's answer to it: the front, then so many bytes of the room. The measures are for the contract alone.
 fn serves(
     s: Measures,
     kind: u8,

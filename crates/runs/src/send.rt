@@ -19,7 +19,7 @@ ghost use Rattle.parties.specs.client.Answer.{answered};
 ghost use Rattle.runs.specs.Parcels.{Appended};
 ghost use Rattle.runs.specs.Sent.{callBy, messageIn, messagesBy, sent, longestCall, longestMessage, needed, Sized};
 
-// A directory call, if the answer is one.
+// A directory call, if the answer is one; the measures are for the contract alone.
 fn send_call(
     s: Measures,
     c: usize,
