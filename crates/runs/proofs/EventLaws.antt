@@ -1,6 +1,5 @@
 -- The parts of an event: what its tests tell, and what its answers put under way.
 use mathlib.Core.Path.{_≡_, refl, sym, ap, subst, _∙_}
-use mathlib.Core.Option.{Option, some, none}
 use mathlib.Core.Bool.{Bool, true, false, cond, not, _&&_, false≢true}
 use mathlib.Core.Logic.{_⊎_, inl, inr}
 use mathlib.Core.List.{List, [], _∷_, _++_}
@@ -17,14 +16,12 @@ use denote.Enum.Declared.{tagOf}
 use Rattle.parties.specs.declared.Measures.{Measures}
 use Rattle.parties.specs.protocol.Measures.{passes}
 use Rattle.parties.specs.Sizes.{sized as sizedFor}
-use Rattle.parties.specs.protocol.Format.{Read, whole}
-use Rattle.parties.specs.protocol.Directory.{Content, Row, readRecord, readDirectory}
 use Rattle.parties.specs.protocol.Client.{clientSize}
 use Rattle.parties.specs.protocol.Answer.{Served, refuses, serves}
 use Rattle.parties.specs.protocol.ClientEvents.{roomSize, startReading, updateAnswer, scanAnswer, clientMessage}
-use Rattle.parties.specs.protocol.DirectoryEvents.{directorySize, directoryUpdate, directoryScan, onTable}
+use Rattle.parties.specs.protocol.DirectoryEvents.{directorySize, directoryUpdate, directoryScan}
 use Rattle.parties.specs.protocol.NodeEvents.{tableSize, answerSize, nodeMessage}
-use Rattle.parties.proofs.protocol.events.SentLengths.{reading-bounded, updated-bounded, scanned-bounded, message-bounded, ServedIn, scan-bounded, node-bounded}
+use Rattle.parties.proofs.protocol.events.SentLengths.{reading-bounded, updated-bounded, scanned-bounded, message-bounded, ServedIn, scan-bounded, update-bounded, node-bounded}
 use Rattle.title.specs.Part.{Refuses, Placed}
 use Rattle.title.specs.declared.memory.Part.{Part}
 use Rattle.title.proofs.PartLaws.{both-true}
@@ -288,21 +285,8 @@ module _ (s : Measures) (memory : List ℕ) (bytes : (i : ℕ) → getD memory i
 pub scan-length : (s : Measures) (a : Service) (table room : List ℕ) → served a ≡ directoryScan s table room .answer → lengthOf (served a) ≤ directorySize s
 scan-length s a table room e = in-length (served a) (directorySize s) (subst (ServedIn (directorySize s)) (sym e) (scan-bounded s table room))
 
--- an update is answered with no bytes
 pub update-length : (s : Measures) (a : Service) (c : ℕ) (table fields : List ℕ) → served a ≡ directoryUpdate s c table fields .answer → lengthOf (served a) ≤ 0
-unfolding directoryUpdate
-update-length s a c table fields e =
-    in-length (served a) 0 (subst (ServedIn 0) (sym e) (go (passes s) (leb (directorySize s) (length table)) (ltb c (s .m)) (readDirectory s table) (whole (readRecord s) fields)))
-  where
-    go : (x y z : Bool) (r : Option (Read (List Row))) (u : Option (List (Option Content)))
-        → ServedIn 0 (cond x (cond y (cond z (onTable s c table r u) (record { answer = refuses 3; table = table; room = [] }))
-        (record { answer = refuses 2; table = table; room = [] })) (record { answer = refuses 1; table = table; room = [] }) .answer)
-    go true true true none u = tt
-    go true true true (some r) none = tt
-    go true true true (some r) (some u) = omega arith
-    go true true false r u = tt
-    go true false z r u = tt
-    go false y z r u = tt
+update-length s a c table fields e = in-length (served a) 0 (subst (ServedIn 0) (sym e) (update-bounded s c table fields))
 
 -- there is room for a node's answer
 pub answer-fits : (s : Measures) → passes s ≡ true → 8 + answerSize s ≤ needed s

@@ -1,49 +1,28 @@
 -- Starts of deposits with pages that are too long: all are refused alike.
 use mathlib.Core.Path.{_≡_, sym, subst}
-use mathlib.Core.Bool.{Bool, true, false, cond}
-use mathlib.Core.List.{List, []}
-use mathlib.Core.Option.{Option, some, none}
+use mathlib.Core.Bool.{Bool}
+use mathlib.Core.List.{List}
 use Prim.Native.Nat.{ℕ, _-_, _*_, _<_}
 use borrow.Author.Tests.{ltb-true}
-use lib.Dec.{leb, ltb}
 use lib.ListN.{length}
 use Rattle.parties.specs.declared.Measures.{Measures}
-use Rattle.parties.specs.protocol.ClientEvents.{ClientEnd, startDeposit, beginDeposit, onClient, unchanged, after, withPhase, isIdle, stays, does}
-use Rattle.parties.specs.protocol.Measures.{passes}
-use Rattle.parties.specs.protocol.Format.{Read}
-use Rattle.parties.specs.protocol.Client.{Client, readClient, clientSize, scanning}
-use Rattle.parties.specs.protocol.Answer.{scan, refused}
+use Rattle.parties.specs.protocol.ClientEvents.{ClientEnd, startDeposit}
 use Rattle.parties.specs.declared.ClientAnswer.{ClientAnswer as Answer}
 use Rattle.parties.specs.client.Answer.{answered}
 use Rattle.parties.specs.protocol.Run.{deposit}
 use Rattle.parties.proofs.protocol.events.DepositStartLaws.{too-long}
+use Rattle.parties.proofs.protocol.events.SentLengths.{deposit-bounded}
 use Rattle.title.specs.Memory.{recordIn}
 use Rattle.runs.specs.declared.answer.EventEnd.{EventEnd}
 use Rattle.runs.specs.Acts.{Lent, AtClient, Acts}
 use Rattle.runs.specs.Happens.{Unready, Ready, Happens}
 use Rattle.runs.specs.Oldest.{alone}
 use Rattle.runs.specs.Sent.{Sized}
+use Rattle.runs.proofs.SendLaws.{sized}
 use Rattle.runs.proofs.GoesLaws.{deposit-goes}
 
--- a start of a deposit sends a scan's call, or nothing
-pub deposit-sized : (s : Measures) (c : ℕ) (b page : List ℕ) → Sized s (startDeposit s c b page .answer)
-unfolding startDeposit beginDeposit
-deposit-sized s c b page = go (passes s) (leb (clientSize s) (length b)) (ltb c (s .m)) (readClient s b)
-  where
-    begun : (r : Read Client) (x y : Bool)
-        → Sized s (after s b [] [] (r .rest) (cond x (cond y (does scan (withPhase (scanning page) (r .value)) [] []) (stays (refused 6))) (stays (refused 5))) .answer)
-    begun r true true = tt
-    begun r true false = tt
-    begun r false y = tt
-
-    go : (x y z : Bool) (r : Option (Read Client))
-        → Sized s (cond x (cond y (cond z (onClient s b [] [] r (λ k. beginDeposit s k page)) (unchanged (refused 3) b [] [])) (unchanged (refused 2) b [] []))
-        (unchanged (refused 1) b [] []) .answer)
-    go true true true none = tt
-    go true true true (some r) = begun r (isIdle (r .value .phase)) (leb (length page) (s .k * s .f - 4))
-    go true true false r = tt
-    go true false z r = tt
-    go false y z r = tt
+deposit-sized : (s : Measures) (c : ℕ) (b page : List ℕ) → Sized s (startDeposit s c b page .answer)
+deposit-sized s c b page = sized s (startDeposit s c b page .answer) (deposit-bounded s c b page)
 
 pub deposited-sized : (s : Measures) (a : Answer) (c : ℕ) (b page : List ℕ) → answered a ≡ startDeposit s c b page .answer → Sized s (answered a)
 deposited-sized s a c b page e = subst (Sized s) (sym e) (deposit-sized s c b page)

@@ -19,11 +19,11 @@ use Rattle.parties.specs.declared.NextSequence.{NextSequence}
 use Rattle.parties.specs.declared.NextIndex.{NextIndex}
 use Rattle.parties.specs.declared.Version.{Version}
 use Rattle.parties.specs.protocol.Measures.{passes, pointerSize, rowSize}
-use Rattle.parties.specs.protocol.Format.{Read, writeNumber, writeMany}
+use Rattle.parties.specs.protocol.Format.{Read, whole, writeNumber, writeMany}
 use Rattle.parties.specs.protocol.Version.{nextSequence, nextIndex}
 use Rattle.parties.specs.protocol.Nodes.{count, stands, withNode}
 use Rattle.parties.specs.protocol.Pointer.{Pointer, isNone, writeVersion}
-use Rattle.parties.specs.protocol.Directory.{Content, Row, readDirectory, writeIndex, writeContent, writeFields, mapOf, writeRecord, writeRow, rowFields, freshRow, merge, updateRow}
+use Rattle.parties.specs.protocol.Directory.{Content, Row, readDirectory, writeIndex, writeContent, writeFields, mapOf, readRecord, writeRecord, writeRow, rowFields, freshRow, merge, updateRow}
 use Rattle.parties.specs.protocol.Message.{ToNode, ToClient, answer, readToClient, readToNode, writeToNode, writeToClient}
 use Rattle.parties.specs.protocol.NodeTable.{Held, readTable}
 use Rattle.parties.specs.protocol.Node.{handBack}
@@ -34,7 +34,7 @@ use Rattle.parties.specs.protocol.Answer.{ClientAnswer, refused, waits, 
 use Rattle.parties.specs.protocol.ClientEvents.{Step, stays, does, after, onClient, unchanged, roomSize, withPhase, lay, isIdle, beginDeposit, beginReading, raise}
 use Rattle.parties.specs.protocol.ClientEvents.{acknowledgedAt, acknowledge, scannedAt, draw, freeze, storedAt, goOn, joinedAt, counted, repliedAt, messageAt, onRows, onMessage}
 use Rattle.parties.specs.protocol.ClientEvents.{startDeposit, startReading, updateAnswer, scanAnswer, clientMessage}
-use Rattle.parties.specs.protocol.DirectoryEvents.{directorySize, directoryScan, scanned as rowsIn}
+use Rattle.parties.specs.protocol.DirectoryEvents.{directorySize, directoryScan, scanned as rowsIn, directoryUpdate, onTable}
 use Rattle.parties.specs.protocol.NodeEvents.{tableSize, answerSize, heldAfter, answerTo, kept, nodeMessage, onMessage as onNode}
 use Rattle.parties.proofs.protocol.formats.MeasureLaws.{Passed, passed}
 use Rattle.parties.proofs.protocol.formats.PointerLaws.{GoodPointer, length-number, length-version}
@@ -228,12 +228,12 @@ module _ (s : Measures) (p : Passed s) where
 
 -- ---- events of a client, whatever bytes its record has
 
+bounded-after : (s : Measures) (b room out rest : List ℕ) (x : Step) → BoundedStep s x → Bounded s (after s b room out rest x .answer)
+bounded-after s b room out rest (stays a) h = h
+bounded-after s b room out rest (does a c r o) h = h
+
 -- behind the three tests a step is done on the record that the bytes show
 module _ (s : Measures) (b room out : List ℕ) (bytes : Bytes b) (f : Client → Step) where
-  bounded-after : (rest : List ℕ) (x : Step) → BoundedStep s x → Bounded s (after s b room out rest x .answer)
-  bounded-after rest (stays a) h = h
-  bounded-after rest (does a c r o) h = h
-
   bounded-tested : (x y z : Bool) → (passes s ≡ true → z ≡ true → (c : Client) → GoodClient s c → BoundedStep s (f c)) → passes s ≡ x
       → Bounded s (cond x (cond y (cond z (onClient s b room out (readClient s b) f) (unchanged (refused 3) b room out)) (unchanged (refused 2) b room out))
       (unchanged (refused 1) b room out) .answer)
@@ -241,17 +241,26 @@ module _ (s : Measures) (b room out : List ℕ) (bytes : Bytes b) (f : Client �
     where
       go : (r : Option (Read Client)) → readClient s b ≡ r → Bounded s (onClient s b room out r f .answer)
       go nothing q = tt
-      go (some r) q = bounded-after (r .rest) (f (r .value)) (h e refl (r .value) (client-only s b r bytes q .0))
+      go (some r) q = bounded-after s b room out (r .rest) (f (r .value)) (h e refl (r .value) (client-only s b r bytes q .0))
   bounded-tested true true false h e = tt
   bounded-tested true false z h e = tt
   bounded-tested false y z h e = tt
 
-module _ (s : Measures) (own : ℕ) (b : List ℕ) (bytes : Bytes b) where
-  pub deposit-bounded : (new : List ℕ) → Bounded s (startDeposit s own b new .answer)
-  unfolding startDeposit
-  deposit-bounded new =
-      bounded-tested s b [] [] bytes (λ c. beginDeposit s c new) (passes s) (leb (clientSize s) (length b)) (ltb own (s .m)) (λ p z c g. bounded-deposit s c new) refl
+-- a deposit's start sends a scan's call or nothing, whatever stands in the record
+pub deposit-bounded : (s : Measures) (own : ℕ) (b new : List ℕ) → Bounded s (startDeposit s own b new .answer)
+unfolding startDeposit
+deposit-bounded s own b new = go (passes s) (leb (clientSize s) (length b)) (ltb own (s .m)) (readClient s b)
+  where
+    go : (x y z : Bool) (r : Option (Read Client))
+        → Bounded s (cond x (cond y (cond z (onClient s b [] [] r (λ c. beginDeposit s c new)) (unchanged (refused 3) b [] [])) (unchanged (refused 2) b [] []))
+        (unchanged (refused 1) b [] []) .answer)
+    go true true true nothing = tt
+    go true true true (some r) = bounded-after s b [] [] (r .rest) (beginDeposit s (r .value) new) (bounded-deposit s (r .value) new)
+    go true true false r = tt
+    go true false z r = tt
+    go false y z r = tt
 
+module _ (s : Measures) (own : ℕ) (b : List ℕ) (bytes : Bytes b) where
   pub reading-bounded : (room : List ℕ) → Bounded s (startReading s own b room .answer)
   unfolding startReading
   reading-bounded room =
@@ -306,6 +315,21 @@ scan-bounded s table room = go (passes s) (leb (directorySize s) (length table) 
     go true true (some r) = omega arith
     go true false r = tt
     go false y r = tt
+
+-- an update is answered with no bytes
+pub update-bounded : (s : Measures) (c : ℕ) (table fields : List ℕ) → ServedIn 0 (directoryUpdate s c table fields .answer)
+unfolding directoryUpdate
+update-bounded s c table fields = go (passes s) (leb (directorySize s) (length table)) (ltb c (s .m)) (readDirectory s table) (whole (readRecord s) fields)
+  where
+    go : (x y z : Bool) (r : Option (Read (List Row))) (u : Option (List (Option Content)))
+        → ServedIn 0 (cond x (cond y (cond z (onTable s c table r u) (record { answer = refuses 3; table = table; room = [] }))
+        (record { answer = refuses 2; table = table; room = [] })) (record { answer = refuses 1; table = table; room = [] }) .answer)
+    go true true true nothing u = tt
+    go true true true (some r) nothing = tt
+    go true true true (some r) (some u) = omega arith
+    go true true false r u = tt
+    go true false z r u = tt
+    go false y z r u = tt
 
 -- a piece of a place
 held-short : (s : Measures) (h : Held) → FitsPlace s h → length (h .piece) ≤ s .f
