@@ -1,5 +1,6 @@
 pub mod Answer
 pub mod Record
+pub mod Step
 pub mod Pick
 pub mod Gate
 pub mod Draw

@@ -34,11 +34,12 @@ use Rattle.parties.proofs.protocol.formats.PointerLaws.{length-number, 
 use Rattle.parties.proofs.protocol.formats.NodeMapLaws.{with-below}
 use Rattle.parties.proofs.protocol.formats.ClientLaws.{GoodDigest, ShortPiece, GoodPhase, map-fits, length-areas, length-retained}
 use Rattle.parties.specs.declared.Phase.{Phase}
-use Rattle.parties.specs.declared.Turned.{Turned}
+use Rattle.parties.specs.declared.ClientAnswer.{ClientAnswer}
 use Rattle.parties.specs.declared.client.reply.Standing.{Standing}
 use Rattle.parties.specs.client.Answer.{answered}
 use Rattle.parties.specs.records.Places.{numberAt}
 use Rattle.parties.specs.client.Record.{recordOf, workAt}
+use Rattle.parties.specs.client.Step.{phaseAfter}
 use Rattle.parties.specs.client.Reply.{repliedEnd, mapsAt, standingAt, countsAt, digestPlace, matchesAt, wentOn, cleared, mapped, areaPut, piecePut, lengthsWith}
 use Rattle.parties.proofs.client.FormLaws.{sizes}
 use Rattle.parties.proofs.client.AreaLaws.{ShownClient, written-parts, area-length, idle-work, turned-written}
@@ -376,8 +377,8 @@ module _ (s : Measures) (h : passes s ≡ true) (p : Phase) (area : List ℕ) (c
   module _ (n' m' : ℕ) (fits : n' < 256 ^ 2) (bits : m' < 2 ^ s .n) (few : count m' < s .k) (room out : List ℕ) where
     going : (client : List ℕ) → after s client room out rest (goOn c room out q n' m' ps)
         ≡ record {
-          answer = answered (wentOn p (allCounted q n') .answer);
-          client = recordOf (wentOn p (allCounted q n') .phase) (cond (allCounted q n') (cleared s area) (mapped s n' m' area));
+          answer = answered (wentOn (allCounted q n'));
+          client = recordOf (phaseAfter p (wentOn (allCounted q n'))) (cond (allCounted q n') (cleared s area) (mapped s n' m' area));
           room = room;
           out = out;
         }
@@ -393,8 +394,8 @@ module _ (s : Measures) (h : passes s ≡ true) (p : Phase) (area : List ℕ) (c
 
         go : (b : Bool) → after s client room out rest (cond b (does failed (withPhase Work.idle c) room out) (does waits (withPhase (Work.fetching q n' m' ps) c) room out))
             ≡ record {
-              answer = answered (wentOn p b .answer);
-              client = recordOf (wentOn p b .phase) (cond b (cleared s area) (mapped s n' m' area));
+              answer = answered (wentOn b);
+              client = recordOf (phaseAfter p (wentOn b)) (cond b (cleared s area) (mapped s n' m' area));
               room = room;
               out = out;
             }
@@ -509,20 +510,20 @@ module _ (s : Measures) (p : Phase) (area : List ℕ) (opened : Opened s p area)
       -- what goes on ends as the code leaves it
       abbrev Ends : Standing → List ℕ → Option (List ℕ) → ℕ → ℕ → Type 0
       Ends x t y n' m' =
-          (room out : List ℕ) (r : Turned) → r ≡ wentOn p (all (stands n') (nodesIn (x .named)))
+          (room out : List ℕ) (r : ClientAnswer) → r ≡ wentOn (all (stands n') (nodesIn (x .named)))
           → (a : List ℕ) → a ≡ cond (all (stands n') (nodesIn (x .named))) (cleared s t) (mapped s n' m' t)
-          → repliedEnd s i v y client room out ≡ record { answer = answered (r .answer); client = recordOf (r .phase) a; room = room; out = out }
+          → repliedEnd s i v y client room out ≡ record { answer = answered r; client = recordOf (phaseAfter p r) a; room = room; out = out }
 
       ends-at : (t : List ℕ) (y : Option (List ℕ)) (n' m' : ℕ)
           → ((room out : List ℕ) → repliedEnd s i v y client room out
           ≡ record {
-            answer = answered (wentOn p (allCounted (held .pointer) n') .answer);
-            client = recordOf (wentOn p (allCounted (held .pointer) n') .phase) (cond (allCounted (held .pointer) n') (cleared s t) (mapped s n' m' t));
+            answer = answered (wentOn (allCounted (held .pointer) n'));
+            client = recordOf (phaseAfter p (wentOn (allCounted (held .pointer) n'))) (cond (allCounted (held .pointer) n') (cleared s t) (mapped s n' m' t));
             room = room;
             out = out;
           }) → Ends st t y n' m'
       ends-at t y n' m' f room out r re a ae =
-          f room out ∙ (λ j. record { answer = answered (sym re j .answer); client = recordOf (sym re j .phase) (sym ae j); room = room; out = out })
+          f room out ∙ (λ j. record { answer = answered (sym re j); client = recordOf (phaseAfter p (sym re j)) (sym ae j); room = room; out = out })
 
       went : (y : Option (List ℕ)) → countsAt st i v ≡ true
           → ((room out : List ℕ) → counted s i (read .value) room out (held .pointer) (withNode (held .counted) i) (held .matching) (held .pieces) y

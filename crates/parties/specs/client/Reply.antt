@@ -15,12 +15,10 @@ use Rattle.parties.specs.protocol.Format.{writeNumber, writeArea}
 use Rattle.parties.specs.protocol.Measures.{pointerSize}
 use Rattle.parties.specs.protocol.Nodes.{stands}
 use Rattle.parties.specs.protocol.Pointer.{writeVersion}
-use Rattle.parties.specs.protocol.Client.{idleStep, readClient, workSize}
+use Rattle.parties.specs.protocol.Client.{readClient, workSize}
 use Rattle.parties.specs.protocol.Reading.{sameVersion, sameBytes}
 use Rattle.parties.specs.protocol.ClientEvents.{ClientEnd, onClient, repliedAt}
 use Rattle.parties.specs.declared.ClientAnswer.{ClientAnswer}
-use Rattle.parties.specs.declared.Phase.{Phase}
-use Rattle.parties.specs.declared.Turned.{Turned}
 use Rattle.parties.specs.declared.client.reply.Standing.{Standing}
 use Rattle.parties.specs.records.Places.{numberAt, versionAt}
 use Rattle.parties.specs.client.Record.{workAt}
@@ -54,10 +52,9 @@ matchesAt f v i piece t at =
 
 -- ---- what the code writes
 
--- every named node counted or not: the phase and the answer, and the area
-abbrev pub wentOn : Phase → Bool → Turned
-wentOn p b =
-    cond b (record { phase = record { step = idleStep; reading = p .reading }; answer = ClientAnswer.Failed }) (record { phase = p; answer = ClientAnswer.Waits })
+-- every named node counted or not: the answer, and the area
+abbrev pub wentOn : Bool → ClientAnswer
+wentOn b = cond b ClientAnswer.Failed ClientAnswer.Waits
 
 unfoldable pub cleared : Measures → List ℕ → List ℕ
 cleared s area = paste area (workAt s) (replicate (workSize s) 0) (workSize s)

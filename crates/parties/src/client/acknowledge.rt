@@ -2,13 +2,11 @@
 use crate::ClientAnswer;
 use crate::Measures;
 use crate::Phase;
-use crate::Turned;
 use crate::Version;
 use crate::client::form::work_at;
 use crate::client::publish::form_pointer;
 use crate::client::publish::put_update;
 use crate::client::step::STORING;
-use crate::client::step::UPDATING;
 use crate::records::bytes::put_u16;
 use crate::records::bytes::u16_at;
 use crate::records::nodes::count;
@@ -29,6 +27,7 @@ ghost use Rattle.parties.specs.protocol.ClientEvents.{roomSize};
 ghost use Rattle.parties.specs.client.Answer.{answered};
 ghost use Rattle.parties.specs.client.Record.{recordOf, isSome, workAt};
 ghost use Rattle.parties.specs.records.Places.{versionAt, numberAt};
+ghost use Rattle.parties.specs.client.Step.{phaseAfter};
 ghost use Rattle.parties.specs.client.Publish.{storedEnd};
 
 // The work stores this version, and the node is not among those that acknowledged it.
@@ -43,7 +42,7 @@ fn adds(i: usize, v: Version, area: &[u8], at: usize) -> bool
     !stands(u16_at(area, at + 5), i)
 }
 
-// With the last node the pointer is formed, and its update called; node and version are for the contract alone.
+// With the last node the pointer is formed, and its update called; node, version and phase are for the contract alone.
 fn publish(
     s: Measures,
     i: usize,
@@ -52,26 +51,19 @@ fn publish(
     area: &mut [u8],
     room: &mut [u8],
     map: u16,
-) -> Turned
+) -> ClientAnswer
     requires { ⌜ (passes s ≡ true) × (1 ≤ i) × (i ≤ s .n) × (isSome (readClient s (recordOf p (now area))) ≡ true) × (roomSize s ≤ length (now room))
         × (p .step ≡ storingStep) × ((sameVersion v (versionAt (now area) (workAt s)) && not (standing (numberAt (now area) (workAt s + 5)) i)) ≡ true)
         × (map ≡ withNode (numberAt (now area) (workAt s + 5)) i) × (s .t + s .k ≤ counted map) ⌝ }
-    ensures { λ r. ⌜ ((out : List ℕ) → (answered (r .answer) ≡ storedEnd s i v (recordOf p (now (area .entry))) (now (room .entry)) out .answer)
-        × (recordOf (r .phase) (now (area .exit)) ≡ storedEnd s i v (recordOf p (now (area .entry))) (now (room .entry)) out .client)
+    ensures { λ r. ⌜ ((out : List ℕ) → (answered r ≡ storedEnd s i v (recordOf p (now (area .entry))) (now (room .entry)) out .answer)
+        × (recordOf (phaseAfter p r) (now (area .exit)) ≡ storedEnd s i v (recordOf p (now (area .entry))) (now (room .entry)) out .client)
         × (now (room .exit) ≡ storedEnd s i v (recordOf p (now (area .entry))) (now (room .entry)) out .room)
         × (out ≡ storedEnd s i v (recordOf p (now (area .entry))) (now (room .entry)) out .out)) ⌝ }
 {
     let at = work_at(s);
     form_pointer(s, map, area, at);
     let len = put_update(s, area, room);
-    let reading = p.reading;
-    Turned {
-        phase: Phase {
-            step: UPDATING,
-            reading: reading,
-        },
-        answer: ClientAnswer::Update(len),
-    }
+    ClientAnswer::Update(len)
 }
 
 // A node acknowledged the store of a version: it is added once; at t + k nodes the pointer is published.
@@ -82,33 +74,24 @@ pub fn acknowledge(
     p: Phase,
     area: &mut [u8],
     room: &mut [u8],
-) -> Turned
+) -> ClientAnswer
     requires { ⌜ (passes s ≡ true) × (1 ≤ i) × (i ≤ s .n) × (isSome (readClient s (recordOf p (now area))) ≡ true) × (roomSize s ≤ length (now room)) ⌝ }
-    ensures { λ r. ⌜ ((out : List ℕ) → (answered (r .answer) ≡ storedEnd s i v (recordOf p (now (area .entry))) (now (room .entry)) out .answer)
-        × (recordOf (r .phase) (now (area .exit)) ≡ storedEnd s i v (recordOf p (now (area .entry))) (now (room .entry)) out .client)
+    ensures { λ r. ⌜ ((out : List ℕ) → (answered r ≡ storedEnd s i v (recordOf p (now (area .entry))) (now (room .entry)) out .answer)
+        × (recordOf (phaseAfter p r) (now (area .exit)) ≡ storedEnd s i v (recordOf p (now (area .entry))) (now (room .entry)) out .client)
         × (now (room .exit) ≡ storedEnd s i v (recordOf p (now (area .entry))) (now (room .entry)) out .room)
         × (out ≡ storedEnd s i v (recordOf p (now (area .entry))) (now (room .entry)) out .out)) ⌝ }
 {
     if p.step != STORING {
-        return Turned {
-            phase: p,
-            answer: ClientAnswer::Waits,
-        };
+        return ClientAnswer::Waits;
     }
     let at = work_at(s);
     if !adds(i, v, area, at) {
-        return Turned {
-            phase: p,
-            answer: ClientAnswer::Waits,
-        };
+        return ClientAnswer::Waits;
     }
     let map = with_node(u16_at(area, at + 5), i);
     if count(map) < s.t + s.k {
         put_u16(area, at + 5, map);
-        return Turned {
-            phase: p,
-            answer: ClientAnswer::Waits,
-        };
+        return ClientAnswer::Waits;
     }
     publish(s, i, v, p, area, room, map)
 }

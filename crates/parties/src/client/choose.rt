@@ -3,13 +3,10 @@ use crate::ClientAnswer;
 use crate::Measures;
 use crate::Phase;
 use crate::ReadingIndex;
-use crate::Turned;
 use crate::Version;
 use crate::client::form::work_at;
 use crate::client::form::work_size;
 use crate::client::pick::picked;
-use crate::client::step::FETCHING;
-use crate::client::step::IDLE;
 use crate::message::REQUEST;
 use crate::records::bytes::clear;
 use crate::records::bytes::copy;
@@ -37,6 +34,7 @@ ghost use Rattle.parties.specs.protocol.ClientEvents.{lay, roomSize};
 ghost use Rattle.parties.specs.client.Answer.{answered};
 ghost use Rattle.parties.specs.records.Form.{rest};
 ghost use Rattle.parties.specs.client.Record.{recordOf, isSome};
+ghost use Rattle.parties.specs.client.Step.{phaseAfter};
 ghost use Rattle.parties.specs.records.Places.{versionAt, splice};
 ghost use Rattle.parties.specs.client.Draw.{rowsOf};
 ghost use Rattle.parties.specs.client.Choose.{offered, fetchEnd};
@@ -136,11 +134,11 @@ pub fn fetch(
     area: &mut [u8],
     rows: &[u8],
     room: &mut [u8],
-) -> Turned
+) -> ClientAnswer
     requires { ⌜ (passes s ≡ true) × (own < s .m) × (p .step ≡ pickingStep) × (isSome (readClient s (recordOf p (now area))) ≡ true)
         × (s .m * rowSize s ≤ length (now rows)) × (isSome (readDirectory s (now rows)) ≡ true) × (roomSize s ≤ length (now room)) ⌝ }
-    ensures { λ r. ⌜ (answered (r .answer) ≡ fetchEnd s own (recordOf p (now (area .entry))) (now (rows .entry)) (now (room .entry)) .answer)
-        × (recordOf (r .phase) (now (area .exit)) ≡ fetchEnd s own (recordOf p (now (area .entry))) (now (rows .entry)) (now (room .entry)) .client)
+    ensures { λ r. ⌜ (answered r ≡ fetchEnd s own (recordOf p (now (area .entry))) (now (rows .entry)) (now (room .entry)) .answer)
+        × (recordOf (phaseAfter p r) (now (area .exit)) ≡ fetchEnd s own (recordOf p (now (area .entry))) (now (rows .entry)) (now (room .entry)) .client)
         × (now (room .exit) ≡ fetchEnd s own (recordOf p (now (area .entry))) (now (rows .entry)) (now (room .entry)) .room) ⌝ }
 {
     let reading = p.reading;
@@ -148,24 +146,12 @@ pub fn fetch(
     let found = candidate_at(s, own, reading, rows, row);
     let version = version_at(found, 0);
     if version.is_none() {
-        return Turned {
-            phase: Phase {
-                step: IDLE,
-                reading: reading,
-            },
-            answer: ClientAnswer::Empty,
-        };
+        return ClientAnswer::Empty;
     }
     let nodes = u16_at(found, 5);
     let at = work_at(s);
     let size = work_size(s);
     put_request(room, found);
     put_fetched(area, at, size, found);
-    Turned {
-        phase: Phase {
-            step: FETCHING,
-            reading: reading,
-        },
-        answer: ClientAnswer::Requests(version, nodes),
-    }
+    ClientAnswer::Requests(version, nodes)
 }

@@ -3,11 +3,9 @@ use crate::ClientAnswer;
 use crate::Measures;
 use crate::Phase;
 use crate::Sequence;
-use crate::Turned;
 use crate::Version;
 use crate::client::form::work_at;
 use crate::client::form::work_size;
-use crate::client::step::STORING;
 use crate::message::STORE;
 use crate::records::bytes::clear;
 use crate::records::bytes::put_u16;
@@ -35,6 +33,7 @@ ghost use Rattle.parties.specs.protocol.ClientEvents.{roomSize, storesRo
 ghost use Rattle.parties.specs.protocol.Deposit.{highest as highestOf};
 ghost use Rattle.parties.specs.client.Answer.{answered};
 ghost use Rattle.parties.specs.client.Record.{recordOf, isSome};
+ghost use Rattle.parties.specs.client.Step.{phaseAfter};
 ghost use Rattle.parties.specs.client.Draw.{rowsOf, roomDigests, storesWork, drawEnd};
 
 fn larger(a: Sequence, b: Sequence) -> Sequence
@@ -168,6 +167,7 @@ fn cut(s: Measures, page: &[u8], room: &mut [u8], v: Version) -> usize
 }
 
 // The first scan's answer with the next sequence: the page in the work area is cut into the room, and the work is what is stored.
+// The phase is for the contract alone.
 pub fn draw(
     s: Measures,
     own: usize,
@@ -175,11 +175,11 @@ pub fn draw(
     area: &mut [u8],
     room: &mut [u8],
     q: Sequence,
-) -> Turned
+) -> ClientAnswer
     requires { ⌜ (passes s ≡ true) × (own < s .m) × (p .step ≡ scanningStep) × (isSome (readClient s (recordOf p (now area))) ≡ true)
         × (roomSize s ≤ length (now room)) × (1 ≤ q .0) ⌝ }
-    ensures { λ r. ⌜ (answered (r .answer) ≡ drawEnd s own q (recordOf p (now (area .entry))) (now (room .entry)) .answer)
-        × (recordOf (r .phase) (now (area .exit)) ≡ drawEnd s own q (recordOf p (now (area .entry))) (now (room .entry)) .client)
+    ensures { λ r. ⌜ (answered r ≡ drawEnd s own q (recordOf p (now (area .entry))) (now (room .entry)) .answer)
+        × (recordOf (phaseAfter p r) (now (area .exit)) ≡ drawEnd s own q (recordOf p (now (area .entry))) (now (room .entry)) .client)
         × (now (room .exit) ≡ drawEnd s own q (recordOf p (now (area .entry))) (now (room .entry)) .room) ⌝ }
 {
     let at = work_at(s);
@@ -191,12 +191,5 @@ pub fn draw(
     };
     let len = cut(s, &area[from..to], room, v);
     put_stores(s, v, len, room, area, at);
-    let reading = p.reading;
-    Turned {
-        phase: Phase {
-            step: STORING,
-            reading: reading,
-        },
-        answer: ClientAnswer::Stores(v, len),
-    }
+    ClientAnswer::Stores(v, len)
 }

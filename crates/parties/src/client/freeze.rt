@@ -3,13 +3,11 @@ use crate::ClientAnswer;
 use crate::Measures;
 use crate::Phase;
 use crate::ReadingIndex;
-use crate::Turned;
 use crate::client::form::work_at;
 use crate::client::form::work_size;
 use crate::client::free::put_free_list;
 use crate::client::notice::noticed_map;
 use crate::client::notice::shown_index;
-use crate::client::step::IDLE;
 use crate::records::bytes::clear;
 use crate::records::bytes::move_down;
 use crate::records::bytes::move_up;
@@ -30,6 +28,7 @@ ghost use Rattle.parties.specs.protocol.Client.{freezingStep, workSize, 
 ghost use Rattle.parties.specs.protocol.ClientEvents.{roomSize};
 ghost use Rattle.parties.specs.client.Answer.{answered};
 ghost use Rattle.parties.specs.client.Record.{recordOf, isSome, workAt, areaSize};
+ghost use Rattle.parties.specs.client.Step.{phaseAfter};
 ghost use Rattle.parties.specs.client.Draw.{rowsOf};
 ghost use Rattle.parties.specs.client.Found.{retainedIn, pointerIn};
 ghost use Rattle.parties.specs.client.Freeze.{retainedAfter, freezeEnd};
@@ -86,6 +85,7 @@ fn retain(s: Measures, map: u16, rows: &[u8], area: &mut [u8])
 }
 
 // The second scan's answer: readings that are noticed freeze the new pointer and reserve the previous version, and what they replace is freed.
+// The phase is for the contract alone.
 pub fn freeze(
     s: Measures,
     own: usize,
@@ -93,11 +93,11 @@ pub fn freeze(
     area: &mut [u8],
     rows: &[u8],
     room: &mut [u8],
-) -> Turned
+) -> ClientAnswer
     requires { ⌜ (passes s ≡ true) × (own < s .m) × (p .step ≡ freezingStep) × (isSome (readClient s (recordOf p (now area))) ≡ true)
         × (s .m * rowSize s ≤ length (now rows)) × (isSome (readDirectory s (now rows)) ≡ true) × (roomSize s ≤ length (now room)) ⌝ }
-    ensures { λ r. ⌜ (answered (r .answer) ≡ freezeEnd s own (recordOf p (now (area .entry))) (now (rows .entry)) (now (room .entry)) .answer)
-        × (recordOf (r .phase) (now (area .exit)) ≡ freezeEnd s own (recordOf p (now (area .entry))) (now (rows .entry)) (now (room .entry)) .client)
+    ensures { λ r. ⌜ (answered r ≡ freezeEnd s own (recordOf p (now (area .entry))) (now (rows .entry)) (now (room .entry)) .answer)
+        × (recordOf (phaseAfter p r) (now (area .exit)) ≡ freezeEnd s own (recordOf p (now (area .entry))) (now (rows .entry)) (now (room .entry)) .client)
         × (now (room .exit) ≡ freezeEnd s own (recordOf p (now (area .entry))) (now (rows .entry)) (now (room .entry)) .room) ⌝ }
 {
     let map = noticed_map(s, own, area, rows);
@@ -105,12 +105,5 @@ pub fn freeze(
     let v = version_at(area, at);
     let len = put_free_list(s, map, v, area, room);
     retain(s, map, rows, area);
-    let reading = p.reading;
-    Turned {
-        phase: Phase {
-            step: IDLE,
-            reading: reading,
-        },
-        answer: ClientAnswer::Deposited(v, len),
-    }
+    ClientAnswer::Deposited(v, len)
 }

@@ -3,7 +3,6 @@ use crate::ClientAnswer;
 use crate::Measures;
 use crate::Phase;
 use crate::Refusal;
-use crate::Turned;
 use crate::client::acknowledge::acknowledge;
 use crate::client::reply::missing;
 use crate::client::reply::reply;
@@ -18,6 +17,7 @@ ghost use Rattle.parties.specs.protocol.Client.{readClient};
 ghost use Rattle.parties.specs.protocol.ClientEvents.{roomSize};
 ghost use Rattle.parties.specs.client.Answer.{answered};
 ghost use Rattle.parties.specs.client.Record.{recordOf, isSome};
+ghost use Rattle.parties.specs.client.Step.{phaseAfter};
 ghost use Rattle.parties.specs.client.Receive.{receivedEnd};
 
 // A message from node i to a client whose record reads.
@@ -29,26 +29,20 @@ pub fn receive(
     message: &[u8],
     room: &mut [u8],
     out: &mut [u8],
-) -> Turned
+) -> ClientAnswer
     requires { ⌜ (passes s ≡ true) × (1 ≤ i) × (i ≤ s .n) × (isSome (readClient s (recordOf p (now area))) ≡ true) × (roomSize s ≤ length (now room))
         × (s .k * s .f - 4 ≤ length (now out)) ⌝ }
-    ensures { λ r. ⌜ (answered (r .answer) ≡ receivedEnd s i (recordOf p (now (area .entry))) (now (message .entry)) (now (room .entry)) (now (out .entry)) .answer)
-        × (recordOf (r .phase) (now (area .exit)) ≡ receivedEnd s i (recordOf p (now (area .entry))) (now (message .entry)) (now (room .entry)) (now (out .entry)) .client)
+    ensures { λ r. ⌜ (answered r ≡ receivedEnd s i (recordOf p (now (area .entry))) (now (message .entry)) (now (room .entry)) (now (out .entry)) .answer)
+        × (recordOf (phaseAfter p r) (now (area .exit)) ≡ receivedEnd s i (recordOf p (now (area .entry))) (now (message .entry)) (now (room .entry)) (now (out .entry)) .client)
         × (now (room .exit) ≡ receivedEnd s i (recordOf p (now (area .entry))) (now (message .entry)) (now (room .entry)) (now (out .entry)) .room)
         × (now (out .exit) ≡ receivedEnd s i (recordOf p (now (area .entry))) (now (message .entry)) (now (room .entry)) (now (out .entry)) .out) ⌝ }
 {
     let told = tell(s, message);
     match told {
         Told::Stored(v) => acknowledge(s, i, v, p, area, room),
-        Told::Freed => Turned {
-            phase: p,
-            answer: ClientAnswer::Waits,
-        },
+        Told::Freed => ClientAnswer::Waits,
         Told::Reply(v) => reply(s, i, v, p, area, &message[7..], out),
         Told::Missing(v) => missing(s, i, v, p, area),
-        Told::Broken => Turned {
-            phase: p,
-            answer: ClientAnswer::Refused(Refusal::Form),
-        },
+        Told::Broken => ClientAnswer::Refused(Refusal::Form),
     }
 }

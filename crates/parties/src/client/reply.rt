@@ -3,13 +3,11 @@ use crate::ClientAnswer;
 use crate::Measures;
 use crate::Phase;
 use crate::Refusal;
-use crate::Turned;
 use crate::Version;
 use crate::client::draw::digest_piece;
 use crate::client::form::work_at;
 use crate::client::form::work_size;
 use crate::client::step::FETCHING;
-use crate::client::step::IDLE;
 use crate::records::bytes::clear;
 use crate::records::bytes::copy;
 use crate::records::bytes::put_u16;
@@ -40,6 +38,7 @@ ghost use Rattle.parties.specs.protocol.Reading.{sameBytes};
 ghost use Rattle.parties.specs.protocol.Client.{fetchingStep, workSize, readClient};
 ghost use Rattle.parties.specs.client.Answer.{answered};
 ghost use Rattle.parties.specs.client.Record.{recordOf, workAt, isSome};
+ghost use Rattle.parties.specs.client.Step.{phaseAfter};
 ghost use Rattle.parties.specs.client.Reply.{repliedEnd, mapsAt, standingAt, countsAt, digestPlace, matchesAt, wentOn, cleared, mapped, areaPut, piecePut, lengthsWith};
 
 // What a reading keeps beside its pieces: the picked version, the nodes named, those counted, those that match.
@@ -132,31 +131,21 @@ fn matches(f: usize, v: Version, i: usize, piece: &[u8], area: &[u8], at: usize)
 }
 
 // A reading that does not end with a page: it fails if every named node is counted, else its maps are kept.
-fn go_on(s: Measures, p: Phase, area: &mut [u8], named: u16, counted: u16, matching: u16) -> Turned
+fn go_on(s: Measures, area: &mut [u8], named: u16, counted: u16, matching: u16) -> ClientAnswer
     requires { ⌜ (passes s ≡ true) × (workAt s + workSize s ≤ length (now area)) ⌝ }
-    ensures { λ r. ⌜ (r ≡ wentOn p (all (standing counted) (nodesIn named)))
+    ensures { λ r. ⌜ (r ≡ wentOn (all (standing counted) (nodesIn named)))
         × (now (area .exit) ≡ cond (all (standing counted) (nodesIn named)) (cleared s (now (area .entry))) (mapped s counted matching (now (area .entry)))) ⌝ }
 {
     let at = work_at(s);
-    let reading = p.reading;
     if all_counted(named, counted) {
         let size = work_size(s);
         clear(area, at, at + size);
-        return Turned {
-            phase: Phase {
-                step: IDLE,
-                reading: reading,
-            },
-            answer: ClientAnswer::Failed,
-        };
+        return ClientAnswer::Failed;
     }
     let maps = at + pointer_size(s);
     put_u16(area, maps, counted);
     put_u16(area, maps + 2, matching);
-    Turned {
-        phase: p,
-        answer: ClientAnswer::Waits,
-    }
+    ClientAnswer::Waits
 }
 
 // A piece at the front of its area, and zeros after it.
@@ -240,7 +229,7 @@ fn join_with(
     a
 }
 
-// The k-th matching piece: the pieces are joined, or refused. The version of the reply is for the contract alone.
+// The k-th matching piece: the pieces are joined, or refused. The version of the reply and the phase are for the contract alone.
 fn finish(
     s: Measures,
     i: usize,
@@ -250,37 +239,27 @@ fn finish(
     area: &mut [u8],
     piece: &[u8],
     out: &mut [u8],
-) -> Turned
+) -> ClientAnswer
     requires { ⌜ (passes s ≡ true) × (1 ≤ i) × (i ≤ s .n) × (isSome (readClient s (recordOf p (now area))) ≡ true) × (s .k * s .f - 4 ≤ length (now out))
         × (p .step ≡ fetchingStep) × (x ≡ standingAt (now area) (workAt s) (mapsAt s)) × (countsAt x i v ≡ true)
         × (matchesAt (s .f) (x .version) i (now piece) (now area) (digestPlace (workAt s) (x .named) i) ≡ true)
         × (s .k ≤ counting (withNode (x .matching) i)) ⌝ }
-    ensures { λ r. ⌜ ((room : List ℕ) → (answered (r .answer) ≡ repliedEnd s i v (some (now (piece .entry))) (recordOf p (now (area .entry))) room (now (out .entry)) .answer)
-        × (recordOf (r .phase) (now (area .exit)) ≡ repliedEnd s i v (some (now (piece .entry))) (recordOf p (now (area .entry))) room (now (out .entry)) .client)
+    ensures { λ r. ⌜ ((room : List ℕ) → (answered r ≡ repliedEnd s i v (some (now (piece .entry))) (recordOf p (now (area .entry))) room (now (out .entry)) .answer)
+        × (recordOf (phaseAfter p r) (now (area .exit)) ≡ repliedEnd s i v (some (now (piece .entry))) (recordOf p (now (area .entry))) room (now (out .entry)) .client)
         × (room ≡ repliedEnd s i v (some (now (piece .entry))) (recordOf p (now (area .entry))) room (now (out .entry)) .room)
         × (now (out .exit) ≡ repliedEnd s i v (some (now (piece .entry))) (recordOf p (now (area .entry))) room (now (out .entry)) .out)) ⌝ }
 {
     let at = work_at(s);
     let size = work_size(s);
-    let reading = p.reading;
     let version = x.version;
     let lens = at + pointer_size(s) + 4;
     let matching = with_node(x.matching, i);
     let a = join_with(s, i, matching, area, lens, piece, out);
     let JoinAnswer::Page(len) = a else {
-        return Turned {
-            phase: p,
-            answer: ClientAnswer::Refused(Refusal::Form),
-        };
+        return ClientAnswer::Refused(Refusal::Form);
     };
     clear(area, at, at + size);
-    Turned {
-        phase: Phase {
-            step: IDLE,
-            reading: reading,
-        },
-        answer: ClientAnswer::Page(version, len),
-    }
+    ClientAnswer::Page(version, len)
 }
 
 // A reply that counts, with a piece.
@@ -293,11 +272,11 @@ fn reply_counted(
     area: &mut [u8],
     piece: &[u8],
     out: &mut [u8],
-) -> Turned
+) -> ClientAnswer
     requires { ⌜ (passes s ≡ true) × (1 ≤ i) × (i ≤ s .n) × (isSome (readClient s (recordOf p (now area))) ≡ true) × (s .k * s .f - 4 ≤ length (now out))
         × (p .step ≡ fetchingStep) × (x ≡ standingAt (now area) (workAt s) (mapsAt s)) × (countsAt x i v ≡ true) ⌝ }
-    ensures { λ r. ⌜ ((room : List ℕ) → (answered (r .answer) ≡ repliedEnd s i v (some (now (piece .entry))) (recordOf p (now (area .entry))) room (now (out .entry)) .answer)
-        × (recordOf (r .phase) (now (area .exit)) ≡ repliedEnd s i v (some (now (piece .entry))) (recordOf p (now (area .entry))) room (now (out .entry)) .client)
+    ensures { λ r. ⌜ ((room : List ℕ) → (answered r ≡ repliedEnd s i v (some (now (piece .entry))) (recordOf p (now (area .entry))) room (now (out .entry)) .answer)
+        × (recordOf (phaseAfter p r) (now (area .exit)) ≡ repliedEnd s i v (some (now (piece .entry))) (recordOf p (now (area .entry))) room (now (out .entry)) .client)
         × (room ≡ repliedEnd s i v (some (now (piece .entry))) (recordOf p (now (area .entry))) room (now (out .entry)) .room)
         × (now (out .exit) ≡ repliedEnd s i v (some (now (piece .entry))) (recordOf p (now (area .entry))) room (now (out .entry)) .out)) ⌝ }
 {
@@ -305,13 +284,13 @@ fn reply_counted(
     let place = at + 7 + 32 * rank(x.named, i);
     let counted = with_node(x.counted, i);
     if !matches(s.f, x.version, i, piece, area, place) {
-        return go_on(s, p, area, x.named, counted, x.matching);
+        return go_on(s, area, x.named, counted, x.matching);
     }
     let matching = with_node(x.matching, i);
     if count(matching) < s.k {
         let lens = at + pointer_size(s) + 4;
         put_piece(area, lens, s.n, s.f, i, piece);
-        return go_on(s, p, area, x.named, counted, matching);
+        return go_on(s, area, x.named, counted, matching);
     }
     finish(s, i, v, p, x, area, piece, out)
 }
@@ -325,52 +304,40 @@ pub fn reply(
     area: &mut [u8],
     piece: &[u8],
     out: &mut [u8],
-) -> Turned
+) -> ClientAnswer
     requires { ⌜ (passes s ≡ true) × (1 ≤ i) × (i ≤ s .n) × (isSome (readClient s (recordOf p (now area))) ≡ true) × (s .k * s .f - 4 ≤ length (now out)) ⌝ }
-    ensures { λ r. ⌜ ((room : List ℕ) → (answered (r .answer) ≡ repliedEnd s i v (some (now (piece .entry))) (recordOf p (now (area .entry))) room (now (out .entry)) .answer)
-        × (recordOf (r .phase) (now (area .exit)) ≡ repliedEnd s i v (some (now (piece .entry))) (recordOf p (now (area .entry))) room (now (out .entry)) .client)
+    ensures { λ r. ⌜ ((room : List ℕ) → (answered r ≡ repliedEnd s i v (some (now (piece .entry))) (recordOf p (now (area .entry))) room (now (out .entry)) .answer)
+        × (recordOf (phaseAfter p r) (now (area .exit)) ≡ repliedEnd s i v (some (now (piece .entry))) (recordOf p (now (area .entry))) room (now (out .entry)) .client)
         × (room ≡ repliedEnd s i v (some (now (piece .entry))) (recordOf p (now (area .entry))) room (now (out .entry)) .room)
         × (now (out .exit) ≡ repliedEnd s i v (some (now (piece .entry))) (recordOf p (now (area .entry))) room (now (out .entry)) .out)) ⌝ }
 {
     if p.step != FETCHING {
-        return Turned {
-            phase: p,
-            answer: ClientAnswer::Waits,
-        };
+        return ClientAnswer::Waits;
     }
     let at = work_at(s);
     let x = standing_at(area, at, at + pointer_size(s));
     if !counts(x, i, v) {
-        return Turned {
-            phase: p,
-            answer: ClientAnswer::Waits,
-        };
+        return ClientAnswer::Waits;
     }
     reply_counted(s, i, v, p, x, area, piece, out)
 }
 
 // A node's reply that it holds no piece of a version.
-pub fn missing(s: Measures, i: usize, v: Version, p: Phase, area: &mut [u8]) -> Turned
+pub fn missing(s: Measures, i: usize, v: Version, p: Phase, area: &mut [u8]) -> ClientAnswer
     requires { ⌜ (passes s ≡ true) × (1 ≤ i) × (i ≤ s .n) × (isSome (readClient s (recordOf p (now area))) ≡ true) ⌝ }
-    ensures { λ r. ⌜ ((room out : List ℕ) → (answered (r .answer) ≡ repliedEnd s i v none (recordOf p (now (area .entry))) room out .answer)
-        × (recordOf (r .phase) (now (area .exit)) ≡ repliedEnd s i v none (recordOf p (now (area .entry))) room out .client)
+    ensures { λ r. ⌜ ((room out : List ℕ) → (answered r ≡ repliedEnd s i v none (recordOf p (now (area .entry))) room out .answer)
+        × (recordOf (phaseAfter p r) (now (area .exit)) ≡ repliedEnd s i v none (recordOf p (now (area .entry))) room out .client)
         × (room ≡ repliedEnd s i v none (recordOf p (now (area .entry))) room out .room)
         × (out ≡ repliedEnd s i v none (recordOf p (now (area .entry))) room out .out)) ⌝ }
 {
     if p.step != FETCHING {
-        return Turned {
-            phase: p,
-            answer: ClientAnswer::Waits,
-        };
+        return ClientAnswer::Waits;
     }
     let at = work_at(s);
     let x = standing_at(area, at, at + pointer_size(s));
     if !counts(x, i, v) {
-        return Turned {
-            phase: p,
-            answer: ClientAnswer::Waits,
-        };
+        return ClientAnswer::Waits;
     }
     let counted = with_node(x.counted, i);
-    go_on(s, p, area, x.named, counted, x.matching)
+    go_on(s, area, x.named, counted, x.matching)
 }

@@ -4,7 +4,6 @@ use crate::Measures;
 use crate::NextSequence;
 use crate::Phase;
 use crate::Refusal;
-use crate::Turned;
 use crate::client::choose::fetch;
 use crate::client::draw::draw;
 use crate::client::draw::highest;
@@ -12,7 +11,6 @@ use crate::client::form::work_at;
 use crate::client::form::work_size;
 use crate::client::freeze::freeze;
 use crate::client::step::FREEZING;
-use crate::client::step::IDLE;
 use crate::client::step::PICKING;
 use crate::client::step::SCANNING;
 use crate::records::bytes::clear;
@@ -26,26 +24,20 @@ ghost use Rattle.parties.specs.protocol.Client.{scanningStep, readClient
 ghost use Rattle.parties.specs.protocol.ClientEvents.{roomSize};
 ghost use Rattle.parties.specs.client.Answer.{answered};
 ghost use Rattle.parties.specs.client.Record.{recordOf, isSome};
+ghost use Rattle.parties.specs.client.Step.{phaseAfter};
 ghost use Rattle.parties.specs.client.Scan.{scannedEnd, spentEnd};
 
-// A deposit that has no sequence ends: its page is cleared. The room is for the contract alone.
-fn give_up(s: Measures, p: Phase, area: &mut [u8], room: &[u8]) -> Turned
+// A deposit that has no sequence ends: its page is cleared. Phase and room are for the contract alone.
+fn give_up(s: Measures, p: Phase, area: &mut [u8], room: &[u8]) -> ClientAnswer
     requires { ⌜ (passes s ≡ true) × (isSome (readClient s (recordOf p (now area))) ≡ true) ⌝ }
-    ensures { λ r. ⌜ (answered (r .answer) ≡ spentEnd s (recordOf p (now (area .entry))) (now (room .entry)) .answer)
-        × (recordOf (r .phase) (now (area .exit)) ≡ spentEnd s (recordOf p (now (area .entry))) (now (room .entry)) .client)
+    ensures { λ r. ⌜ (answered r ≡ spentEnd s (recordOf p (now (area .entry))) (now (room .entry)) .answer)
+        × (recordOf (phaseAfter p r) (now (area .exit)) ≡ spentEnd s (recordOf p (now (area .entry))) (now (room .entry)) .client)
         × (now (room .entry) ≡ spentEnd s (recordOf p (now (area .entry))) (now (room .entry)) .room) ⌝ }
 {
     let at = work_at(s);
     let size = work_size(s);
     clear(area, at, at + size);
-    let reading = p.reading;
-    Turned {
-        phase: Phase {
-            step: IDLE,
-            reading: reading,
-        },
-        answer: ClientAnswer::Spent,
-    }
+    ClientAnswer::Spent
 }
 
 // A deposit's first scan: it draws the sequence after the highest.
@@ -56,11 +48,11 @@ fn first_scan(
     area: &mut [u8],
     rows: &[u8],
     room: &mut [u8],
-) -> Turned
+) -> ClientAnswer
     requires { ⌜ (passes s ≡ true) × (own < s .m) × (p .step ≡ scanningStep) × (isSome (readClient s (recordOf p (now area))) ≡ true)
         × (isSome (readDirectory s (now rows)) ≡ true) × (roomSize s ≤ length (now room)) ⌝ }
-    ensures { λ r. ⌜ (answered (r .answer) ≡ scannedEnd s own (recordOf p (now (area .entry))) (now (rows .entry)) (now (room .entry)) .answer)
-        × (recordOf (r .phase) (now (area .exit)) ≡ scannedEnd s own (recordOf p (now (area .entry))) (now (rows .entry)) (now (room .entry)) .client)
+    ensures { λ r. ⌜ (answered r ≡ scannedEnd s own (recordOf p (now (area .entry))) (now (rows .entry)) (now (room .entry)) .answer)
+        × (recordOf (phaseAfter p r) (now (area .exit)) ≡ scannedEnd s own (recordOf p (now (area .entry))) (now (rows .entry)) (now (room .entry)) .client)
         × (now (room .exit) ≡ scannedEnd s own (recordOf p (now (area .entry))) (now (rows .entry)) (now (room .entry)) .room) ⌝ }
 {
     let top = highest(s, rows);
@@ -79,11 +71,11 @@ pub fn after_scan(
     area: &mut [u8],
     rows: &[u8],
     room: &mut [u8],
-) -> Turned
+) -> ClientAnswer
     requires { ⌜ (passes s ≡ true) × (own < s .m) × (isSome (readClient s (recordOf p (now area))) ≡ true)
         × (s .m * rowSize s ≤ length (now rows)) × (isSome (readDirectory s (now rows)) ≡ true) × (roomSize s ≤ length (now room)) ⌝ }
-    ensures { λ r. ⌜ (answered (r .answer) ≡ scannedEnd s own (recordOf p (now (area .entry))) (now (rows .entry)) (now (room .entry)) .answer)
-        × (recordOf (r .phase) (now (area .exit)) ≡ scannedEnd s own (recordOf p (now (area .entry))) (now (rows .entry)) (now (room .entry)) .client)
+    ensures { λ r. ⌜ (answered r ≡ scannedEnd s own (recordOf p (now (area .entry))) (now (rows .entry)) (now (room .entry)) .answer)
+        × (recordOf (phaseAfter p r) (now (area .exit)) ≡ scannedEnd s own (recordOf p (now (area .entry))) (now (rows .entry)) (now (room .entry)) .client)
         × (now (room .exit) ≡ scannedEnd s own (recordOf p (now (area .entry))) (now (rows .entry)) (now (room .entry)) .room) ⌝ }
 {
     if p.step == SCANNING {
@@ -95,8 +87,5 @@ pub fn after_scan(
     if p.step == PICKING {
         return fetch(s, own, p, area, rows, room);
     }
-    Turned {
-        phase: p,
-        answer: ClientAnswer::Refused(Refusal::OutOfTurn),
-    }
+    ClientAnswer::Refused(Refusal::OutOfTurn)
 }

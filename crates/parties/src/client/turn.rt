@@ -23,6 +23,7 @@ use crate::client::step::PICKING;
 use crate::client::step::RAISING;
 use crate::client::step::SCANNING;
 use crate::client::step::UPDATING;
+use crate::client::step::phase_after;
 use crate::protocol::version::NO_CLIENT;
 use crate::records::bytes::clear;
 use crate::records::bytes::copy;
@@ -229,7 +230,11 @@ pub fn scan_answer(
             answer: ClientAnswer::Refused(Refusal::Form),
         };
     }
-    after_scan(s, own, p, area, rows, room)
+    let a = after_scan(s, own, p, area, rows, room);
+    Turned {
+        phase: phase_after(p, a),
+        answer: a,
+    }
 }
 
 // A message from node i.
@@ -257,5 +262,9 @@ pub fn message(
             answer: ClientAnswer::Refused(r),
         };
     }
-    receive(s, i, p, area, message, room, out)
+    let a = receive(s, i, p, area, message, room, out);
+    Turned {
+        phase: phase_after(p, a),
+        answer: a,
+    }
 }

@@ -52,13 +52,13 @@ same-length-2 c = search needs
 
 returns : tie.Need-returns
 returns c =
-    let x = c .before .before .before .before .before .before in
+    let x = c .before .before .before .before .before in
     let y = x .before .before .before .before .before .before in
     λ out.
     let a = y .before .args in
     let q = y .before .pre in
     let d = x .before .before .before .before in
-    let put-update = c .before .before .before .put-update in
+    let put-update = c .before .before .put-update in
     ends-four _ _ (stored-published (a .s) (a .p) (a .area .now) (opened d) (a .i) (a .v) (q .5) (q .6) (a .map) (q .7) (q .1) (q .2) (q .8) (d .work-at .result) (d .work-at .ensures) _
     (x .before .before .form-pointer .ensures)
     (a .room .now) (put-update .result) (put-update .ensures .0) _ (put-update .ensures .1) out)

@@ -36,8 +36,8 @@ cast-to c = search needs
 add-to : tie.Need-add-to
 add-to c = search needs
 
-cast-t17 : tie.Need-cast-t17
-cast-t17 c =
+cast-t16 : tie.Need-cast-t16
+cast-t16 c =
     let a = c .before .before .before .before .before .args in
     let q = c .before .before .before .before .before .pre in
     omega (arith, sizes (a .s) (q .0) .clients, q .1)
@@ -94,13 +94,13 @@ same-length-2 c = search needs
 
 returns : tie.Need-returns
 returns c =
-    let x = c .before .before .before .before .before .before in
+    let x = c .before .before .before .before .before in
     let y = x .before .before .before .before .before .before in
     let a = y .before .before .before .before .before .args in
     let q = y .before .before .before .before .before .pre in
     ends-three _ _ (drawn-at (a .s) (a .own) (q .1) (a .p) (a .area .now) (opened (y .before .before .before .before)) (q .2) (y .before .before .work-at .result)
     (y .before .before .work-at .ensures) (y .u32-at .result) _ (y .u32-at .ensures) (a .q) (q .5) (small-sequence (y .before .before)) (a .room .now) (q .4) (x .before .before .cut .result)
-    (x .before .before .cut .ensures .0) _ (x .before .before .cut .ensures .1) _ (c .before .before .before .put-stores .ensures))
+    (x .before .before .cut .ensures .0) _ (x .before .before .cut .ensures .1) _ (c .before .before .put-stores .ensures))
 
 pub draw-spec : {M : Type 1} → statement M
 draw-spec =
@@ -111,7 +111,7 @@ draw-spec =
     u32-at-requires
     cast-to
     add-to
-    cast-t17
+    cast-t16
     sub-cut
     part-cut-start
     part-cut-end

@@ -58,7 +58,7 @@ same-length-2 c = search needs
 
 returns : tie.Need-returns
 returns c =
-    let x = c .before .before .before .before .before .before in
+    let x = c .before .before .before .before .before in
     let y = x .before .before .before .before .before .before in
     let k = y .before .before .before .before .before in
     let a = k .before .args in
@@ -66,7 +66,7 @@ returns c =
     ends-three _ _
     (frozen (a .s) (a .p) (a .area .now) (opened k) (q .2) (a .own) (y .before .noticed-map .result) (a .rows .now) (y .before .noticed-map .ensures) (y .work-at .result) (y .work-at .ensures)
     (x .before .before .before .before .version-at .result) (x .before .before .before .before .version-at .ensures) (a .room .now) (x .before .put-free-list .result)
-    (x .before .put-free-list .ensures .0) _ (x .before .put-free-list .ensures .1) _ (c .before .before .before .retain .ensures))
+    (x .before .put-free-list .ensures .0) _ (x .before .put-free-list .ensures .1) _ (c .before .before .retain .ensures))
 
 pub freeze-spec : {M : Type 1} → statement M
 freeze-spec =

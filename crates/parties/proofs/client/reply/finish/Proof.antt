@@ -31,32 +31,32 @@ pointer-size-requires c κs = search needs
 
 add-lens : tie.Need-add-lens
 add-lens c =
-    let z = sizes (c .before .before .before .before .before .before .before .before .args .s) (c .before .before .before .before .before .before .before .before .pre .0) in
-    omega (arith, c .before .before .before .before .work-at .ensures, c .pointer-size .ensures, z .pointers, z .pointer, z .clients)
+    let z = sizes (c .before .before .before .before .before .before .before .args .s) (c .before .before .before .before .before .before .before .pre .0) in
+    omega (arith, c .before .before .before .work-at .ensures, c .pointer-size .ensures, z .pointers, z .pointer, z .clients)
 
 add-lens-2 : tie.Need-add-lens-2
 add-lens-2 c =
-    let z = sizes (c .before .before .before .before .before .before .before .before .args .s) (c .before .before .before .before .before .before .before .before .pre .0) in
-    omega (arith, c .before .before .before .before .work-at .ensures, c .pointer-size .ensures, z .pointers, z .pointer, z .clients)
+    let z = sizes (c .before .before .before .before .before .before .before .args .s) (c .before .before .before .before .before .before .before .pre .0) in
+    omega (arith, c .before .before .before .work-at .ensures, c .pointer-size .ensures, z .pointers, z .pointer, z .clients)
 
 with-node-requires : tie.Need-with-node-requires
 with-node-requires c κs =
     let x = c .before .before .before .before .before .before in
-    let q = x .before .before .pre in (q .1, omega (arith, q .2, sizes (x .before .before .args .s) (q .0) .nodes))
+    let q = x .before .pre in (q .1, omega (arith, q .2, sizes (x .before .args .s) (q .0) .nodes))
 
 join-with-requires : tie.Need-join-with-requires
 join-with-requires c κs =
     let y = c .before .before .before .before .before .before in
-    let a = y .before .before .before .before .before .args in
-    let q = y .before .before .before .before .before .pre in (
+    let a = y .before .before .before .before .args in
+    let q = y .before .before .before .before .pre in (
       q .0,
       q .1,
       q .2,
       omega (
         arith,
         lengths-within (a .s) (a .p) (a .area .now)
-            (opened (y .before .before .before .before)),
-        y .before .work-at .ensures,
+            (opened (y .before .before .before)),
+        y .work-at .ensures,
         c .before .before .before .pointer-size .ensures,
       ),
       matches-short (a .s .f) (a .x .version) (a .i)
@@ -78,7 +78,7 @@ same-length-2 c = search needs
 returns : tie.Need-returns
 returns c =
     let y = c .before .before .before .before .before .before in
-    let d = y .before .before .before .before .before .before in
+    let d = y .before .before .before .before .before in
     let w = d .before .before .before .before .before .before in
     let a = w .args in
     let q = w .pre in
@@ -96,7 +96,7 @@ returns c =
 
 add-clear : tie.Need-add-clear
 add-clear c =
-    let y = c .before .before .before .before .before .before .before .before .before .before .before .before in
+    let y = c .before .before .before .before .before .before .before .before .before .before .before in
     let k = y .before .before .before .before .before .before in
     let z = sizes (k .before .before .args .s) (k .before .before .pre .0) in
     omega (arith, y .before .before .before .before .work-at .ensures, y .before .before .before .work-size .ensures, z .pointers, z .pointer, z .clients, z .pieces, z .nodes)
@@ -104,7 +104,7 @@ add-clear c =
 clear-requires : tie.Need-clear-requires
 clear-requires c κs =
     let x = c .before .before .before .before .before .before in
-    let y = x .before .before .before .before .before .before in
+    let y = x .before .before .before .before .before in
     let z = y .before .before .before .before .before .before in
     let a = z .before .before .args in
     let q = z .before .before .pre in
@@ -122,7 +122,7 @@ returns-2 c =
     let y = c .before .before .before .before .before .before in
     let k = y .before .before .before .before .before in
     let d = y .before .before .before .before .before .before in
-    let w = d .before .before .before .before .before .before in
+    let w = d .before .before .before .before .before in
     let a = w .before .before .before .before .before .args in
     let q = w .before .before .before .before .before .pre in
     let g = k .join-with .ensures in

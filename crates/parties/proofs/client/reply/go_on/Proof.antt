@@ -31,11 +31,11 @@ same-length c = search needs
 returns : tie.Need-returns
 returns c =
     let x = c .before .before .before .before .before .before in
-    let a = x .before .before .before .before .args in
+    let a = x .before .before .before .args in
     let e = x .all-counted .ensures in
     let t = sym (c .before .before .before .before .before .if1 .taken) ∙ e in (
-      ap (wentOn (a .p)) t,
-      c .before .before .clear .ensures ∙ clear-done (a .s) (a .area .now) _ _ (x .before .before .work-at .ensures) (c .before .before .before .before .work-size .ensures)
+      ap wentOn t,
+      c .before .before .clear .ensures ∙ clear-done (a .s) (a .area .now) _ _ (x .before .work-at .ensures) (c .before .before .before .before .work-size .ensures)
           ∙ ap (λ (b : Bool). cond b (cleared (a .s) (a .area .now)) (mapped (a .s) (a .counted) (a .matching) (a .area .now))) t,
     )
 
@@ -60,12 +60,12 @@ same-length-2 c = search needs
 returns-2 : tie.Need-returns-2
 returns-2 c =
     let x = c .before .before .before .before .before .before in
-    let y = x .before .before .before .before .before .before in
+    let y = x .before .before .before .before .before in
     let a = y .before .before .args in
     let e = x .before .before .before .before .all-counted .ensures in
     let t = sym (x .before .before .before .if1 .left) ∙ e in
     let at = y .work-at .result + x .before .before .pointer-size .result in (
-      ap (wentOn (a .p)) t,
+      ap wentOn t,
       c .before .before .put-u162 .ensures ∙ ap (λ (l : List ℕ). paste l (at + 2) (writeNumber 2 (a .matching)) 2) (x .put-u16 .ensures)
           ∙ maps-done (a .s) (a .area .now) (a .counted) (a .matching) _ _ (y .work-at .ensures) (x .before .before .pointer-size .ensures)
           ∙ ap (λ (b : Bool). cond b (cleared (a .s) (a .area .now)) (mapped (a .s) (a .counted) (a .matching) (a .area .now))) t,

@@ -92,7 +92,7 @@ returns-3 c =
     let g = c .before .before .go-on .ensures in
     λ room out. ends-four _ _ (missing-end (a .s) (a .p) (a .area .now) (opened (z .before)) (y .before .before .before .before .before .if1 .left) (a .i) (q .1) (q .2) (a .v) s x
     (sym (y .counts .ensures) ∙ not-false _ (c .before .before .before .before .before .if2 .left)) room out _
-    (g .0 ∙ (λ j. wentOn (a .p) (all (stands (n j)) (nodesIn (s .named))))) _
+    (g .0 ∙ (λ j. wentOn (all (stands (n j)) (nodesIn (s .named))))) _
     (g .1 ∙ (λ j. cond (all (stands (n j)) (nodesIn (s .named))) (cleared (a .s) (a .area .now)) (mapped (a .s) (n j) (s .matching) (a .area .now)))))
 
 pub missing-spec : {M : Type 1} → statement M

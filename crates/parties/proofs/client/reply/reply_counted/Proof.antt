@@ -77,7 +77,7 @@ returns c =
     ∙ sym (c .before .before .before .before .before .matches .ensures) ∙ not-true _ (c .before .before .before .before .if1 .taken)
     in
     λ room. ends-four _ _ (missed-end (a .s) (a .p) (a .area .now) (opened z) (q .5) (a .i) (q .1) (q .2) (a .v) (a .x) (q .6) (a .piece .now) (q .7) m room (a .out .now) _
-    (g .0 ∙ (λ j. wentOn (a .p) (all (stands (n j)) (nodesIn (a .x .named))))) _
+    (g .0 ∙ (λ j. wentOn (all (stands (n j)) (nodesIn (a .x .named))))) _
     (g .1 ∙ (λ j. cond (all (stands (n j)) (nodesIn (a .x .named))) (cleared (a .s) (a .area .now)) (mapped (a .s) (n j) (a .x .matching) (a .area .now)))))
 
 with-node-requires-2 : tie.Need-with-node-requires-2
@@ -150,7 +150,7 @@ returns-2 c =
     in
     λ room. ends-four _ _ (more-end (a .s) (a .p) (a .area .now) (opened (d .before .before .before)) (q .5) (a .i) (q .1) (q .2) (a .v) (a .x) (q .6) (a .piece .now)
     (λ i. d .before .before .shared-slice-known .given i .fits) (q .7) m few room (a .out .now) _
-    (g .0 ∙ (λ j. wentOn (a .p) (all (stands (n j)) (nodesIn (a .x .named))))) _
+    (g .0 ∙ (λ j. wentOn (all (stands (n j)) (nodesIn (a .x .named))))) _
     (g .1 ∙ (λ j. cond (all (stands (n j)) (nodesIn (a .x .named))) (cleared (a .s) (t j)) (mapped (a .s) (n j) (k j) (t j)))))
 
 finish-requires : tie.Need-finish-requires

@@ -35,12 +35,11 @@ same-length c = search needs
 
 returns : tie.Need-returns
 returns c =
-    let y = c .before .before .before .before .before .before in
-    let x = y in
+    let x = c .before .before .before .before .before in
     let a = x .before .before .before .args in
     let q = x .before .before .before .pre in
-    ends-three _ _ (spent-leaves (a .s) (a .p) (a .area .now) (opened x) (x .work-at .result) (x .work-at .ensures) (c .before .before .before .before .before .work-size .result)
-    (c .before .before .before .before .before .work-size .ensures) _ (c .before .before .before .clear .ensures) (a .room .now))
+    ends-three _ _ (spent-leaves (a .s) (a .p) (a .area .now) (opened x) (x .work-at .result) (x .work-at .ensures) (c .before .before .before .before .work-size .result)
+    (c .before .before .before .before .work-size .ensures) _ (c .before .before .clear .ensures) (a .room .now))
 
 pub give-up-spec : {M : Type 1} → statement M
 give-up-spec =

@@ -1,5 +1,5 @@
 use borrow.Author.Needs.{needs}
-use mathlib.Core.Path.{_≡_, sym, _∙_}
+use mathlib.Core.Path.{_≡_, sym, ap, _∙_}
 use mathlib.Core.Bool.{true, _&&_}
 use Prim.Native.Nat.{_-_, _*_}
 use borrow.Author.Tests.{leb-true}
@@ -10,6 +10,7 @@ use Rattle.parties.specs.protocol.Measures.{passes}
 use Rattle.parties.specs.protocol.Message.{readToClient}
 use Rattle.parties.specs.protocol.Client.{readClient}
 use Rattle.parties.specs.protocol.ClientEvents.{roomSize, onMessage, messageAt}
+use Rattle.parties.specs.declared.Phase.{Phase}
 use Rattle.parties.specs.client.Record.{recordOf, areaSize, isSome}
 use Rattle.parties.proofs.client.GateLaws.{gated-open, gated-shut}
 use Rattle.parties.proofs.client.MessageLaws.{message-guarded, message-through, message-room, message-node}
@@ -66,6 +67,9 @@ receive-requires c κs =
     let l = message-room (a .s) (a .own) (a .i) (a .p) (a .area .now) (a .message .now) (a .room .now) (a .out .now) (numbered .result) (numbered .ensures) (e .1) in
     (e .0, i .0, i .1, e .3, l .0, l .1)
 
+phase-after-requires : tie.Need-phase-after-requires
+phase-after-requires c κs = search needs
+
 same-length-2 : tie.Need-same-length-2
 same-length-2 c = search needs
 
@@ -77,13 +81,14 @@ same-length-4 c = search needs
 
 returns-2 : tie.Need-returns-2
 returns-2 c =
-    let y = c .before .before .before .before .before .before in
+    let y = c .before .before .before .before .before .before .before in
     let x = y .before .before .before .before in
     let a = x .before .before .before .before .before .before .before .before .before .before .args in
     let numbered = x .before .before .before .before .numbered in
     let e = enters x in
+    let r = y .receive .ensures in
     ends-as _ _ (message-through (a .s) (a .own) (a .i) (a .p) (a .area .now) (a .message .now) (a .room .now) (a .out .now) (numbered .result) (numbered .ensures) (e .0) (e .1) (e .2))
-    (y .receive .ensures)
+    (r .0, ap (λ (h : Phase). recordOf h (y .receive .last .1 .1 .1 .0)) (c .phase-after .ensures) ∙ r .1, r .2, r .3)
 
 pub message-spec : {M : Type 1} → statement M
 message-spec =
@@ -97,6 +102,7 @@ message-spec =
     returns
     enum-told
     receive-requires
+    phase-after-requires
     same-length-2
     same-length-3
     same-length-4

@@ -16,6 +16,7 @@ use Rattle.parties.specs.protocol.Client.{readClient}
 use Rattle.parties.specs.protocol.ClientEvents.{unchanged, onRows, scannedAt, roomSize}
 use Rattle.parties.specs.records.Answer.{number}
 use Rattle.parties.specs.records.Form.{rest}
+use Rattle.parties.specs.declared.Phase.{Phase}
 use Rattle.parties.specs.client.Record.{recordOf, areaSize, isSome}
 use Rattle.parties.proofs.client.GateLaws.{gated-open, gated-shut, Opened}
 use Rattle.parties.proofs.client.StartLaws.{ends-three, same-end}
@@ -104,6 +105,9 @@ after-scan-requires c κs =
       long x .1,
     )
 
+phase-after-requires : tie.Need-phase-after-requires
+phase-after-requires c κs = search needs
+
 same-length-3 : tie.Need-same-length-3
 same-length-3 c = search needs
 
@@ -112,11 +116,12 @@ same-length-4 c = search needs
 
 returns-3 : tie.Need-returns-3
 returns-3 c =
-    let y = c .before .before .before .before .before .before in
+    let y = c .before .before .before .before .before .before .before in
     let x = y .before .before .before .before in
     let a = x .before .before .before .before .before .before .before .before .before .args in
+    let r = c .before .before .before .before .before .after-scan .ensures in
     same-end _ _ (scan-goes (a .s) (a .own) (a .p) (a .area .now) (a .rows .now) (a .room .now) (opened x) (enters x .2) (enters x .1) _ (sound (y .before))) _ _ _
-    (c .before .before .before .before .after-scan .ensures)
+    (r .0, ap (λ (h : Phase). recordOf h (c .before .before .before .before .before .after-scan .last .1 .1 .1 .0)) (c .phase-after .ensures) ∙ r .1, r .2)
 
 pub scan-answer-spec : {M : Type 1} → statement M
 scan-answer-spec =
@@ -133,6 +138,7 @@ scan-answer-spec =
     same-length-2
     returns-2
     after-scan-requires
+    phase-after-requires
     same-length-3
     same-length-4
     returns-3)
