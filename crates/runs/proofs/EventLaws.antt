@@ -15,7 +15,7 @@ use types.Run.{OneOf, miss}
 use denote.Enum.Declared.{tagOf}
 use Rattle.parties.specs.declared.Measures.{Measures}
 use Rattle.parties.specs.protocol.Measures.{passes}
-use Rattle.parties.specs.Sizes.{sized as sizedFor}
+use Rattle.parties.specs.Sizes.{sized, Sized}
 use Rattle.parties.specs.protocol.Client.{clientSize}
 use Rattle.parties.specs.protocol.Answer.{Served, refuses, serves}
 use Rattle.parties.specs.protocol.ClientEvents.{roomSize, startReading, updateAnswer, scanAnswer, clientMessage}
@@ -42,12 +42,11 @@ use Rattle.runs.proofs.event.Ahead.{the-type as the-ahead}
 use Rattle.runs.specs.declared.event.Clear.{Clear}
 use Rattle.runs.specs.declared.parcels.Found.{Found}
 use Rattle.runs.specs.Parcels.{Parcel, properKey, IsList, Broken, Stands, NoneStands, Looks, Appended, Removed}
-use Rattle.runs.specs.Sent.{longestMessage, needed, Sized}
+use Rattle.runs.specs.Sent.{longestMessage, needed}
 use Rattle.runs.specs.Acts.{Lent, body, tagged, Serves}
 use Rattle.runs.specs.Event.{Cramped, Readies, Stopped, Seen, Vacant, Aheads, Clears, lowestOf}
 use Rattle.runs.specs.Happens.{inBounds, suffices, Roomy, Unready, Ready, liesIn, honestIn}
 use Rattle.runs.proofs.SentLaws.{piece-within, room-small, rows-small}
-use Rattle.runs.proofs.SendLaws.{sized}
 
 -- ---- a client's answer
 
@@ -84,10 +83,10 @@ tagged-full post at end h w =
 
 -- ---- sizes
 
-pub sized-is : (s : Measures) (n : ℕ) → passes s ≡ true → sizedFor s n ≡ n
+pub sized-is : (s : Measures) (n : ℕ) → passes s ≡ true → sized s n ≡ n
 sized-is s n ok = rw ok refl
 
-pub sized-none : (s : Measures) (n : ℕ) → passes s ≡ false → sizedFor s n ≡ 0
+pub sized-none : (s : Measures) (n : ℕ) → passes s ≡ false → sized s n ≡ 0
 sized-none s n e = rw e refl
 
 pub needed-small : (s : Measures) → passes s ≡ true → needed s ≤ 1161784
@@ -266,17 +265,17 @@ module _ (s : Measures) (memory : List ℕ) (bytes : (i : ℕ) → getD memory i
 
   module _ (c : ℕ) (a : ClientAnswer) where
     pub reading-sized : (room : List ℕ) → answered a ≡ startReading s c (recordIn s c memory) room .answer → Sized s (answered a)
-    reading-sized room e = subst (Sized s) (sym e) (sized s (startReading s c (recordIn s c memory) room .answer) (reading-bounded s c (recordIn s c memory) (part-bytes (recordAt s c) (clientSize s)) room))
+    reading-sized room e = subst (Sized s) (sym e) (reading-bounded s c (recordIn s c memory) (part-bytes (recordAt s c) (clientSize s)) room)
 
     pub updated-sized : (room : List ℕ) → answered a ≡ updateAnswer s c (recordIn s c memory) room .answer → Sized s (answered a)
-    updated-sized room e = subst (Sized s) (sym e) (sized s (updateAnswer s c (recordIn s c memory) room .answer) (updated-bounded s c (recordIn s c memory) (part-bytes (recordAt s c) (clientSize s)) room))
+    updated-sized room e = subst (Sized s) (sym e) (updated-bounded s c (recordIn s c memory) (part-bytes (recordAt s c) (clientSize s)) room)
 
     pub scanned-sized : (rows room : List ℕ) → answered a ≡ scanAnswer s c (recordIn s c memory) rows room .answer → Sized s (answered a)
-    scanned-sized rows room e = subst (Sized s) (sym e) (sized s (scanAnswer s c (recordIn s c memory) rows room .answer) (scanned-bounded s c (recordIn s c memory) (part-bytes (recordAt s c) (clientSize s)) rows room))
+    scanned-sized rows room e = subst (Sized s) (sym e) (scanned-bounded s c (recordIn s c memory) (part-bytes (recordAt s c) (clientSize s)) rows room)
 
     pub message-sized : (i : ℕ) (message room out : List ℕ) → answered a ≡ clientMessage s c i (recordIn s c memory) message room out .answer → Sized s (answered a)
     message-sized i message room out e =
-        subst (Sized s) (sym e) (sized s (clientMessage s c i (recordIn s c memory) message room out .answer) (message-bounded s c (recordIn s c memory) (part-bytes (recordAt s c) (clientSize s)) i message room out))
+        subst (Sized s) (sym e) (message-bounded s c (recordIn s c memory) (part-bytes (recordAt s c) (clientSize s)) i message room out)
 
   pub node-length : (a : Service) (i : ℕ) (message room : List ℕ) → served a ≡ nodeMessage s i (tableIn s i memory) message room .answer
       → lengthOf (served a) ≤ answerSize s

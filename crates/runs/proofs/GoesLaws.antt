@@ -9,6 +9,7 @@ use borrow.Author.Tests.{leb-true}
 use lib.Dec.{leb, ltb}
 use lib.ListN.{length, take, drop, length-append, length-take}
 use lib.Seq.{drop-drop, take-nil}
+use Rattle.parties.specs.Sizes.{Sized}
 use Rattle.parties.specs.declared.Measures.{Measures}
 use Rattle.parties.specs.protocol.Measures.{passes}
 use Rattle.parties.specs.protocol.Answer.{Served}
@@ -32,7 +33,7 @@ use Rattle.title.proofs.PartLaws.{both-true}
 use Rattle.runs.specs.declared.answer.Happened.{Happened}
 use Rattle.runs.specs.declared.answer.EventEnd.{EventEnd}
 use Rattle.runs.specs.Parcels.{Parcel, properKey, properAll, Listed, keyed, bodies, FindsAt, Removed}
-use Rattle.runs.specs.Sent.{sent, Sized}
+use Rattle.runs.specs.Sent.{sent}
 use Rattle.runs.specs.UnderWay.{callOf, returnOf, UnderWay, After}
 use Rattle.runs.specs.Happens.{answerOf, outDelivered, outAfter, roomCarried, roomHanded, roomBrought, roomDelivered, roomAfter, Goes}
 use Rattle.runs.specs.Acts.{body, behind, tagged, Sends, Takes, Serves}

@@ -12,6 +12,7 @@ use denote.Enum.Declared.{tagOf}
 use types.Run.{OneOf, miss}
 use lib.ListN.{length, take, drop, length-append, length-take, length-drop}
 use lib.Seq.{take-all}
+use Rattle.parties.specs.Sizes.{Sized}
 use Rattle.parties.specs.declared.Measures.{Measures}
 use Rattle.parties.specs.declared.Version.{Version}
 use Rattle.parties.specs.protocol.Measures.{passes, rowSize}
@@ -23,10 +24,9 @@ use Rattle.parties.proofs.protocol.formats.MeasureLaws.{passed}
 use Rattle.parties.specs.declared.ClientAnswer.{ClientAnswer}
 use Rattle.parties.specs.client.Answer.{answered}
 use Rattle.parties.proofs.ClientAnswer.{the-type}
-use Rattle.parties.proofs.protocol.events.SentLengths.{Bounded}
 use Rattle.parties.proofs.records.SpliceLaws.{many-append}
 use Rattle.runs.specs.Parcels.{Parcel, writeParcel, writeParcels, Appended}
-use Rattle.runs.specs.Sent.{call, toNode, callBy, messageIn, messagesBy, longestCall, longestMessage, needed, Sized}
+use Rattle.runs.specs.Sent.{call, toNode, callBy, messageIn, messagesBy, longestCall, longestMessage, needed}
 use Rattle.runs.proofs.PostLaws.{length-one, appended-none, appended-more}
 use Rattle.runs.proofs.SentLaws.{Short, message-short, piece-within, row-within}
 
@@ -79,20 +79,6 @@ sized-stores s a v len z e = rw e at z
 
 pub sized-deposited : (s : Measures) (a : ClientAnswer) (v : Version) (len : ℕ) → Sized s (answered a) → a ≡ ClientAnswer.Deposited v len → len ≤ rowSize s
 sized-deposited s a v len z e = rw e at z
-
--- the events' answers
-pub sized : (s : Measures) (a : Answer) → Bounded s a → Sized s a
-sized s (refused n) h = tt
-sized s waits h = tt
-sized s scan h = tt
-sized s (update len) h = h
-sized s (stores v len) h = h
-sized s (requests v nodes) h = tt
-sized s (deposited v len) h = h
-sized s empty h = tt
-sized s (page v len) h = tt
-sized s spent h = tt
-sized s failed h = tt
 
 -- ---- a call
 

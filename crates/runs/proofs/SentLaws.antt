@@ -10,6 +10,7 @@ use native.Mathlib.Nat.{mul-le-mul, mul-le-mul-right}
 use borrow.Author.Tests.{leb-true, le-leb, lt-ltb}
 use lib.Dec.{leb}
 use lib.ListN.{length, take, drop, length-append, length-take}
+use Rattle.parties.specs.Sizes.{Sized}
 use Rattle.parties.specs.declared.Measures.{Measures}
 use Rattle.parties.specs.protocol.Measures.{passes, rowSize}
 use Rattle.parties.specs.protocol.DirectoryEvents.{directorySize}
@@ -21,7 +22,7 @@ use Rattle.parties.proofs.protocol.formats.MeasureLaws.{passed}
 use Rattle.parties.proofs.records.SizeLaws.{row-bound, table-bound}
 use Rattle.title.proofs.PartLaws.{both-true}
 use Rattle.runs.specs.Parcels.{Parcel, properKey, properAll, keyed, bodies}
-use Rattle.runs.specs.Sent.{call, toNode, callBy, messageIn, messagesBy, sent, Sized}
+use Rattle.runs.specs.Sent.{call, toNode, callBy, messageIn, messagesBy, sent}
 use Rattle.runs.specs.UnderWay.{callOf}
 use Rattle.runs.proofs.PostLaws.{bodies-append}
 use Rattle.runs.proofs.ParcelLaws.{nothing-in, body-keyed, body-other, keyed-by, not-kind, not-client, not-node, proper-++, proper-by, proper-one}

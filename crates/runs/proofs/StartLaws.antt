@@ -5,6 +5,7 @@ use mathlib.Core.List.{List}
 use Prim.Native.Nat.{ℕ, _-_, _*_, _<_}
 use borrow.Author.Tests.{ltb-true}
 use lib.ListN.{length}
+use Rattle.parties.specs.Sizes.{Sized}
 use Rattle.parties.specs.declared.Measures.{Measures}
 use Rattle.parties.specs.protocol.ClientEvents.{ClientEnd, startDeposit}
 use Rattle.parties.specs.declared.ClientAnswer.{ClientAnswer as Answer}
@@ -17,15 +18,10 @@ use Rattle.runs.specs.declared.answer.EventEnd.{EventEnd}
 use Rattle.runs.specs.Acts.{Lent, AtClient, Acts}
 use Rattle.runs.specs.Happens.{Unready, Ready, Happens}
 use Rattle.runs.specs.Oldest.{alone}
-use Rattle.runs.specs.Sent.{Sized}
-use Rattle.runs.proofs.SendLaws.{sized}
 use Rattle.runs.proofs.GoesLaws.{deposit-goes}
 
-deposit-sized : (s : Measures) (c : ℕ) (b page : List ℕ) → Sized s (startDeposit s c b page .answer)
-deposit-sized s c b page = sized s (startDeposit s c b page .answer) (deposit-bounded s c b page)
-
 pub deposited-sized : (s : Measures) (a : Answer) (c : ℕ) (b page : List ℕ) → answered a ≡ startDeposit s c b page .answer → Sized s (answered a)
-deposited-sized s a c b page e = subst (Sized s) (sym e) (deposit-sized s c b page)
+deposited-sized s a c b page e = subst (Sized s) (sym e) (deposit-bounded s c b page)
 
 module _ (s : Measures) (honest : ℕ → Bool) (c used : ℕ) (x y : Lent) (p q : List ℕ) (h : s .k * s .f - 4 < length p) (k : s .k * s .f - 4 < length q) where
   acts-long : (result : EventEnd) → Acts s honest used (alone x) (alone y) (deposit c p) result
@@ -48,7 +44,7 @@ module _ (s : Measures) (honest : ℕ → Bool) (c used : ℕ) (x y : Lent) (p q
   acts-happen result v l (Acts.deposits d b a t w o z) =
       Happens.happens result (record { roomy = v .roomy; bounds = v .bounds; list = v .list }) l (Acts.deposits c q a result w o z)
       (λ es g. deposit-goes s (v .roomy .measures) honest es (x .memory) (x .post) used g c q a (y .memory) (y .post) result (ltb-true c (s .m) (v .bounds))
-      (subst (Sized s) (sym (w .answer)) (deposit-sized s c (recordIn s c (x .memory)) q)) (w .answer) (w .memory) z)
+      (subst (Sized s) (sym (w .answer)) (deposit-bounded s c (recordIn s c (x .memory)) q)) (w .answer) (w .memory) z)
 
   pub deposit-long : (result : EventEnd) → Happens s honest (deposit c p) used (alone x) (alone y) result
       → Happens s honest (deposit c q) used (alone x) (alone y) result

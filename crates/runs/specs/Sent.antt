@@ -1,10 +1,9 @@
 -- What a client's answer sends, in parcels.
 use mathlib.Core.List.{List, [], _∷_, _++_}
 use mathlib.Core.Option.{Option, some, none}
-use Prim.Native.Nat.{ℕ, zero, suc, _+_, _*_, _≤_}
+use Prim.Native.Nat.{ℕ, zero, suc, _+_, _*_}
 use lib.ListN.{take}
 use Rattle.parties.specs.declared.Measures.{Measures}
-use Rattle.parties.specs.protocol.Measures.{rowSize}
 use Rattle.parties.specs.protocol.DirectoryEvents.{directorySize}
 use Rattle.parties.specs.protocol.Answer.{ClientAnswer, refused, waits, scan, update, stores, requests, deposited, empty, page, spent, failed}
 use Rattle.parties.specs.protocol.ClientEvents.{roomSize, messageTo}
@@ -69,17 +68,3 @@ longestMessage s = 7 + roomSize s
 -- bytes that the parcels of one event take at most
 abbrev pub needed : Measures → ℕ
 needed s = longestCall s + s .n * longestMessage s
-
--- the lengths that an answer says follow from the measures
-abbrev pub Sized : Measures → ClientAnswer → Type 0
-Sized s (refused n) = Unit {0}
-Sized s waits = Unit {0}
-Sized s scan = Unit {0}
-Sized s (update len) = len ≤ rowSize s
-Sized s (stores v len) = len ≤ s .f
-Sized s (requests v nodes) = Unit {0}
-Sized s (deposited v len) = len ≤ rowSize s
-Sized s empty = Unit {0}
-Sized s (page v len) = Unit {0}
-Sized s spent = Unit {0}
-Sized s failed = Unit {0}

@@ -13,11 +13,12 @@ ghost use mathlib.Core.Path.{_≡_};
 ghost use mathlib.Core.Bool.{true};
 ghost use Prim.Native.Nat.{_+_, _*_, _≤_};
 ghost use lib.ListN.{length};
+ghost use Rattle.parties.specs.Sizes.{Sized};
 ghost use Rattle.parties.specs.protocol.Measures.{passes};
 ghost use Rattle.parties.specs.protocol.ClientEvents.{messageTo};
 ghost use Rattle.parties.specs.client.Answer.{answered};
 ghost use Rattle.runs.specs.Parcels.{Appended};
-ghost use Rattle.runs.specs.Sent.{callBy, messageIn, messagesBy, sent, longestCall, longestMessage, needed, Sized};
+ghost use Rattle.runs.specs.Sent.{callBy, messageIn, messagesBy, sent, longestCall, longestMessage, needed};
 
 // A directory call, if the answer is one; the measures are for the contract alone.
 fn send_call(

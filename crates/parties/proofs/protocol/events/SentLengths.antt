@@ -18,6 +18,7 @@ use Rattle.parties.specs.declared.Measures.{Measures}
 use Rattle.parties.specs.declared.NextSequence.{NextSequence}
 use Rattle.parties.specs.declared.NextIndex.{NextIndex}
 use Rattle.parties.specs.declared.Version.{Version}
+use Rattle.parties.specs.Sizes.{Sized}
 use Rattle.parties.specs.protocol.Measures.{passes, pointerSize, rowSize}
 use Rattle.parties.specs.protocol.Format.{Read, whole, writeNumber, writeMany}
 use Rattle.parties.specs.protocol.Version.{nextSequence, nextIndex}
@@ -30,7 +31,7 @@ use Rattle.parties.specs.protocol.Node.{handBack}
 use Rattle.parties.specs.protocol.Client.{Phase, idle, scanning, storing, updating, freezing, raising, picking, fetching, Client, readClient, clientSize, areas, lengths}
 use Rattle.parties.specs.protocol.Deposit.{highest, pointerOf, depositFields, frozenAfter, replaced, stillRetained, freed}
 use Rattle.parties.specs.protocol.Reading.{pick, counts, matches, allCounted, sameVersion}
-use Rattle.parties.specs.protocol.Answer.{ClientAnswer, refused, waits, scan, update, stores, requests, deposited, empty, page, spent, failed, Served, refuses, serves}
+use Rattle.parties.specs.protocol.Answer.{refused, waits, update, Served, refuses, serves}
 use Rattle.parties.specs.protocol.ClientEvents.{Step, stays, does, after, onClient, unchanged, roomSize, withPhase, lay, isIdle, beginDeposit, beginReading, raise}
 use Rattle.parties.specs.protocol.ClientEvents.{acknowledgedAt, acknowledge, scannedAt, draw, freeze, storedAt, goOn, joinedAt, counted, repliedAt, messageAt, onRows, onMessage}
 use Rattle.parties.specs.protocol.ClientEvents.{startDeposit, startReading, updateAnswer, scanAnswer, clientMessage}
@@ -48,48 +49,34 @@ use Rattle.parties.proofs.protocol.model.QueueLaws.{hand-each}
 use Rattle.parties.proofs.protocol.steps.GoodLaws.{formed-good}
 use Rattle.parties.proofs.protocol.steps.CarryShows.{good-deposit}
 
--- an update's record and a list to drop are no longer than a row's area, a piece than F bytes
-abbrev pub Bounded : Measures → ClientAnswer → Type 0
-Bounded s (refused n) = Unit {0}
-Bounded s waits = Unit {0}
-Bounded s scan = Unit {0}
-Bounded s (update len) = len ≤ rowSize s
-Bounded s (stores v len) = len ≤ s .f
-Bounded s (requests v nodes) = Unit {0}
-Bounded s (deposited v len) = len ≤ rowSize s
-Bounded s empty = Unit {0}
-Bounded s (page v len) = Unit {0}
-Bounded s spent = Unit {0}
-Bounded s failed = Unit {0}
+abbrev SizedStep : Measures → Step → Type 0
+SizedStep s (stays a) = Sized s a
+SizedStep s (does a c r o) = Sized s a
 
-abbrev BoundedStep : Measures → Step → Type 0
-BoundedStep s (stays a) = Bounded s a
-BoundedStep s (does a c r o) = Bounded s a
-
-either : (s : Measures) (b : Bool) (x y : Step) → BoundedStep s x → BoundedStep s y → BoundedStep s (cond b x y)
+either : (s : Measures) (b : Bool) (x y : Step) → SizedStep s x → SizedStep s y → SizedStep s (cond b x y)
 either s true x y h k = h
 either s false x y h k = k
 
 -- ---- a deposit's start and a reading's
 
-bounded-deposit : (s : Measures) (c : Client) (bytes : List ℕ) → BoundedStep s (beginDeposit s c bytes)
+bounded-deposit : (s : Measures) (c : Client) (bytes : List ℕ) → SizedStep s (beginDeposit s c bytes)
 unfolding beginDeposit
 bounded-deposit s c bytes = either s (isIdle (c .phase)) _ _ (either s (leb (length bytes) (s .k * s .f - 4)) _ _ tt tt) tt
 
-bounded-raise : (s : Measures) (c : Client) (room : List ℕ) (n : NextIndex) → BoundedStep s (raise c room n)
+bounded-raise : (s : Measures) (c : Client) (room : List ℕ) (n : NextIndex) → SizedStep s (raise c room n)
 unfolding writeRecord writeFields writeContent writeMany mapOf
 bounded-raise s c room (NextIndex.Raised i) =
     let x = (writeIndex i ++ []) ++ [] in
     omega (arith, length-append (writeNumber 1 8) x, length-append (writeIndex i ++ []) [], length-append (writeIndex i) [], length-index i, length-number 1 8)
 bounded-raise s c room NextIndex.Spent = tt
 
-bounded-reading : (s : Measures) (c : Client) (room : List ℕ) → BoundedStep s (beginReading c room)
+bounded-reading : (s : Measures) (c : Client) (room : List ℕ) → SizedStep s (beginReading c room)
 unfolding beginReading
 bounded-reading s c room = either s (isIdle (c .phase)) _ _ (bounded-raise s c room (nextIndex (c .readingIndex))) tt
 
 -- ---- answers of the directory
 
-bounded-acknowledged : (s : Measures) (c : Client) (room : List ℕ) (p : Phase) → BoundedStep s (acknowledgedAt c room p)
+bounded-acknowledged : (s : Measures) (c : Client) (room : List ℕ) (p : Phase) → SizedStep s (acknowledgedAt c room p)
 bounded-acknowledged s c room idle = tt
 bounded-acknowledged s c room (scanning bytes) = tt
 bounded-acknowledged s c room (storing v a ds) = tt
@@ -106,11 +93,11 @@ free-long [] = refl
 free-long (v ∷ l) = omega (arith, length-append (writeVersion v) (writeMany writeVersion l), length-version v, free-long l)
 
 module _ (s : Measures) (p : Passed s) where
-  bounded-draw : (own : ℕ) (c : Client) (room bytes : List ℕ) (n : NextSequence) → length bytes ≤ s .k * s .f - 4 → BoundedStep s (draw s own c room bytes n)
+  bounded-draw : (own : ℕ) (c : Client) (room bytes : List ℕ) (n : NextSequence) → length bytes ≤ s .k * s .f - 4 → SizedStep s (draw s own c room bytes n)
   bounded-draw own c room bytes (NextSequence.Drawn q) h = columns-within (s .k) (s .f) (length bytes) (p .parts) (p .frame) h
   bounded-draw own c room bytes NextSequence.Spent h = tt
 
-  bounded-freeze : (own : ℕ) (c : Client) (room : List ℕ) (rows : List Row) (x : Pointer) → BoundedStep s (freeze s own c room rows x)
+  bounded-freeze : (own : ℕ) (c : Client) (room : List ℕ) (rows : List Row) (x : Pointer) → SizedStep s (freeze s own c room rows x)
   unfolding writeToNode
   bounded-freeze own c room rows x =
       let l = freed s own c rows x in
@@ -119,7 +106,7 @@ module _ (s : Measures) (p : Passed s) where
       let m : s .m + 1 ≤ s .m + 1 = omega arith in
       omega (arith, free-long l, few, mul-le-mul m one)
 
-  bounded-scanned : (own : ℕ) (c : Client) (room : List ℕ) (rows : List Row) (x : Phase) → GoodPhase s x → BoundedStep s (scannedAt s own c room rows x)
+  bounded-scanned : (own : ℕ) (c : Client) (room : List ℕ) (rows : List Row) (x : Phase) → GoodPhase s x → SizedStep s (scannedAt s own c room rows x)
   bounded-scanned own c room rows idle g = tt
   bounded-scanned own c room rows (scanning bytes) g = bounded-draw own c room bytes (nextSequence (highest rows)) (leb-true (length bytes) (s .k * s .f - 4) (g .1))
   bounded-scanned own c room rows (storing v a ds) g = tt
@@ -163,11 +150,11 @@ module _ (s : Measures) (p : Passed s) where
 
   module _ (i : ℕ) (lo : 1 ≤ i) (up : i ≤ s .n) (c : Client) (g : GoodClient s c) (room out : List ℕ) where
     bounded-acknowledge : (v : Version) (a : ℕ) (ds : List (List ℕ)) → GoodPhase s (storing v a ds) → stands a i ≡ false
-        → BoundedStep s (acknowledge s c room out v (withNode a i) ds)
+        → SizedStep s (acknowledge s c room out v (withNode a i) ds)
     bounded-acknowledge v a ds h new = go (ltb (count (withNode a i)) (s .t + s .k)) refl
       where
         go : (b : Bool) → ltb (count (withNode a i)) (s .t + s .k) ≡ b
-            → BoundedStep s (cond b (does waits (withPhase (storing v (withNode a i) ds) c) room out)
+            → SizedStep s (cond b (does waits (withPhase (storing v (withNode a i) ds) c) room out)
             (does (update (length (writeRecord (depositFields c (pointerOf v (withNode a i) ds)))))
             (withPhase (updating (pointerOf v (withNode a i) ds)) c)
             (lay (writeRecord (depositFields c (pointerOf v (withNode a i) ds))) room) out))
@@ -180,12 +167,12 @@ module _ (s : Measures) (p : Passed s) where
             deposit-fits c (pointerOf v (withNode a i) ds) g
             (formed-good s p v (withNode a i) (leb-true 1 (v .sequence .0) (w .0)) (h .0 .0) (ltb-true (v .client) (s .m) (w .1)) (with-below a i (s .n) lo up (h .2)) enough ds (h .4) (h .5))
 
-    bounded-stored : (v : Version) (x : Phase) → GoodPhase s x → BoundedStep s (storedAt s i c room out v x)
+    bounded-stored : (v : Version) (x : Phase) → GoodPhase s x → SizedStep s (storedAt s i c room out v x)
     bounded-stored v idle h = tt
     bounded-stored v (scanning bytes) h = tt
     bounded-stored v (storing w a ds) h = go (sameVersion v w) (stands a i) refl
       where
-        go : (x y : Bool) → stands a i ≡ y → BoundedStep s (cond (x && not y) (acknowledge s c room out w (withNode a i) ds) (stays waits))
+        go : (x y : Bool) → stands a i ≡ y → SizedStep s (cond (x && not y) (acknowledge s c room out w (withNode a i) ds) (stays waits))
         go true true e = tt
         go true false e = bounded-acknowledge w a ds h e
         go false y e = tt
@@ -195,14 +182,14 @@ module _ (s : Measures) (p : Passed s) where
     bounded-stored v picking h = tt
     bounded-stored v (fetching x n m ps) h = tt
 
-    bounded-joined : (v : Version) (to : List ℕ) (o : Outcome) → BoundedStep s (joinedAt c room v to o)
+    bounded-joined : (v : Version) (to : List ℕ) (o : Outcome) → SizedStep s (joinedAt c room v to o)
     bounded-joined v to (Outcome.gives len) = tt
     bounded-joined v to (Outcome.refuses n) = tt
 
-    bounded-on : (x : Pointer) (n m : ℕ) (ps : List (List ℕ)) → BoundedStep s (goOn c room out x n m ps)
+    bounded-on : (x : Pointer) (n m : ℕ) (ps : List (List ℕ)) → SizedStep s (goOn c room out x n m ps)
     bounded-on x n m ps = either s (allCounted x n) _ _ tt tt
 
-    bounded-counted : (x : Pointer) (n m : ℕ) (ps : List (List ℕ)) (y : Option (List ℕ)) → BoundedStep s (counted s i c room out x n m ps y)
+    bounded-counted : (x : Pointer) (n m : ℕ) (ps : List (List ℕ)) (y : Option (List ℕ)) → SizedStep s (counted s i c room out x n m ps y)
     bounded-counted x n m ps nothing = bounded-on x n m ps
     bounded-counted x n m ps (some y) =
         let e = join (s .n) (s .k) (s .f) (withNode m i) (areas s (set ps (i - 1) y)) (lengths (set ps (i - 1) y)) out in
@@ -210,7 +197,7 @@ module _ (s : Measures) (p : Passed s) where
         (either s (ltb (count (withNode m i)) (s .k)) _ _ (bounded-on x n (withNode m i) (set ps (i - 1) y)) (bounded-joined (x .version) (e .out) (e .outcome)))
         (bounded-on x n m ps)
 
-    bounded-replied : (v : Version) (y : Option (List ℕ)) (x : Phase) → BoundedStep s (repliedAt s i c room out v y x)
+    bounded-replied : (v : Version) (y : Option (List ℕ)) (x : Phase) → SizedStep s (repliedAt s i c room out v y x)
     bounded-replied v y idle = tt
     bounded-replied v y (scanning bytes) = tt
     bounded-replied v y (storing w a ds) = tt
@@ -220,7 +207,7 @@ module _ (s : Measures) (p : Passed s) where
     bounded-replied v y picking = tt
     bounded-replied v y (fetching x n m ps) = either s (counts x n i v) _ _ (bounded-counted x (withNode n i) m ps y) tt
 
-    bounded-message : (m : ToClient) → BoundedStep s (messageAt s i c room out m)
+    bounded-message : (m : ToClient) → SizedStep s (messageAt s i c room out m)
     bounded-message (ToClient.stored v) = bounded-stored v (c .phase) (g .phase)
     bounded-message ToClient.freed = tt
     bounded-message (ToClient.reply v x) = bounded-replied v (some x) (c .phase)
@@ -228,18 +215,18 @@ module _ (s : Measures) (p : Passed s) where
 
 -- ---- events of a client, whatever bytes its record has
 
-bounded-after : (s : Measures) (b room out rest : List ℕ) (x : Step) → BoundedStep s x → Bounded s (after s b room out rest x .answer)
+bounded-after : (s : Measures) (b room out rest : List ℕ) (x : Step) → SizedStep s x → Sized s (after s b room out rest x .answer)
 bounded-after s b room out rest (stays a) h = h
 bounded-after s b room out rest (does a c r o) h = h
 
 -- behind the three tests a step is done on the record that the bytes show
 module _ (s : Measures) (b room out : List ℕ) (bytes : Bytes b) (f : Client → Step) where
-  bounded-tested : (x y z : Bool) → (passes s ≡ true → z ≡ true → (c : Client) → GoodClient s c → BoundedStep s (f c)) → passes s ≡ x
-      → Bounded s (cond x (cond y (cond z (onClient s b room out (readClient s b) f) (unchanged (refused 3) b room out)) (unchanged (refused 2) b room out))
+  bounded-tested : (x y z : Bool) → (passes s ≡ true → z ≡ true → (c : Client) → GoodClient s c → SizedStep s (f c)) → passes s ≡ x
+      → Sized s (cond x (cond y (cond z (onClient s b room out (readClient s b) f) (unchanged (refused 3) b room out)) (unchanged (refused 2) b room out))
       (unchanged (refused 1) b room out) .answer)
   bounded-tested true true true h e = go (readClient s b) refl
     where
-      go : (r : Option (Read Client)) → readClient s b ≡ r → Bounded s (onClient s b room out r f .answer)
+      go : (r : Option (Read Client)) → readClient s b ≡ r → Sized s (onClient s b room out r f .answer)
       go nothing q = tt
       go (some r) q = bounded-after s b room out (r .rest) (f (r .value)) (h e refl (r .value) (client-only s b r bytes q .0))
   bounded-tested true true false h e = tt
@@ -247,12 +234,12 @@ module _ (s : Measures) (b room out : List ℕ) (bytes : Bytes b) (f : Client �
   bounded-tested false y z h e = tt
 
 -- a deposit's start sends a scan's call or nothing, whatever stands in the record
-pub deposit-bounded : (s : Measures) (own : ℕ) (b new : List ℕ) → Bounded s (startDeposit s own b new .answer)
+pub deposit-bounded : (s : Measures) (own : ℕ) (b new : List ℕ) → Sized s (startDeposit s own b new .answer)
 unfolding startDeposit
 deposit-bounded s own b new = go (passes s) (leb (clientSize s) (length b)) (ltb own (s .m)) (readClient s b)
   where
     go : (x y z : Bool) (r : Option (Read Client))
-        → Bounded s (cond x (cond y (cond z (onClient s b [] [] r (λ c. beginDeposit s c new)) (unchanged (refused 3) b [] [])) (unchanged (refused 2) b [] []))
+        → Sized s (cond x (cond y (cond z (onClient s b [] [] r (λ c. beginDeposit s c new)) (unchanged (refused 3) b [] [])) (unchanged (refused 2) b [] []))
         (unchanged (refused 1) b [] []) .answer)
     go true true true nothing = tt
     go true true true (some r) = bounded-after s b [] [] (r .rest) (beginDeposit s (r .value) new) (bounded-deposit s (r .value) new)
@@ -261,30 +248,30 @@ deposit-bounded s own b new = go (passes s) (leb (clientSize s) (length b)) (ltb
     go false y z r = tt
 
 module _ (s : Measures) (own : ℕ) (b : List ℕ) (bytes : Bytes b) where
-  pub reading-bounded : (room : List ℕ) → Bounded s (startReading s own b room .answer)
+  pub reading-bounded : (room : List ℕ) → Sized s (startReading s own b room .answer)
   unfolding startReading
   reading-bounded room =
       bounded-tested s b room [] bytes (λ c. beginReading c room) (passes s) (leb (clientSize s) (length b) && leb (roomSize s) (length room)) (ltb own (s .m))
       (λ p z c g. bounded-reading s c room) refl
 
-  pub updated-bounded : (room : List ℕ) → Bounded s (updateAnswer s own b room .answer)
+  pub updated-bounded : (room : List ℕ) → Sized s (updateAnswer s own b room .answer)
   unfolding updateAnswer
   updated-bounded room =
       bounded-tested s b room [] bytes (λ c. acknowledgedAt c room (c .phase)) (passes s) (leb (clientSize s) (length b) && leb (roomSize s) (length room)) (ltb own (s .m))
       (λ p z c g. bounded-acknowledged s c room (c .phase)) refl
 
-  pub scanned-bounded : (rows room : List ℕ) → Bounded s (scanAnswer s own b rows room .answer)
+  pub scanned-bounded : (rows room : List ℕ) → Sized s (scanAnswer s own b rows room .answer)
   unfolding scanAnswer
   scanned-bounded rows room =
       bounded-tested s b room [] bytes (λ c. onRows (readDirectory s rows) (λ l. scannedAt s own c room l (c .phase))) (passes s)
       (leb (clientSize s) (length b) && (leb (s .m * rowSize s) (length rows) && leb (roomSize s) (length room))) (ltb own (s .m))
       (λ p z c g. go p c g (readDirectory s rows)) refl
     where
-      go : passes s ≡ true → (c : Client) → GoodClient s c → (r : Option (Read (List Row))) → BoundedStep s (onRows r (λ l. scannedAt s own c room l (c .phase)))
+      go : passes s ≡ true → (c : Client) → GoodClient s c → (r : Option (Read (List Row))) → SizedStep s (onRows r (λ l. scannedAt s own c room l (c .phase)))
       go p c g nothing = tt
       go p c g (some r) = bounded-scanned s (passed s p) own c room (r .value) (c .phase) (g .phase)
 
-  pub message-bounded : (i : ℕ) (message room out : List ℕ) → Bounded s (clientMessage s own i b message room out .answer)
+  pub message-bounded : (i : ℕ) (message room out : List ℕ) → Sized s (clientMessage s own i b message room out .answer)
   unfolding clientMessage
   message-bounded i message room out =
       bounded-tested s b room out bytes (λ c. onMessage (readToClient s message) (λ m. messageAt s i c room out m)) (passes s)
@@ -293,7 +280,7 @@ module _ (s : Measures) (own : ℕ) (b : List ℕ) (bytes : Bytes b) where
       let w = and-true (leb 1 i) _ (and-true (ltb own (s .m)) _ z .1) in
       go (passed s p) c g (leb-true 1 i (w .0)) (leb-true i (s .n) (w .1)) (readToClient s message)) refl
     where
-      go : Passed s → (c : Client) → GoodClient s c → 1 ≤ i → i ≤ s .n → (m : Option ToClient) → BoundedStep s (onMessage m (λ m. messageAt s i c room out m))
+      go : Passed s → (c : Client) → GoodClient s c → 1 ≤ i → i ≤ s .n → (m : Option ToClient) → SizedStep s (onMessage m (λ m. messageAt s i c room out m))
       go p c g lo up nothing = tt
       go p c g lo up (some m) = bounded-message s p i lo up c g room out m
 
