@@ -321,26 +321,26 @@ module _ (s : Measures) (h : passes s ≡ true) (v : Version) (page room : List 
       split-done (s .n) (s .k) (s .f) page behind (proper-passed s (passed s h)) (rw (to-end room 6) (omega (arith, length-drop 6 room))) short
 
   -- the answer is a length of pieces
-  pub cut-gives : (a : SplitAnswer) → splitOutcome a ≡ split (s .n) (s .k) (s .f) page behind .outcome → (len : ℕ) → a ≡ SplitAnswer.Pieces len
+  pub split-gives : (a : SplitAnswer) → splitOutcome a ≡ split (s .n) (s .k) (s .f) page behind .outcome → (len : ℕ) → a ≡ SplitAnswer.Pieces len
       → len ≡ columns (s .k) (length page)
-  cut-gives a e len f =
+  split-gives a e len f =
       ap given (sym (ap splitOutcome f) ∙ e ∙ ap (λ (x : SplitEnd). x .outcome) cut-end)
     where
       given : Outcome → ℕ
       given (Outcome.gives n) = n
       given (Outcome.refuses n) = 0
 
-  pub cut-refuses : (a : SplitAnswer) → splitOutcome a ≡ split (s .n) (s .k) (s .f) page behind .outcome → (r : Refusal) → a ≡ SplitAnswer.Refused r → ⊥
-  cut-refuses a e r f =
+  pub split-refuses : (a : SplitAnswer) → splitOutcome a ≡ split (s .n) (s .k) (s .f) page behind .outcome → (r : Refusal) → a ≡ SplitAnswer.Refused r → ⊥
+  split-refuses a e r f =
       true≢false (ap gives (sym (ap (λ (x : SplitEnd). x .outcome) cut-end) ∙ sym e ∙ ap splitOutcome f))
     where
       gives : Outcome → Bool
       gives (Outcome.gives n) = true
       gives (Outcome.refuses n) = false
 
-  pub cut-room : (u : List ℕ) → u ≡ split (s .n) (s .k) (s .f) page behind .room
+  pub split-room : (u : List ℕ) → u ≡ split (s .n) (s .k) (s .f) page behind .room
       → writeToNode (ToNode.store v []) ++ drop 6 (take 6 room ++ (u ++ drop (length room - 6) (drop 6 room))) ≡ storesRoom s v page room
-  cut-room u e =
+  split-room u e =
       let n : drop (length room - 6) (drop 6 room) ≡ [] = ap (λ (k : ℕ). drop k (drop 6 room)) (sym (length-drop 6 room)) ∙ drop-length (drop 6 room) in
       ap (λ (l : List ℕ). writeToNode (ToNode.store v []) ++ l)
       (drop-at (take 6 room) (u ++ drop (length room - 6) (drop 6 room)) 6 (length-take-le 6 room (omega arith))

@@ -153,7 +153,7 @@ fn put_stores(s: Measures, v: Version, len: usize, room: &[u8], area: &mut [u8],
 }
 
 // The pieces of a page behind their common front, and their length.
-fn cut(s: Measures, page: &[u8], room: &mut [u8], v: Version) -> usize
+fn put_pieces(s: Measures, page: &[u8], room: &mut [u8], v: Version) -> usize
     requires { ⌜ (passes s ≡ true) × (length (now page) ≤ s .k * s .f - 4) × (roomSize s ≤ length (now room)) ⌝ }
     ensures { λ r. ⌜ (r ≡ columns (s .k) (length (now (page .entry)))) × (now (room .exit) ≡ storesRoom s v (now (page .entry)) (now (room .entry))) ⌝ }
 {
@@ -189,7 +189,7 @@ pub fn draw(
         sequence: q,
         client: own as u8,
     };
-    let len = cut(s, &area[from..to], room, v);
+    let len = put_pieces(s, &area[from..to], room, v);
     put_stores(s, v, len, room, area, at);
     ClientAnswer::Stores(v, len)
 }

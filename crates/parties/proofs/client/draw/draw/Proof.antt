@@ -42,14 +42,14 @@ cast-t16 c =
     let q = c .before .before .before .before .before .pre in
     omega (arith, sizes (a .s) (q .0) .clients, q .1)
 
-sub-cut : tie.Need-sub-cut
-sub-cut c = search needs
+sub-put-pieces : tie.Need-sub-put-pieces
+sub-put-pieces c = search needs
 
-part-cut-start : tie.Need-part-cut-start
-part-cut-start c = search needs
+part-put-pieces-start : tie.Need-part-put-pieces-start
+part-put-pieces-start c = search needs
 
-part-cut-end : tie.Need-part-cut-end
-part-cut-end c =
+part-put-pieces-end : tie.Need-part-put-pieces-end
+part-put-pieces-end c =
     let x = c .before .before .before .before .before .before in
     let a = x .args in
     let q = x .pre in
@@ -58,8 +58,8 @@ part-cut-end c =
     in
     omega (arith, f)
 
-cut-requires : tie.Need-cut-requires
-cut-requires c κs =
+put-pieces-requires : tie.Need-put-pieces-requires
+put-pieces-requires c κs =
     let x = c .before .before .before .before .before .before in
     let a = x .before .before .args in
     let q = x .before .before .pre in (
@@ -80,7 +80,7 @@ put-stores-requires c κs =
     in
     let g = columns-within (a .s .k) (a .s .f) _ (passed (a .s) (q .0) .parts) (passed (a .s) (q .0) .frame) f in (
       q .0,
-      omega (arith, g, c .before .before .before .before .cut .ensures .0),
+      omega (arith, g, c .before .before .before .before .put-pieces .ensures .0),
       search needs,
       omega
           (arith, work-within (a .s) (a .p) (a .area .now) (opened y), x .before .before .before .before .work-at .ensures),
@@ -99,8 +99,8 @@ returns c =
     let a = y .before .before .before .before .before .args in
     let q = y .before .before .before .before .before .pre in
     ends-three _ _ (drawn-at (a .s) (a .own) (q .1) (a .p) (a .area .now) (opened (y .before .before .before .before)) (q .2) (y .before .before .work-at .result)
-    (y .before .before .work-at .ensures) (y .u32-at .result) _ (y .u32-at .ensures) (a .q) (q .5) (small-sequence (y .before .before)) (a .room .now) (q .4) (x .before .before .cut .result)
-    (x .before .before .cut .ensures .0) _ (x .before .before .cut .ensures .1) _ (c .before .before .put-stores .ensures))
+    (y .before .before .work-at .ensures) (y .u32-at .result) _ (y .u32-at .ensures) (a .q) (q .5) (small-sequence (y .before .before)) (a .room .now) (q .4) (x .before .before .put-pieces .result)
+    (x .before .before .put-pieces .ensures .0) _ (x .before .before .put-pieces .ensures .1) _ (c .before .before .put-stores .ensures))
 
 pub draw-spec : {M : Type 1} → statement M
 draw-spec =
@@ -112,10 +112,10 @@ draw-spec =
     cast-to
     add-to
     cast-t16
-    sub-cut
-    part-cut-start
-    part-cut-end
-    cut-requires
+    sub-put-pieces
+    part-put-pieces-start
+    part-put-pieces-end
+    put-pieces-requires
     put-stores-requires
     same-length
     same-length-2

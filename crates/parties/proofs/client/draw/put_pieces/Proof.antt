@@ -1,8 +1,8 @@
 use mathlib.Core.Path.{_∙_}
-use Rattle.parties.proofs.client.DrawLaws.{cut-gives, cut-refuses, cut-room}
+use Rattle.parties.proofs.client.DrawLaws.{split-gives, split-refuses, split-room}
 use borrow.Author.Needs.{needs}
-use Rattle.parties.proofs.client.draw.cut.Statement.{statement}
-use Rattle.parties.proofs.client.draw.cut.Tie as tie
+use Rattle.parties.proofs.client.draw.put_pieces.Statement.{statement}
+use Rattle.parties.proofs.client.draw.put_pieces.Tie as tie
 
 sub-split : tie.Need-sub-split
 sub-split c = search needs
@@ -34,7 +34,7 @@ returns c =
     let y = x .before .before .before .before .before .before in
     let a = y .args in
     let q = y .pre in
-    absurd (cut-refuses (a .s) (q .0) (a .v) (a .page .now) (a .room .now) (q .1) (q .2) (x .before .before .split .result) (x .before .before .split .ensures .0) (c .enum-told .given .0 .0)
+    absurd (split-refuses (a .s) (q .0) (a .v) (a .page .now) (a .room .now) (q .1) (q .2) (x .before .before .split .result) (x .before .before .split .ensures .0) (c .enum-told .given .0 .0)
     (c .enum-told .given .1))
 
 same-length-2 : tie.Need-same-length-2
@@ -47,12 +47,12 @@ returns-2 c =
     let a = z .before .args in
     let q = z .before .pre in
     let y = x .before .before .before .split .ensures in (
-      cut-gives (a .s) (q .0) (a .v) (a .page .now) (a .room .now) (q .1) (q .2) (x .before .before .before .split .result) (y .0) (c .before .a .given .0 .0) (c .before .a .given .1),
-      c .before .before .before .before .before .put-front .ensures ∙ cut-room (a .s) (q .0) (a .v) (a .page .now) (a .room .now) (q .1) (q .2) _ (y .1),
+      split-gives (a .s) (q .0) (a .v) (a .page .now) (a .room .now) (q .1) (q .2) (x .before .before .before .split .result) (y .0) (c .before .a .given .0 .0) (c .before .a .given .1),
+      c .before .before .before .before .before .put-front .ensures ∙ split-room (a .s) (q .0) (a .v) (a .page .now) (a .room .now) (q .1) (q .2) _ (y .1),
     )
 
-pub cut-spec : {M : Type 1} → statement M
-cut-spec =
+pub put-pieces-spec : {M : Type 1} → statement M
+put-pieces-spec =
     tie.close
     (tie.spec
     sub-split
