@@ -1,12 +1,15 @@
 #!/usr/bin/env python3
-"""An independent account of document 01's pieces, split and join, the cases that `pieces_vectors` executes and the lines that it is held to.
+"""An independent account of document 01's pieces, split and join, and of document 02's piece cut alone (d); the cases that `pieces_vectors` executes
+and the lines that it is held to.
 
     pieces.py FOLDER    writes FOLDER/stdin, the cases, and FOLDER/stdout, their lines
 
-Written from document 01 and, for what it leaves open, docs/DECISIONS.md (1, 3, 5, 6, 8): products by shifts and reduction modulo hex 11D, joining by
-Lagrange's form, no tables of powers and no grid. The author of the account (the field, frames, `split`, `join`) had not read the code or the
-definitions of split and join; those who later wrote the cases as input, and the form of the lines, had. What input and lines mean stands at the
-top of `pieces_vectors`. A room or an output is at first `poison`; an absent piece has a length that no piece may have."""
+Written from documents 01 and 02 and, for what 01 leaves open, docs/DECISIONS.md (1, 3, 5, 6, 8): products by shifts and reduction modulo hex 11D,
+joining by Lagrange's form, no tables of powers and no grid; `cut` by Horner's rule, from the page without a frame. The authors of the account (the
+field, frames, `split`, `join`; later `cut`) had not read the code or the definitions of split, join and cut; those who wrote the cases of split and
+join as input, and the form of the lines, had. What input and lines mean stands at the top of `pieces_vectors`. A room or an output is at first
+`poison`; an absent piece has a length that no piece may have."""
+import itertools
 import sys
 
 
@@ -36,7 +39,7 @@ def proper(n, k, f):
     return 1 <= n <= 16 and 1 <= k <= n and 1 <= f <= 4096 and k * f >= 4
 
 
-def cut(k, frame, i):
+def piece_of(k, frame, i):
     """Piece i of a frame of a multiple of k bytes."""
     powers = [1]
     while len(powers) < k:
@@ -52,6 +55,21 @@ def cut(k, frame, i):
 def framed(k, page):
     frame = len(page).to_bytes(4, 'big') + page
     return frame + bytes(-len(frame) % k)
+
+
+def frame_byte(page, at):
+    """Of the length, of the page, or a zero behind it."""
+    if at < 4:
+        return len(page) >> 8 * (3 - at) & 255
+    return page[at - 4] if at - 4 < len(page) else 0
+
+
+def value(factors, x):
+    """A polynomial at x, lowest power first."""
+    result = 0
+    for factor in reversed(factors):
+        result = TIMES[x][result] ^ factor
+    return result
 
 
 def weights(nodes):
@@ -91,7 +109,7 @@ def unframed(k, frame):
     return rest[:length]
 
 
-# The two calls: a refusal's number or 0, the length answered, and what was lent after the call.
+# The three calls: a refusal's number or 0, the length answered, and what was lent after the call.
 
 def split(n, k, f, page, room):
     if not proper(n, k, f):
@@ -104,8 +122,22 @@ def split(n, k, f, page, room):
     length = len(frame) // k
     for i in range(1, n + 1):
         at = (i - 1) * f
-        room = room[:at] + cut(k, frame, i) + room[at + length:]
+        room = room[:at] + piece_of(k, frame, i) + room[at + length:]
     return 0, length, room
+
+
+def cut(n, k, f, i, page, room):
+    if not proper(n, k, f):
+        return 1, 0, room
+    if len(room) < f:
+        return 2, 0, room
+    if not 1 <= i <= n:
+        return 3, 0, room
+    if len(page) > k * f - 4:
+        return 6, 0, room
+    columns = range(0, 4 + len(page), k)
+    piece = bytes(value([frame_byte(page, at + r) for r in range(k)], i) for at in columns)
+    return 0, len(piece), piece + room[len(piece):]
 
 
 def join(n, k, f, nodes, room, lengths, out):
@@ -182,7 +214,7 @@ class Calls:
 
     def called(self, what, n, k, f, number, length, given, written, ends):
         """A line ends with a call of which all is printed; of those before it there is a digit."""
-        self.command(what if ends else what + 2, k)
+        self.command(what if ends else what + 3, k)
         for data in given, written:
             self.sum = (self.sum * 31 + checksum(data)) % 2 ** 32
         if not ends:
@@ -190,7 +222,7 @@ class Calls:
             return
         arguments = n, k, f, self.numbers.get(3, 0), len(given), self.numbers.get(6, 0), len(written)
         few = ''.join(' ' + data.hex() for data in (given, written) if len(data) <= 20)
-        self.text += 'split' if what == 10 else 'join'
+        self.text += {10: 'split', 11: 'join', 12: 'cut %d' % self.numbers.get(7, 0)}[what]
         self.text += ' %d %d %d %04x %d %d %d: ' % arguments
         self.text += '%d %d%s sum %d\n' % (number, 0 if number else length, few, self.sum)
         self.sum = 0
@@ -211,6 +243,24 @@ class Calls:
         self.give(room)
         number, length, out = join(n, k, f, nodes, room, lengths, poison(size))
         self.called(11, n, k, f, number, length, room, out, ends)
+
+    def cut(self, n, k, f, i, page, size, ends=True):
+        for what, x in zip((1, 2, 4, 5, 7), (n, f, len(page), size, i)):
+            self.number(what, x)
+        self.give(page)
+        number, length, room = cut(n, k, f, i, page, poison(size))
+        if number == 0:
+            # area i of the whole split
+            _, whole, areas = split(n, k, f, page, poison(n * f))
+            assert length == whole and room[:length] == areas[(i - 1) * f:][:length], (n, k, f, i)
+        assert room[length:] == poison(size)[length:], (n, k, f, i)
+        self.called(12, n, k, f, number, length, page, room, ends)
+
+    def cuts(self, n, k, f, page, more=0):
+        """The whole split, then each node's piece alone, in rooms that are so much longer than needed: a line."""
+        self.split(n, k, f, page, n * f + more, False)
+        for i in range(1, n + 1):
+            self.cut(n, k, f, i, page, f + more, i == n)
 
     def rejoin(self, n, k, length, nodes):
         """Of the pieces of a page only those stay whole that are to be used."""
@@ -243,9 +293,12 @@ def highest(n, k):
 CHANGED = [(4, 2, 5, 5, 0x0005), (5, 3, 4, 7, 0x001C)]
 
 
+# Document 01's edges, at n 4 and F 4: k and the page.
+EDGES = [(2, '030a1118'), (2, '030a11181f'), (2, ''), (2, '41'), (3, '4142')]
+
+
 def splits(v):
-    # document 01's edges
-    for k, page in [(2, '030a1118'), (2, '030a11181f'), (2, ''), (2, '41'), (3, '4142')]:
+    for k, page in EDGES:
         v.split(4, k, 4, bytes.fromhex(page), 16)
     for n, k in CODES:
         for length in page_lengths(k):
@@ -258,6 +311,21 @@ def splits(v):
             v.split(n, k, 40, some_page(29), n * 40)
     for n, k, f, length, _ in CHANGED:
         v.split(n, k, f, some_page(length), 20)
+
+
+def cuts(v):
+    for k, page in EDGES:
+        for i in range(1, 5):
+            v.cut(4, k, 4, i, bytes.fromhex(page), 4)
+    for n, k in CODES:
+        for length in page_lengths(k):
+            v.cuts(n, k, 40, some_page(length))
+        v.cuts(n, k, 5, some_page(k * 5 - 4))
+        v.cuts(n, k, 5, some_page(k * 5 - 3))
+        v.cuts(n, k, 7, some_page(3), 5)
+    for n in range(1, 17):
+        for k in range(1, n + 1):
+            v.cuts(n, k, 40, some_page(29))
 
 
 def joins(v):
@@ -284,19 +352,43 @@ def joins(v):
             v.join(n, k, f, nodes, room[:at] + bytes([room[at] ^ 0x5A]) + room[at + 1:], [size] * 16, 20)
 
 
+# Numbers for n and k, and for F.
+COUNTS = [0, 1, 2, 3, 4, 15, 16, 17, 2 ** 32, 2 ** 63, 2 ** 64 - 1]
+WIDTHS = [0, 1, 2, 3, 4, 8, 4096, 4097, 2 ** 62, 2 ** 63, 2 ** 64 - 1]
+
+# The bytes of page and room: a room too short for a page too long, a page too long, neither.
+LENT = [(200, 0), (200, 128), (0, 128)]
+
+
 def measures(v):
     """A line has every k."""
-    counts = [0, 1, 2, 3, 4, 15, 16, 17, 2 ** 32, 2 ** 63, 2 ** 64 - 1]
-    widths = [0, 1, 2, 3, 4, 8, 4096, 4097, 2 ** 62, 2 ** 63, 2 ** 64 - 1]
-    every = [(n, k, f) for n in counts for f in widths for k in counts]
-    # a room too short for a page too long, a page too long, neither
-    for length, size in [(200, 0), (200, 128), (0, 128)]:
+    every = [(n, k, f) for n in COUNTS for f in WIDTHS for k in COUNTS]
+    for length, size in LENT:
         for n, k, f in every:
-            v.split(n, k, f, some_page(length), size, k == counts[-1])
+            v.split(n, k, f, some_page(length), size, k == COUNTS[-1])
     # slices too short for a wrong map, a wrong map, no piece
     for nodes, count, size in [(0xFFFF, 0, 0), (0xFFFF, 16, 128), (0, 16, 128)]:
         for n, k, f in every:
-            v.join(n, k, f, nodes, bytes(128), [0] * count, size, k == counts[-1])
+            v.join(n, k, f, nodes, bytes(128), [0] * count, size, k == COUNTS[-1])
+
+
+def cut_measures(v):
+    """A line has every k, for a node that there is and for one that there is not."""
+    for (length, size), wrong in zip(LENT, (17, 2 ** 64 - 1, 0)):
+        for n, f, i, k in itertools.product(COUNTS, WIDTHS, (1, wrong), COUNTS):
+            v.cut(n, k, f, i, some_page(length), size, i == wrong and k == COUNTS[-1])
+
+
+def cut_refusals(v):
+    """Every order of the causes. A line has the fullest page and one byte more, in rooms longer than needed, of the needed length, one byte less and
+    none."""
+    for n, k, f in [(1, 1, 4), (2, 2, 2), (16, 16, 1), (16, 1, 9), (4, 2, 8), (5, 3, 3), (1, 1, 4096)]:
+        sizes = sorted({f + 5, f, f - 1, 0}, reverse=True)
+        # of two of these the low bits are a node's
+        nodes = sorted({1, n, 0, n + 1, 17, 2 ** 8 + 1, 2 ** 32, 2 ** 32 + 1, 2 ** 63, 2 ** 64 - 1})
+        for (count, parts), i in itertools.product([(n, k), (n, n + 1), (17, k)], nodes):
+            for more, size in itertools.product((0, 1), sizes):
+                v.cut(count, parts, f, i, some_page(k * f - 4 + more), size, more == 1 and size == 0)
 
 
 def refusals(v):
@@ -339,13 +431,15 @@ def frames(v):
         # of three the lowest node is absent; what no piece fills is hex EE
         n, f, nodes = [(1, 6, [1]), (2, 4, [1, 2]), (4, 3, [2, 3, 4])][k - 1]
         frame = bytes.fromhex(frame)
-        room = b''.join((cut(k, frame, i) if i in nodes else b'').ljust(f, b'\xee') for i in range(1, n + 1))
+        room = b''.join((piece_of(k, frame, i) if i in nodes else b'').ljust(f, b'\xee') for i in range(1, n + 1))
         v.join(n, k, f, sum(1 << (i - 1) for i in nodes), room, [len(frame) // k] * 16, 16)
 
 
 def large(v):
     """The largest areas: 16 nodes and pieces of 4,096 bytes."""
     rooms = {k: v.split(16, k, 4096, some_page(k * 4096 - 4), 65536) for k in (16, 8)}
+    for k, i in itertools.product((16, 8), (1, 7, 16)):
+        v.cut(16, k, 4096, i, some_page(k * 4096 - 4), 4096)
     for k, nodes in [(16, 0xFFFF), (8, 0xFF00), (8, 0xFFFF), (8, 0xB5A6)]:
         room = spoiled(16, k, 4096, nodes, rooms[k]) if nodes == 0xB5A6 else rooms[k]
         v.join(16, k, 4096, nodes, room, [4096] * 16, 65532)
@@ -353,7 +447,7 @@ def large(v):
 
 def main(folder):
     v = Calls()
-    for part in (splits, joins, measures, refusals, frames, large):
+    for part in (splits, cuts, cut_measures, cut_refusals, joins, measures, refusals, frames, large):
         part(v)
     open(folder + '/stdin', 'wb').write(v.commands)
     open(folder + '/stdout', 'w').write(v.text)

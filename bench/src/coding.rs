@@ -13,6 +13,16 @@ mod archive {
             room: *mut u8,
             room_len: usize,
         ) -> u64;
+        pub fn coding_cut(
+            n: usize,
+            k: usize,
+            f: usize,
+            i: usize,
+            page: *const u8,
+            page_len: usize,
+            room: *mut u8,
+            room_len: usize,
+        ) -> u64;
         pub fn coding_join(
             n: usize,
             k: usize,
@@ -37,6 +47,23 @@ pub fn split(n: usize, k: usize, f: usize, page: &[u8], room: &mut [u8]) -> Answ
             n,
             k,
             f,
+            page.as_ptr(),
+            page.len(),
+            room.as_mut_ptr(),
+            room.len(),
+        )
+    })
+}
+
+/// Piece i of the page alone, as in the whole split, goes to the front of a room of f bytes; the answer is its length.
+pub fn cut(n: usize, k: usize, f: usize, i: usize, page: &[u8], room: &mut [u8]) -> Answer {
+    // SAFETY: as above.
+    of_code(unsafe {
+        archive::coding_cut(
+            n,
+            k,
+            f,
+            i,
             page.as_ptr(),
             page.len(),
             room.as_mut_ptr(),

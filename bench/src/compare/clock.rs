@@ -73,7 +73,12 @@ impl Task {
 
     /// A side's time over the proved one's.
     pub fn ratio(&self, side: usize) -> Option<f64> {
-        Some(self.ns(side)? / self.ns(0)?)
+        self.over(side, 0)
+    }
+
+    /// A side's time over another's.
+    pub fn over(&self, side: usize, other: usize) -> Option<f64> {
+        Some(self.ns(side)? / self.ns(other)?)
     }
 
     fn measure(&mut self) {

@@ -1,4 +1,4 @@
-//! Cutting a page into pieces, joining pieces, and SHA-256, as document 01 and FIPS 180-4 define them.
+//! Cutting a page into pieces, or one of them alone, joining pieces, and SHA-256, as documents 01 and 02 and FIPS 180-4 define them.
 
 use jolbizna::Answer;
 
@@ -22,6 +22,24 @@ pub fn split(n: usize, k: usize, f: usize, page: &[u8], room: &mut [u8]) -> Answ
         room[(i - 1) * f..][..piece.len()].copy_from_slice(&piece);
     }
     Ok(frame.len() / k)
+}
+
+/// One piece alone; `plain-runs` has no use for it.
+#[allow(dead_code)]
+pub fn cut(n: usize, k: usize, f: usize, i: usize, page: &[u8], room: &mut [u8]) -> Answer {
+    measured(n, k, f)?;
+    if room.len() < f {
+        return Err(2);
+    }
+    if i == 0 || i > n {
+        return Err(3);
+    }
+    if page.len() > k * f - LENGTH {
+        return Err(6);
+    }
+    let piece = piece(k, i, &frame(k, page));
+    room[..piece.len()].copy_from_slice(&piece);
+    Ok(piece.len())
 }
 
 pub fn join(

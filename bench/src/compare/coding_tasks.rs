@@ -3,7 +3,7 @@
 use crate::clock::{Section, Task, Work};
 use crate::isal::{Joiner, Splitter};
 use crate::libraries::{Isal, OpenSsl};
-use crate::pieces::{same_digest, same_join, same_split};
+use crate::pieces::{same_alone, same_cut, same_digest, same_join, same_split};
 use crate::plain;
 use crate::random::Numbers;
 use crate::report::{cell, head, line, ratio, us};
@@ -218,6 +218,77 @@ fn print_whole(tasks: &[Task]) {
             cells.extend([us(t.ns(WITH_ROWS)), ratio(t.ratio(WITH_ROWS))]);
             line("  with the rows", &cells);
         }
+    }
+}
+
+// The sides beside the whole split, where pieces are cut alone.
+const EACH: usize = 1;
+const LAST: usize = 2;
+const LAST_IN_RUST: usize = 3;
+
+/// A whole split, each of its pieces cut alone, and the last node's piece on both sides.
+fn alone_task(numbers: &mut Numbers, k: usize, n: usize) -> Task {
+    let name = format!("cut ({k}, {n})");
+    let (page, room) = (numbers.bytes(k * F - 4), numbers.bytes(n * F));
+    let (pieces, answer) = same_split(n, k, F, &page, &room);
+    same_alone(n, k, F, &page, &pieces, answer.expect("a full page fits"));
+    let lent = |bytes: usize| (page.clone(), room[..bytes].to_vec());
+    let [(whole, mut areas), (each, mut rooms)] = [lent(n * F), lent(n * F)];
+    let [(ours, mut our_room), (theirs, mut their_room)] = [lent(F), lent(F)];
+    let (end, answer) = same_cut(n, k, F, n, &page, &our_room);
+    let same = plain::cut(n, k, F, n, &page, &mut their_room) == answer && their_room == end;
+    assert!(same, "{name}: the baseline differs");
+    Task::new(name, page.len(), move || {
+        black_box(coding::split(n, k, F, &whole, &mut areas)).ok();
+    })
+    .beside(move || {
+        for (i, room) in (1..=n).zip(rooms.chunks_exact_mut(F)) {
+            black_box(coding::cut(n, k, F, i, &each, room)).ok();
+        }
+    })
+    .beside(move || {
+        black_box(coding::cut(n, k, F, n, &ours, &mut our_room)).ok();
+    })
+    .beside(move || {
+        black_box(plain::cut(n, k, F, n, &theirs, &mut their_room)).ok();
+    })
+}
+
+/// Full pages, of which one piece is wanted.
+pub fn alone(numbers: &mut Numbers) -> Section {
+    let tasks = SHAPES.map(|(k, n)| alone_task(numbers, k, n));
+    Section {
+        tasks: tasks.into(),
+        print: print_alone,
+    }
+}
+
+fn print_alone(tasks: &[Task]) {
+    head(
+        "one piece, F 4096",
+        &[
+            "split us",
+            "n cuts us",
+            "to n cuts",
+            "one cut us",
+            "share",
+            "Rust us",
+            "to Rust",
+        ],
+    );
+    for t in tasks {
+        line(
+            &t.name,
+            &[
+                us(t.ns(0)),
+                us(t.ns(EACH)),
+                ratio(t.over(0, EACH)),
+                us(t.ns(LAST)),
+                ratio(t.ratio(LAST)),
+                us(t.ns(LAST_IN_RUST)),
+                ratio(t.over(LAST_IN_RUST, LAST)),
+            ],
+        );
     }
 }
 

@@ -73,6 +73,7 @@ fn runs(numbers: &mut Numbers) {
 fn times(numbers: &mut Numbers) {
     let mut sections = [
         coding_tasks::whole(numbers),
+        coding_tasks::alone(numbers),
         operations::whole(numbers),
         tables::largest(numbers),
         coding_tasks::longer(numbers),

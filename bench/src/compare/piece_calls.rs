@@ -1,8 +1,8 @@
-//! Calls without order to split, join and digest, valid and damaged: two implementations must answer and leave the same, and each refusal
-//! must be met by each of its causes.
+//! Calls without order to split, cut, join and digest, valid and damaged: two implementations must answer and leave the same, and each
+//! refusal must be met by each of its causes.
 
 use crate::frames;
-use crate::pieces::{same_digest, same_join, same_split};
+use crate::pieces::{same_alone, same_cut, same_digest, same_join, same_split};
 use crate::random::Numbers;
 use crate::tally::Tally;
 use jolbizna::Answer;
@@ -18,6 +18,10 @@ const ROOM: Names = ["room short by one", "room empty", "room shorter"];
 const LENGTHS: Names = ["lengths short by one", "lengths empty", "lengths shorter"];
 const OUTPUT: Names = ["output short by one", "output empty", "output shorter"];
 
+/// A node that there is not.
+const NODE: Names = ["node 0", "node above n by one", "node far above n"];
+
+const TOO_LONG: &str = "page too long";
 const ABOVE: &str = "node above n";
 const WRAPS: &str = "a product wraps";
 
@@ -30,6 +34,19 @@ fn short(names: Names, len: usize, need: usize) -> Option<Cause> {
         _ => other,
     };
     Some((2, name))
+}
+
+/// Where n is 0, no number is above it.
+fn outside(i: usize, n: usize) -> Option<Cause> {
+    let [zero, next, far] = NODE;
+    let name = match i.saturating_sub(n) {
+        _ if i == 0 => zero,
+        0 => return None,
+        _ if n == 0 => return None,
+        1 => next,
+        _ => far,
+    };
+    Some((3, name))
 }
 
 /// More than this is not lent to measures that are out of bounds.
@@ -61,7 +78,7 @@ struct Shape {
 impl Shape {
     /// One that passes: most are small, a few as large as can be.
     fn passing(numbers: &mut Numbers) -> Self {
-        if numbers.below(900) == 0 {
+        if numbers.below(600) == 0 {
             return Shape {
                 n: 16,
                 k: 16,
@@ -168,18 +185,24 @@ fn odd(numbers: &mut Numbers, bound: usize) -> usize {
 struct Account {
     calls: Tally,
     split: Tally,
+    cut: Tally,
     join: Tally,
     digest: Tally,
+    /// The causes of a cut's refusal, where there were two.
+    pairs: BTreeSet<[&'static str; 2]>,
     /// The lengths whose digests were made.
     lengths: BTreeSet<usize>,
 }
 
-const ORDERS: [(u32, u32, &str); 6] = [
+const ORDERS: [(u32, u32, &str); 9] = [
     (1, 2, "1 before 2"),
+    (1, 3, "1 before 3"),
     (1, 6, "1 before 6"),
+    (2, 3, "2 before 3"),
     (2, 4, "2 before 4"),
     (2, 6, "2 before 6"),
     (2, 9, "2 before 9"),
+    (3, 6, "3 before 6"),
     (4, 9, "4 before 9"),
 ];
 
@@ -205,9 +228,8 @@ fn note_all(tally: &mut Tally, cases: &[(bool, &'static str)], number: u32) {
     }
 }
 
-fn split(numbers: &mut Numbers, account: &mut Account) {
-    let s = Shape::any(numbers);
-    let Shape { n, k, f } = s;
+/// A page that fits, or one that is too long.
+fn any_page(numbers: &mut Numbers, s: Shape) -> Vec<u8> {
     let most = s.page().min(MOST);
     let len = match numbers.below(8) {
         0 => most,
@@ -216,14 +238,21 @@ fn split(numbers: &mut Numbers, account: &mut Account) {
         3 => numbers.below(2),
         _ => numbers.below(most + 1),
     };
-    let page = numbers.bytes(len);
+    numbers.bytes(len)
+}
+
+fn split(numbers: &mut Numbers, account: &mut Account) {
+    let s = Shape::any(numbers);
+    let Shape { n, k, f } = s;
+    let page = any_page(numbers, s);
+    let len = page.len();
     let room = around(numbers, s.room());
     let room = numbers.bytes(room);
     let (end, answer) = same_split(n, k, f, &page, &room);
     account.calls.note("split", answer.err().unwrap_or(0));
     let mut causes = s.faults();
     causes.extend(short(ROOM, room.len(), s.room()));
-    causes.extend((len > s.page()).then_some((6, "page too long")));
+    causes.extend((len > s.page()).then_some((6, TOO_LONG)));
     let tally = &mut account.split;
     judge(tally, &causes, answer, || format!("split {s:?} {len}"));
     let Ok(size) = answer else {
@@ -249,11 +278,71 @@ fn split(numbers: &mut Numbers, account: &mut Account) {
         rest(&end) == rest(&room),
         "split {s:?} {len}: the rest changed"
     );
+    same_alone(n, k, f, &page, &end, size);
     let cases = [
         (page.is_empty(), "served: empty page"),
         (len == s.page(), "served: full page"),
         (frame.len() == 4 + len, "served: no zeros"),
         (room.len() == s.room(), "served: exact room"),
+        (len > 10_000, "served: over 10000 bytes"),
+        (s.is_largest(), "served: largest measures"),
+    ];
+    note_all(tally, &cases, 0);
+}
+
+/// A node that there is, most times; else 0, one above, or any number.
+fn node(numbers: &mut Numbers, n: usize) -> usize {
+    let there = 1 + numbers.below(n.max(1));
+    match numbers.below(16) {
+        0 => 0,
+        1 => n.saturating_add(1),
+        // The low bits are a node's.
+        2 => there.saturating_add(1 << (8 + numbers.below(56))),
+        3 => odd(numbers, 16),
+        4 => n,
+        _ => there,
+    }
+}
+
+fn cut(numbers: &mut Numbers, account: &mut Account) {
+    let s = Shape::any(numbers);
+    let Shape { n, k, f } = s;
+    let i = node(numbers, n);
+    let page = any_page(numbers, s);
+    let len = page.len();
+    let room = around(numbers, f);
+    let room = numbers.bytes(room);
+    let (end, answer) = same_cut(n, k, f, i, &page, &room);
+    account.calls.note("cut", answer.err().unwrap_or(0));
+    let mut causes = s.faults();
+    causes.extend(short(ROOM, room.len(), f));
+    causes.extend(outside(i, n));
+    causes.extend((len > s.page()).then_some((6, TOO_LONG)));
+    if let [(_, first), (_, then)] = causes[..] {
+        account.pairs.insert([first, then]);
+    }
+    let tally = &mut account.cut;
+    judge(tally, &causes, answer, || format!("cut {s:?} {i} {len}"));
+    let Ok(size) = answer else {
+        assert!(end == room, "cut {s:?} {i} {len}: refused, but changed");
+        let by_one = causes.len() == 1 && len == s.page() + 1;
+        let cases = [(s.wraps(), WRAPS), (by_one, "page long by one")];
+        note_all(tally, &cases, answer.err().unwrap_or(0));
+        return;
+    };
+    let frame = frames::of_page(k, &page);
+    assert!(
+        end[..size] == frames::piece(k, i, &frame) && end[size..] == room[size..],
+        "cut {s:?} {i} {len}: another piece, or the rest changed"
+    );
+    let cases = [
+        (page.is_empty(), "served: empty page"),
+        (len == s.page(), "served: full page"),
+        (frame.len() == 4 + len, "served: no zeros"),
+        (room.len() == f, "served: exact room"),
+        (room.len() > f, "served: longer room"),
+        (i == 1, "served: first node"),
+        (i == n, "served: last node"),
         (len > 10_000, "served: over 10000 bytes"),
         (s.is_largest(), "served: largest measures"),
     ];
@@ -528,7 +617,7 @@ fn digest(numbers: &mut Numbers, account: &mut Account, turn: usize) {
 
 type Due = (&'static str, &'static [u32]);
 
-/// Of split and of join.
+/// Of split, of cut and of join.
 const MEASURES: [Due; 8] = [
     ("n is 0", &[1]),
     ("n above 16", &[1]),
@@ -544,7 +633,7 @@ const SPLIT: [Due; 14] = [
     (ROOM[0], &[2]),
     (ROOM[1], &[2]),
     (ROOM[2], &[2]),
-    ("page too long", &[6]),
+    (TOO_LONG, &[6]),
     ("page long by one", &[6]),
     ("1 before 2", &[1]),
     ("1 before 6", &[1]),
@@ -553,6 +642,36 @@ const SPLIT: [Due; 14] = [
     ("served: full page", &[0]),
     ("served: no zeros", &[0]),
     ("served: exact room", &[0]),
+    ("served: over 10000 bytes", &[0]),
+    ("served: largest measures", &[0]),
+];
+
+/// What refuses a cut, measures aside. Every two with different numbers must have been met at once, with no third.
+const CUT_CAUSES: [Due; 7] = [
+    (ROOM[0], &[2]),
+    (ROOM[1], &[2]),
+    (ROOM[2], &[2]),
+    (NODE[0], &[3]),
+    (NODE[1], &[3]),
+    (NODE[2], &[3]),
+    (TOO_LONG, &[6]),
+];
+
+const CUT: [Due; 16] = [
+    ("page long by one", &[6]),
+    ("1 before 2", &[1]),
+    ("1 before 3", &[1]),
+    ("1 before 6", &[1]),
+    ("2 before 3", &[2]),
+    ("2 before 6", &[2]),
+    ("3 before 6", &[3]),
+    ("served: empty page", &[0]),
+    ("served: full page", &[0]),
+    ("served: no zeros", &[0]),
+    ("served: exact room", &[0]),
+    ("served: longer room", &[0]),
+    ("served: first node", &[0]),
+    ("served: last node", &[0]),
     ("served: over 10000 bytes", &[0]),
     ("served: largest measures", &[0]),
 ];
@@ -606,16 +725,22 @@ const DIGEST: [Due; 6] = [
 pub fn calls(numbers: &mut Numbers, total: usize) {
     let mut account = Account::default();
     for turn in 0..total {
-        match numbers.below(10) {
+        match numbers.below(12) {
             0..=2 => split(numbers, &mut account),
-            3..=7 => Join::new(numbers).call(&mut account),
+            3..=4 => cut(numbers, &mut account),
+            5..=9 => Join::new(numbers).call(&mut account),
             _ => digest(numbers, &mut account, turn),
         }
     }
-    println!("{total} calls to split, join and digest of the archive and of plain Rust: the same answers and bytes, every refusal by each cause");
+    println!("{total} calls to split, cut, join and digest of the archive and of plain Rust: the same answers and bytes, every refusal by each cause");
     account.calls.print("");
     for (name, tally, due) in [
         ("split", &account.split, [&MEASURES[..], &SPLIT].concat()),
+        (
+            "cut",
+            &account.cut,
+            [&MEASURES[..], &CUT_CAUSES, &CUT].concat(),
+        ),
         ("join", &account.join, [&MEASURES[..], &JOIN].concat()),
         ("digest", &account.digest, DIGEST.to_vec()),
     ] {
@@ -623,6 +748,12 @@ pub fn calls(numbers: &mut Numbers, total: usize) {
         for (case, met) in due {
             let met = BTreeSet::from_iter(met.iter().copied());
             assert_eq!(tally.met(case), met, "{name}: {case}");
+        }
+    }
+    for (first, number) in CUT_CAUSES {
+        for (then, _) in CUT_CAUSES.iter().filter(|(_, other)| *other > number) {
+            let met = account.pairs.contains(&[first, then]);
+            assert!(met, "cut: {first} and {then} at once");
         }
     }
     let every = (0..=300).all(|len| account.lengths.contains(&len));

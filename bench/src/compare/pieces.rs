@@ -1,4 +1,4 @@
-//! Split, join and digest on both sides, with the same bytes.
+//! Split, cut, join and digest on both sides, with the same bytes.
 
 use crate::coding;
 use jolbizna::{coding as proved, Answer};
@@ -19,6 +19,45 @@ pub fn same_split(n: usize, k: usize, f: usize, page: &[u8], room: &[u8]) -> (Ve
         page.len()
     );
     (ours, answer)
+}
+
+pub fn same_cut(
+    n: usize,
+    k: usize,
+    f: usize,
+    i: usize,
+    page: &[u8],
+    room: &[u8],
+) -> (Vec<u8>, Answer) {
+    let (mut ours, mut theirs) = (room.to_vec(), room.to_vec());
+    let answer = proved::cut(n, k, f, i, page, &mut ours);
+    assert_eq!(
+        answer,
+        coding::cut(n, k, f, i, page, &mut theirs),
+        "cut {n} {k} {f} {i} {}",
+        page.len()
+    );
+    assert!(
+        ours == theirs,
+        "cut {n} {k} {f} {i} {}: the rooms differ",
+        page.len()
+    );
+    (ours, answer)
+}
+
+/// The archive cuts each piece of a whole split alone: the same bytes, and the rest of its room stays.
+pub fn same_alone(n: usize, k: usize, f: usize, page: &[u8], pieces: &[u8], size: usize) {
+    for (i, area) in (1..=n).zip(pieces.chunks(f)) {
+        // At first every byte is another.
+        let before: Vec<u8> = area.iter().map(|byte| !byte).collect();
+        let mut room = before.clone();
+        let answer = proved::cut(n, k, f, i, page, &mut room);
+        assert!(
+            answer == Ok(size) && room[..size] == area[..size] && room[size..] == before[size..],
+            "cut {n} {k} {f} {i} {}: not as in the whole split",
+            page.len()
+        );
+    }
 }
 
 pub fn same_join(

@@ -76,16 +76,38 @@ pub fn split(n: usize, k: usize, f: usize, page: &[u8], room: &mut [u8]) -> Answ
     let frame = frame(k, page);
     let len = frame.len() / k;
     for i in 0..n {
-        let powers = powers(i as u8 + 1, k);
-        let piece = &mut room[i * f..i * f + len];
-        for (byte, column) in piece.iter_mut().zip(frame.chunks_exact(k)) {
-            let mut sum = 0;
-            for (b, p) in column.iter().zip(&powers) {
-                sum ^= mul(*b, *p);
-            }
-            *byte = sum;
-        }
+        put_piece(k, i + 1, &frame, &mut room[i * f..i * f + len]);
     }
+    Ok(len)
+}
+
+fn put_piece(k: usize, i: usize, frame: &[u8], piece: &mut [u8]) {
+    let powers = powers(i as u8, k);
+    for (byte, column) in piece.iter_mut().zip(frame.chunks_exact(k)) {
+        let mut sum = 0;
+        for (b, p) in column.iter().zip(&powers) {
+            sum ^= mul(*b, *p);
+        }
+        *byte = sum;
+    }
+}
+
+pub fn cut(n: usize, k: usize, f: usize, i: usize, page: &[u8], room: &mut [u8]) -> Answer {
+    if !proper(n, k, f) {
+        return Err(1);
+    }
+    if room.len() < f {
+        return Err(2);
+    }
+    if i < 1 || n < i {
+        return Err(3);
+    }
+    if k * f - 4 < page.len() {
+        return Err(6);
+    }
+    let frame = frame(k, page);
+    let len = frame.len() / k;
+    put_piece(k, i, &frame, &mut room[..len]);
     Ok(len)
 }
 

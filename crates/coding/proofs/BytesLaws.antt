@@ -7,7 +7,7 @@ use native.Mathlib.Numerals.{add-one}
 use native.Mathlib.Decide.{decLt, ℕ-discrete}
 use native.Mathlib.Omega.{arith}
 use lib.ListN.{length, getD, take, drop, set, replicate, length-append, length-set, List·getD-append, replicate-append-replicate}
-use lib.Seq.{getD-set-same, getD-set-other, take-suc-set, take-all, getD-append-add, getD-append-seam, getD-take, getD-drop, ext-getD, length-take-le, paste, length-paste-head, paste-zero, paste-suc, length-paste}
+use lib.Seq.{getD-set-same, getD-set-other, take-suc-set, getD-append-add, getD-append-seam, getD-take, getD-drop, ext-getD, length-take-le, paste, length-paste-head, paste-zero, paste-suc, length-paste}
 use Rattle.coding.specs.Bytes.{Bytes, tabulate}
 
 pub zeros-at : (n i : ℕ) → getD (replicate {A = ℕ} n 0) i 0 ≡ 0
@@ -78,9 +78,6 @@ module _ {ℓ} {A : Type ℓ} where
   unfolding tabulate
   filled-more v i f h e = rw add-one (take-suc-set v i (f i) h ∙ ap (λ (l : List A). l ++ (f i ∷ [])) e)
 
-  pub filled-all : (v : List A) (n : ℕ) (f : ℕ → A) → length v ≡ n → take n v ≡ tabulate n f → v ≡ tabulate n f
-  filled-all v n f h e = sym (take-all n v (omega arith)) ∙ e
-
 pub map-tabulate : {A B : Type 0} (g : A → B) (n : ℕ) (f : ℕ → A) → map g (tabulate n f) ≡ tabulate n (λ i. g (f i))
 unfolding tabulate
 map-tabulate g zero f = refl
@@ -146,10 +143,6 @@ module _ (f : ℕ → ℕ) (v : List ℕ) (l : ℕ) (s : Lanes f v l) where
         done = rw e (filled-more v l f b (s .done));
       }
 
-  pub lanes-all : 16 ≤ l → v ≡ tabulate 16 f
-  lanes-all h =
-      let e : l ≡ 16 = omega (arith, s .within) in filled-all v 16 f (s .sixteen) (rw e at (s .done))
-
   pub lanes-at : (m i : ℕ) → m ≤ l → i < m → getD v i 0 ≡ f i
   lanes-at m i hm hi =
       let h : i < l = omega arith in
@@ -177,8 +170,8 @@ module _ (f : ℕ → ℕ) (from k : ℕ) (v : List ℕ) (at l : ℕ) (s : Strid
         place = omega (arith, stride l k);
       }
 
-  pub strided-all : 16 ≤ l → v ≡ tabulate 16 (λ i. f (from + i * k))
-  strided-all = lanes-all (λ i. f (from + i * k)) v l (s .lanes)
+  pub strided-at : (m i : ℕ) → m ≤ l → i < m → getD v i 0 ≡ f (from + i * k)
+  strided-at = lanes-at (λ i. f (from + i * k)) v l (s .lanes)
 
 -- a copy of the first m lanes of v, of which l are done
 pub record Pasted (t : List ℕ) (at : ℕ) (v : List ℕ) (m : ℕ) (u : List ℕ) (l : ℕ) : Type 0 where

@@ -7,23 +7,20 @@ use native.Mathlib.Decide.{decLt}
 use native.Mathlib.Omega.{arith}
 use lib.ListN.{length, getD, replicate, length-append, length-replicate, List·getD-append, List·getD-eq-default}
 use lib.Seq.{getD-append-add}
-use Rattle.coding.specs.Bytes.{Bytes, tabulate, fourBytes}
+use Rattle.coding.specs.Bytes.{Bytes, fourBytes}
 use Rattle.coding.specs.Pieces.{columns, frame}
 use Rattle.coding.specs.Frame.{frameByte}
-use Rattle.coding.proofs.BytesLaws.{zeros-at, tabulate-ext}
+use Rattle.coding.proofs.BytesLaws.{zeros-at}
 
 -- past the length stands the page
 pub frame-page : (page : List ℕ) (p : ℕ) → frameByte page (4 + p) ≡ getD page p 0
 frame-page page p = let e : 4 + p ≡ suc (suc (suc (suc p))) = omega arith in rw e
 
--- lanes that lie whole in the page
-pub lanes-page : (page : List ℕ) (from k : ℕ) → 4 ≤ from
-    → tabulate 16 (λ l. getD page (from - 4 + l * k) 0) ≡ tabulate 16 (λ l. frameByte page (from + l * k))
-lanes-page page from k h =
-    tabulate-ext 16 (λ l. getD page (from - 4 + l * k) 0) (λ l. frameByte page (from + l * k))
-    (λ l _.
+-- a lane past the length
+pub lane-page : (page : List ℕ) (from k l : ℕ) → 4 ≤ from → getD page (from - 4 + l * k) 0 ≡ frameByte page (from + l * k)
+lane-page page from k l h =
     let e : from + l * k ≡ 4 + (from - 4 + l * k) = omega arith in
-    sym (ap (frameByte page) e ∙ frame-page page (from - 4 + l * k)))
+    sym (ap (frameByte page) e ∙ frame-page page (from - 4 + l * k))
 
 -- the bytes of the length and of the page are bytes
 pub frame-bytes : (page : List ℕ) → Bytes page → (p : ℕ) → frameByte page p < 256

@@ -18,6 +18,7 @@ pub mod RoundTripLaws
 pub mod JoinEndLaws
 pub mod RefusalLaws
 pub mod RoundTrip
+pub mod CutAlone
 pub mod EdgeCases
 pub mod Sha256Laws
 pub mod DigestLaws

@@ -4,12 +4,13 @@ use mathlib.Core.Bool.{Bool, true, false, cond, _&&_, _||_}
 use mathlib.Core.List.{List}
 use mathlib.Core.Option.{Option, some, none}
 use Prim.Native.Nat.{ℕ, _-_, _*_, _^_}
-use lib.Dec.{ltb}
+use lib.Dec.{leb, ltb}
 use lib.ListN.{length, take}
-use Rattle.coding.specs.Pieces.{proper, columns}
+use lib.Seq.{paste}
+use Rattle.coding.specs.Pieces.{proper, columns, piece}
 use Rattle.coding.specs.Answer.{Outcome}
 use Rattle.coding.specs.Nodes.{nodesOf, sound, firstLength}
-use Rattle.coding.specs.Split.{SplitEnd, written, split}
+use Rattle.coding.specs.Split.{SplitEnd, written, split, cut}
 use Rattle.coding.specs.Join.{joined, pageOf, JoinEnd, pageEnd, join}
 use Rattle.coding.proofs.JoinEndLaws.{refused}
 
@@ -31,6 +32,28 @@ split-kept n k F page room r = go (proper n k F) (ltb (length room) (n * F)) (lt
     go true true c e = refl
     go true false true e = refl
     go true false false e = absurd (refused r (columns k (length page)) (sym e))
+
+-- the room of a cut that refuses
+pub cut-kept : (n k F i : ℕ) (page room : List ℕ) (r : ℕ) → cut n k F i page room .outcome ≡ Outcome.refuses r → cut n k F i page room .room ≡ room
+unfolding cut
+cut-kept n k F i page room r = go (proper n k F) (ltb (length room) F) (leb 1 i && leb i n) (ltb (k * F - 4) (length page))
+  where
+    end : Bool → Bool → Bool → Bool → SplitEnd
+    end a b c d =
+        cond a
+        (cond b (record { outcome = Outcome.refuses 2; room = room })
+        (cond c
+        (cond d (record { outcome = Outcome.refuses 6; room = room })
+        (record { outcome = Outcome.gives (columns k (length page)); room = paste room 0 (piece k page i) (columns k (length page)) }))
+        (record { outcome = Outcome.refuses 3; room = room })))
+        (record { outcome = Outcome.refuses 1; room = room })
+
+    go : (a b c d : Bool) → end a b c d .outcome ≡ Outcome.refuses r → end a b c d .room ≡ room
+    go false b c d e = refl
+    go true true c d e = refl
+    go true false false d e = refl
+    go true false true true e = refl
+    go true false true false e = absurd (refused r (columns k (length page)) (sym e))
 
 -- the output of a join that refuses
 pub join-kept : (n k F present : ℕ) (room lens out : List ℕ) (r : ℕ) → join n k F present room lens out .outcome ≡ Outcome.refuses r

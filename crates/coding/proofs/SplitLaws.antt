@@ -3,11 +3,11 @@ use mathlib.Core.Path.{_≡_, sym, ap, ap₂, _∙_}
 use mathlib.Core.Bool.{true, false}
 use mathlib.Core.List.{List}
 use Prim.Native.Nat.{ℕ, zero, suc, _+_, _-_, _*_, _<_, _≤_}
-use native.Mathlib.Nat.{add-mul, add-zero, suc-mul, le-of-eq}
+use native.Mathlib.Nat.{zero-mul, add-mul, add-zero, suc-mul, le-of-eq}
 use native.Mathlib.Numerals.{add-one}
 use native.Mathlib.Decide.{decLt}
 use native.Mathlib.Omega.{arith}
-use borrow.Author.Tests.{lt-ltb, le-ltb}
+use borrow.Author.Tests.{lt-ltb, le-ltb, le-leb, lt-leb}
 use lib.Bits.{xor-zero-r, xor-comm}
 use lib.ListN.{length, getD, drop, List·getD-eq-default}
 use lib.Seq.{paste, drop-cons, drop-length}
@@ -18,7 +18,7 @@ use Rattle.coding.specs.Pieces.{proper, columns, frame, pieceByte, piece
 use Rattle.coding.specs.Frame.{frameByte}
 use Rattle.coding.specs.Areas.{Columns}
 use Rattle.coding.specs.Answer.{Outcome}
-use Rattle.coding.specs.Split.{written, split}
+use Rattle.coding.specs.Split.{written, split, cut}
 use Rattle.coding.proofs.BytesLaws.{length-tabulate, getD-tabulate, paste-ext}
 use Rattle.coding.proofs.FieldLaws.{zero-product}
 use Rattle.coding.proofs.PolynomialLaws.{sum-same, value-powers}
@@ -83,24 +83,23 @@ pub columns-ext : (n F j m : ℕ) (v w : ℕ → ℕ → ℕ) (t u : List ℕ) �
 columns-ext n F j m v w t u e c =
     record { same = c .same; inside = λ i l hi hl. c .inside i l hi hl ∙ e i l hi hl; outside = c .outside }
 
--- the lanes of row r of the block at column j
-abbrev pub lanes : ℕ → List ℕ → ℕ → ℕ → List ℕ
-lanes k page j r = tabulate 16 (λ l. frameByte page (j * k + r + l * k))
+-- the first m lanes of row r of the block at column j
+abbrev Gathered : ℕ → List ℕ → ℕ → ℕ → ℕ → List ℕ → Type 0
+Gathered k page j m r row = (l : ℕ) → l < m → getD row l 0 ≡ frameByte page (j * k + r + l * k)
 
-lanes-at : (k : ℕ) (page : List ℕ) (j r l : ℕ) → l < 16 → getD (lanes k page j r) l 0 ≡ frameByte page ((j + l) * k + r)
-lanes-at k page j r l h =
-    let e : j * k + r + l * k ≡ (j + l) * k + r = omega (arith, add-mul j l k) in
-    getD-tabulate 16 (λ l. frameByte page (j * k + r + l * k)) l 0 h ∙ ap (frameByte page) e
+gathered-at : (k : ℕ) (page : List ℕ) (j m r : ℕ) (row : List ℕ) → Gathered k page j m r row
+    → (l : ℕ) → l < m → getD row l 0 ≡ frameByte page ((j + l) * k + r)
+gathered-at k page j m r row e l h =
+    let z : j * k + r + l * k ≡ (j + l) * k + r = omega (arith, add-mul j l k) in e l h ∙ ap (frameByte page) z
 
 -- the highest row alone
-pub block-start : (first n F k : ℕ) (page : List ℕ) (j m : ℕ) (row t u : List ℕ) → m ≤ 16 → 1 ≤ k → row ≡ lanes k page j (k - 1)
+pub block-start : (first n F k : ℕ) (page : List ℕ) (j m : ℕ) (row t u : List ℕ) → 1 ≤ k → Gathered k page j m (k - 1) row
     → Columns n F j m (λ i l. getD row l 0) t u → Columns n F j m (rows first k page j (k - 1)) t u
-block-start first n F k page j m row t u hm hk e c =
+block-start first n F k page j m row t u hk e c =
     columns-ext n F j m (λ i l. getD row l 0) (rows first k page j (k - 1)) t u
     (λ i l hi hl.
     let z : k - 1 + 1 ≡ k = omega arith in
-    ap (λ (v : List ℕ). getD v l 0) e
-    ∙ lanes-at k page j (k - 1) l (omega arith)
+    gathered-at k page j m (k - 1) row e l hl
     ∙ sym
     (rows-step first k page j (k - 1) i l (omega arith)
     ∙ ap (λ (x : ℕ). frameByte page ((j + l) * k + (k - 1)) ⊕ product x (first + i + 1))
@@ -110,16 +109,16 @@ block-start first n F k page j m row t u hm hk e c =
     c
 
 -- one row more
-pub block-more : (first n F k : ℕ) (page : List ℕ) (j m r : ℕ) (row t u w : List ℕ) → m ≤ 16 → r < k → row ≡ lanes k page j r
+pub block-more : (first n F k : ℕ) (page : List ℕ) (j m r : ℕ) (row t u w : List ℕ) → r < k → Gathered k page j m r row
     → Columns n F j m (rows first k page j (r + 1)) t u
     → Columns n F j m (λ i l. product (getD u (i * F + (j + l)) 0) (first + i + 1) ⊕ getD row l 0) u w
     → Columns n F j m (rows first k page j r) t w
-block-more first n F k page j m r row t u w hm hr e a b =
+block-more first n F k page j m r row t u w hr e a b =
     columns-again n F j m (rows first k page j (r + 1)) (rows first k page j r) t u w a
     (columns-ext n F j m (λ i l. product (getD u (i * F + (j + l)) 0) (first + i + 1) ⊕ getD row l 0) (rows first k page j r) u w
     (λ i l hi hl.
     ap₂ (λ (x : ℕ) (y : ℕ). product x (first + i + 1) ⊕ y) (a .inside i l hi hl)
-    (ap (λ (v : List ℕ). getD v l 0) e ∙ lanes-at k page j r l (omega arith))
+    (gathered-at k page j m r row e l hl)
     ∙ xor-comm (product (rows first k page j (r + 1) i l) (first + i + 1)) (frameByte page ((j + l) * k + r))
     ∙ sym (rows-step first k page j r i l hr))
     b)
@@ -163,6 +162,22 @@ written-unique k F page room n u f h r c =
     columns-unique n F (columns k (length page)) (λ i l. pieceByte k (frame k page) (i + 1) l) room u (written k F page room n) f h c
     (written-columns k F page room n h r)
 
+-- the room that cutting one piece leaves
+pub piece-unique : (k F : ℕ) (page room : List ℕ) (i : ℕ) (u : List ℕ) → 1 ≤ F → 1 ≤ i → columns k (length page) ≤ F → F ≤ length room
+    → Columns 1 F 0 (columns k (length page)) (λ a l. pieceByte k (frame k page) (i - 1 + a + 1) l) room u
+    → u ≡ paste room 0 (piece k page i) (columns k (length page))
+unfolding piece
+piece-unique k F page room i u f lo h r c =
+    let L = columns k (length page) in
+    let v : ℕ → ℕ → ℕ = λ a l. pieceByte k (frame k page) (i - 1 + a + 1) l in
+    let z : 0 * F + 0 ≡ 0 = omega (arith, zero-mul F) in
+    let e : i - 1 + 0 + 1 ≡ i = omega arith in
+    columns-unique 1 F L v room u (paste room 0 (piece k page i) L) f h c
+    (rw z at
+    (columns-more 0 F 0 L v room room (columns-none F 0 L v room) (omega arith)
+    (piece k page i) (le-of-eq (sym (length-tabulate L (pieceByte k (frame k page) i)))) (omega arith)
+    (λ l b. getD-tabulate L (pieceByte k (frame k page) i) l 0 b ∙ ap (λ (x : ℕ). pieceByte k (frame k page) x l) (sym e))))
+
 -- the answers, one for each way out
 module _ (n k F : ℕ) (page room : List ℕ) where
   pub split-measures : proper n k F ≡ false → split n k F page room ≡ record { outcome = Outcome.refuses 1; room = room }
@@ -182,3 +197,31 @@ module _ (n k F : ℕ) (page room : List ℕ) where
       → split n k F page room ≡ record { outcome = Outcome.gives (columns k (length page)); room = written k F page room n }
   unfolding split
   split-done e h l = simp (e, le-ltb (length room) (n * F) h, le-ltb (k * F - 4) (length page) l)
+
+module _ (n k F i : ℕ) (page room : List ℕ) where
+  pub cut-measures : proper n k F ≡ false → cut n k F i page room ≡ record { outcome = Outcome.refuses 1; room = room }
+  unfolding cut
+  cut-measures e = simp e
+
+  pub cut-short : proper n k F ≡ true → length room < F → cut n k F i page room ≡ record { outcome = Outcome.refuses 2; room = room }
+  unfolding cut
+  cut-short e h = simp (e, lt-ltb (length room) F h)
+
+  pub cut-low : proper n k F ≡ true → F ≤ length room → i < 1 → cut n k F i page room ≡ record { outcome = Outcome.refuses 3; room = room }
+  unfolding cut
+  cut-low e h l = simp (e, le-ltb (length room) F h, lt-leb 1 i l)
+
+  pub cut-high : proper n k F ≡ true → F ≤ length room → 1 ≤ i → n < i → cut n k F i page room ≡ record { outcome = Outcome.refuses 3; room = room }
+  unfolding cut
+  cut-high e h l u = simp (e, le-ltb (length room) F h, le-leb 1 i l, lt-leb i n u)
+
+  pub cut-long : proper n k F ≡ true → F ≤ length room → 1 ≤ i → i ≤ n → k * F - 4 < length page
+      → cut n k F i page room ≡ record { outcome = Outcome.refuses 6; room = room }
+  unfolding cut
+  cut-long e h l u t = simp (e, le-ltb (length room) F h, le-leb 1 i l, le-leb i n u, lt-ltb (k * F - 4) (length page) t)
+
+  pub cut-done : proper n k F ≡ true → F ≤ length room → 1 ≤ i → i ≤ n → length page ≤ k * F - 4
+      → cut n k F i page room
+      ≡ record { outcome = Outcome.gives (columns k (length page)); room = paste room 0 (piece k page i) (columns k (length page)) }
+  unfolding cut
+  cut-done e h l u t = simp (e, le-ltb (length room) F h, le-leb 1 i l, le-leb i n u, le-ltb (k * F - 4) (length page) t)

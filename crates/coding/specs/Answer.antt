@@ -1,7 +1,7 @@
 -- What a call's answer says in document 01's terms: the number that it gives, or the number of its refusal.
 use Prim.Native.Nat.{ℕ}
 use Rattle.coding.specs.declared.answer.Refusal.{Refusal}
-use Rattle.coding.specs.declared.answer.Refusal.the-variants.{Measures, Short, Form, TooLong, TooFew}
+use Rattle.coding.specs.declared.answer.Refusal.the-variants.{Measures, Short, Number, Form, TooLong, TooFew}
 use Rattle.coding.specs.declared.answer.SplitAnswer.{SplitAnswer}
 use Rattle.coding.specs.declared.answer.JoinAnswer.{JoinAnswer}
 
@@ -12,11 +12,12 @@ pub data Outcome : Type 0 where
 abbrev pub number : Refusal → ℕ
 number Measures = 1
 number Short = 2
+number Number = 3
 number Form = 4
 number TooLong = 6
 number TooFew = 9
 
--- a split gives the length of a piece
+-- a split, whole or of one piece, gives the length of a piece
 abbrev pub splitOutcome : SplitAnswer → Outcome
 splitOutcome (SplitAnswer.Pieces len) = gives len
 splitOutcome (SplitAnswer.Refused r) = refuses (number r)

@@ -12,6 +12,7 @@ pub mod Nodes
 pub mod Lanes
 pub mod Output
 pub mod Join
+pub mod Alone
 pub mod Sha256
 pub mod Digest
 pub mod Edges

@@ -3,6 +3,7 @@
 pub enum Refusal {
     Measures,
     Short,
+    Number,
     Form,
     TooLong,
     TooFew,

@@ -2,7 +2,6 @@
 ghost use mathlib.Core.Path.{_≡_};
 ghost use Prim.Native.Nat.{ℕ, _+_, _-_, _*_, _^_, _<_, _≤_};
 ghost use lib.ListN.{length, getD};
-ghost use Rattle.coding.specs.Bytes.{tabulate};
 ghost use Rattle.coding.specs.Frame.{frameByte};
 
 // Byte p of the frame; past the page it is 0.
@@ -28,7 +27,7 @@ fn page_byte(page: &[u8], p: usize) -> u8
 // 16 bytes of the page, k apart.
 fn gather_inside(page: &[u8], from: usize, k: usize) -> [u8; 16]
     requires { ⌜ (from + 15 * k < length (now page)) × (k ≤ 16) ⌝ }
-    ensures { λ r. ⌜ r ≡ tabulate 16 (λ l. getD (now (page .entry)) (from + l * k) 0) ⌝ }
+    ensures { λ r. ⌜ ((l : ℕ) → l < 16 → getD r l 0 ≡ getD (now (page .entry)) (from + l * k) 0) ⌝ }
 {
     let mut v = [0u8; 16];
     let mut at = from;
@@ -39,29 +38,30 @@ fn gather_inside(page: &[u8], from: usize, k: usize) -> [u8; 16]
     v
 }
 
-// 16 bytes of the frame, k apart, where some are length bytes or zeros.
-fn gather_edge(page: &[u8], from: usize, k: usize) -> [u8; 16]
-    requires { ⌜ (from + 16 * k < 2 ^ 32) × (k ≤ 16) ⌝ }
-    ensures { λ r. ⌜ r ≡ tabulate 16 (λ l. frameByte (now (page .entry)) (from + l * k)) ⌝ }
+// m bytes of the frame, k apart, where some are length bytes or zeros. The count is not known, so that the compiler keeps this loop
+// small and puts the loads of gather_inside where they are used.
+fn gather_edge(page: &[u8], from: usize, k: usize, m: usize) -> [u8; 16]
+    requires { ⌜ (from + 16 * k < 2 ^ 32) × (k ≤ 16) × (m ≤ 16) ⌝ }
+    ensures { λ r. ⌜ ((l : ℕ) → l < m → getD r l 0 ≡ frameByte (now (page .entry)) (from + l * k)) ⌝ }
 {
     let mut v = [0u8; 16];
     let mut at = from;
-    for l in 0..16 {
+    for l in 0..m {
         v[l] = frame_byte(page, at);
         at += k;
     }
     v
 }
 
-// 16 bytes of the frame, k apart.
-pub fn gather(page: &[u8], from: usize, k: usize) -> [u8; 16]
-    requires { ⌜ (from + 16 * k < 2 ^ 32) × (k ≤ 16) ⌝ }
-    ensures { λ r. ⌜ r ≡ tabulate 16 (λ l. frameByte (now (page .entry)) (from + l * k)) ⌝ }
+// m bytes of the frame, k apart.
+pub fn gather(page: &[u8], from: usize, k: usize, m: usize) -> [u8; 16]
+    requires { ⌜ (from + 16 * k < 2 ^ 32) × (k ≤ 16) × (m ≤ 16) ⌝ }
+    ensures { λ r. ⌜ ((l : ℕ) → l < m → getD r l 0 ≡ frameByte (now (page .entry)) (from + l * k)) ⌝ }
 {
     if 4 <= from {
         if from - 4 + 15 * k < page.len() {
             return gather_inside(page, from - 4, k);
         }
     }
-    gather_edge(page, from, k)
+    gather_edge(page, from, k, m)
 }

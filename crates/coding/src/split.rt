@@ -1,4 +1,5 @@
-// Splitting a page into pieces, straight from its bytes: no frame is made, and the pieces themselves are the accumulators.
+// Splitting a page into pieces, all of them or one alone, straight from its bytes: no frame is made, the pieces themselves are the
+// accumulators, and no array here or beneath has more than 16 numbers (document 02, d).
 use crate::answer::Refusal;
 use crate::answer::SplitAnswer;
 use crate::areas::block;
@@ -21,7 +22,7 @@ ghost use Rattle.coding.specs.Bytes.{tabulate};
 ghost use Rattle.coding.specs.Pieces.{pieceByte, frame};
 ghost use Rattle.coding.specs.Areas.{Columns};
 ghost use Rattle.coding.specs.Answer.{splitOutcome};
-ghost use Rattle.coding.specs.Split.{split as splitEnd};
+ghost use Rattle.coding.specs.Split.{split as splitEnd, cut as cutEnd};
 
 // The highest row of a block starts every sum.
 fn start_row(n: usize, f: usize, j: usize, m: usize, row: [u8; 16], room: &mut [u8])
@@ -97,10 +98,10 @@ fn write_block(
         (now (room .entry)) (now (room .exit)) ⌝ }
 {
     let mut r = k - 1;
-    start_row(n, f, j, m, gather(page, j * k + r, k), room);
+    start_row(n, f, j, m, gather(page, j * k + r, k, m), room);
     while 0 < r {
         r -= 1;
-        add_row(first, n, f, j, m, gather(page, j * k + r, k), room);
+        add_row(first, n, f, j, m, gather(page, j * k + r, k, m), room);
     }
 }
 
@@ -157,5 +158,30 @@ pub fn split(n: usize, k: usize, f: usize, page: &[u8], room: &mut [u8]) -> Spli
     }
     let len = piece_length(k, page.len());
     write_areas(n, k, f, len, page, room);
+    SplitAnswer::Pieces(len)
+}
+
+// Node i's piece alone, the same as in the whole split, at the front of a room of f bytes.
+pub fn cut(n: usize, k: usize, f: usize, i: usize, page: &[u8], room: &mut [u8]) -> SplitAnswer
+    ensures { λ r. ⌜ (splitOutcome r ≡ cutEnd n k f i (now (page .entry)) (now (room .entry)) .outcome)
+        × (now (room .exit) ≡ cutEnd n k f i (now (page .entry)) (now (room .entry)) .room) ⌝ }
+{
+    if !proper_measures(n, k, f) {
+        return SplitAnswer::Refused(Refusal::Measures);
+    }
+    if room.len() < f {
+        return SplitAnswer::Refused(Refusal::Short);
+    }
+    if i < 1 {
+        return SplitAnswer::Refused(Refusal::Number);
+    }
+    if n < i {
+        return SplitAnswer::Refused(Refusal::Number);
+    }
+    if k * f - 4 < page.len() {
+        return SplitAnswer::Refused(Refusal::TooLong);
+    }
+    let len = piece_length(k, page.len());
+    write_pieces(i - 1, 1, k, f, len, page, room);
     SplitAnswer::Pieces(len)
 }

@@ -8,7 +8,7 @@ ghost use Prim.Native.Nat.{_≤_};
 ghost use lib.ListN.{length};
 ghost use lib.Seq.{paste};
 ghost use Rattle.coding.specs.Answer.{refuses, number, splitOutcome, joinOutcome};
-ghost use Rattle.coding.specs.Split.{split};
+ghost use Rattle.coding.specs.Split.{split, cut};
 ghost use Rattle.coding.specs.Join.{join};
 ghost use Rattle.coding_export.specs.Code.{code};
 ghost use Rattle.coding_export.specs.Digest.{digest};
@@ -19,6 +19,7 @@ fn refused(r: Refusal) -> u64
     match r {
         Refusal::Measures => 4294967297,
         Refusal::Short => 4294967298,
+        Refusal::Number => 4294967299,
         Refusal::Form => 4294967300,
         Refusal::TooLong => 4294967302,
         Refusal::TooFew => 4294967305,
@@ -58,6 +59,21 @@ pub extern "C" fn coding_split(n: usize, k: usize, f: usize, page: &[u8], room: 
         × (now (room .exit) ≡ split n k f (now (page .entry)) (now (room .entry)) .room) ⌝ }
 {
     split_code(coding::split::split(n, k, f, page, room))
+}
+
+#[no_mangle]
+pub extern "C" fn coding_cut(
+    n: usize,
+    k: usize,
+    f: usize,
+    i: usize,
+    page: &[u8],
+    room: &mut [u8],
+) -> u64
+    ensures { λ c. ⌜ (c ≡ code (cut n k f i (now (page .entry)) (now (room .entry)) .outcome))
+        × (now (room .exit) ≡ cut n k f i (now (page .entry)) (now (room .entry)) .room) ⌝ }
+{
+    split_code(coding::split::cut(n, k, f, i, page, room))
 }
 
 #[no_mangle]

@@ -5,6 +5,7 @@ use coding::answer::JoinAnswer;
 use coding::answer::Refusal;
 use coding::answer::SplitAnswer;
 use coding::join::join;
+use coding::split::cut;
 use coding::split::split;
 ghost use mathlib.Core.Path.{_≡_};
 ghost use Prim.Native.Nat.{_≤_};
@@ -15,6 +16,7 @@ pub struct Call {
     pub n: usize,
     pub k: usize,
     pub f: usize,
+    pub node: usize,
     pub map: u16,
     pub given: usize,
     pub lens: usize,
@@ -33,6 +35,7 @@ pub fn first() -> Call {
         n: 0,
         k: 0,
         f: 0,
+        node: 0,
         map: 0,
         given: 0,
         lens: 0,
@@ -49,6 +52,7 @@ fn with_number(mut c: Call, what: u8, x: usize) -> Call {
         4 => c.given = x,
         5 => c.written = x,
         6 => c.lens = x,
+        7 => c.node = x,
         _ => {}
     }
     c
@@ -60,6 +64,7 @@ fn document_number(r: Refusal) -> usize
     match r {
         Refusal::Measures => 1,
         Refusal::Short => 2,
+        Refusal::Number => 3,
         Refusal::Form => 4,
         Refusal::TooLong => 6,
         Refusal::TooFew => 9,
@@ -87,8 +92,12 @@ fn of_join(a: JoinAnswer) -> Answer {
     }
 }
 
+// The commands of one call are three apart.
 fn answered(c: Call, what: u8, given: &[u8], lens: &[u16], written: &mut [u8]) -> Answer {
-    if what % 2 == 0 {
+    if what % 3 == 0 {
+        return of_split(cut(c.n, c.k, c.f, c.node, given, written));
+    }
+    if what % 3 == 1 {
         return of_split(split(c.n, c.k, c.f, given, written));
     }
     of_join(join(c.n, c.k, c.f, c.map, given, lens, written))
@@ -101,7 +110,7 @@ fn chained(sum: usize, s: &[u8]) -> usize {
 
 fn told(mut c: Call, what: u8, a: Answer, given: &[u8], written: &[u8]) -> Call {
     c.sum = chained(chained(c.sum, given), written);
-    if 12 <= what {
+    if 13 <= what {
         print::digit(a);
         return c;
     }
@@ -151,12 +160,12 @@ pub fn carry(
     lens: &mut [u16],
     written: &mut [u8],
 ) -> Call {
-    if what < 8 {
-        return with_number(c, what, x);
-    }
     if what == 8 {
         input::bytes(given, x);
         return c;
+    }
+    if what < 10 {
+        return with_number(c, what, x);
     }
     if what < 16 {
         c.k = x;

@@ -3,12 +3,17 @@ use crate::call::Answer;
 use crate::call::Call;
 use libc::STDOUT_FILENO;
 
-fn name(what: u8) {
+fn name(c: Call, what: u8) {
     if what == 10 {
         vectors::word(b"split");
-    } else {
-        vectors::word(b"join");
+        return;
     }
+    if what == 11 {
+        vectors::word(b"join");
+        return;
+    }
+    vectors::word(b"cut");
+    vectors::number(c.node);
 }
 
 fn arguments(c: Call) {
@@ -41,7 +46,7 @@ fn few(s: &[u8]) {
 }
 
 pub fn line(c: Call, what: u8, a: Answer, given: &[u8], written: &[u8]) {
-    name(what);
+    name(c, what);
     arguments(c);
     vectors::number(a.number);
     vectors::number(a.len);

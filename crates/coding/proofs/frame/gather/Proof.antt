@@ -1,6 +1,7 @@
 use borrow.Author.Needs.{needs}
 use mathlib.Core.Path.{_∙_}
-use Rattle.coding.proofs.FrameLaws.{lanes-page}
+use native.Mathlib.Omega.{arith}
+use Rattle.coding.proofs.FrameLaws.{lane-page}
 use Rattle.coding.proofs.frame.gather.Statement.{statement}
 use Rattle.coding.proofs.frame.gather.Tie as tie
 
@@ -15,10 +16,10 @@ gather-inside-requires c κs = search needs
 
 returns : tie.Need-returns
 returns c =
-    c .gather-inside .ensures
-    ∙
-    lanes-page (c .before .before .before .before .args .page .now) (c .before .before .before .before .args .from)
-    (c .before .before .before .before .args .k) (c .before .before .if1 .taken)
+    λ l h.
+    c .gather-inside .ensures l (omega arith)
+    ∙ lane-page (c .before .before .before .before .args .page .now) (c .before .before .before .before .args .from)
+    (c .before .before .before .before .args .k) l (c .before .before .if1 .taken)
 
 gather-edge-requires : tie.Need-gather-edge-requires
 gather-edge-requires c κs = search needs

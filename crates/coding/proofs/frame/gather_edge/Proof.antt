@@ -1,20 +1,20 @@
 -- The first l lanes are filled, and the next byte stands l strides on.
 use mathlib.Core.Path.{refl}
-use Prim.Native.Nat.{_-_}
+use Prim.Native.Nat.{_-_, _≤_}
 use native.Mathlib.Omega.{arith}
 use Rattle.coding.specs.Frame.{frameByte}
-use Rattle.coding.proofs.BytesLaws.{Strided, strided-none, strided-within, strided-more, strided-all}
+use Rattle.coding.proofs.BytesLaws.{Strided, strided-none, strided-within, strided-more, strided-at}
 use Rattle.coding.proofs.frame.gather_edge.Statement.{statement}
 use Rattle.coding.proofs.frame.gather_edge.Tie as tie
 
 abbrev Inv-loop : tie.InvT-loop
-Inv-loop page from k v₀ at₀ l₀ v at l = Strided (frameByte page) from k v at l
+Inv-loop page from k m v₀ at₀ l₀ v at l = Strided (frameByte page) from k v at l × (l ≤ m)
 
 abbrev μ-loop : tie.MeasureT-loop
-μ-loop page from k v₀ at₀ l₀ v at l = 16 - l
+μ-loop page from k m v₀ at₀ l₀ v at l = m - l
 
 loop-holds : tie.Need-loop-holds Inv-loop μ-loop
-loop-holds c = strided-none _ _ _ _ refl
+loop-holds c = (strided-none _ _ _ _ refl, omega arith)
 
 frame-byte-requires : tie.Need-frame-byte-requires Inv-loop μ-loop
 frame-byte-requires c κs = tt
@@ -23,7 +23,7 @@ array-write-v : tie.Need-array-write-v Inv-loop μ-loop
 array-write-v c = omega arith
 
 add-at : tie.Need-add-at Inv-loop μ-loop
-add-at c = omega (arith, strided-within _ _ _ _ _ _ (c .before .before .loop .inv) (c .before .loop-test .taken))
+add-at c = omega (arith, strided-within _ _ _ _ _ _ (c .before .before .loop .inv .0) (omega arith))
 
 add-l : tie.Need-add-l Inv-loop μ-loop
 add-l c = omega arith
@@ -32,10 +32,10 @@ loop-less : tie.Need-loop-less Inv-loop μ-loop
 loop-less c = omega arith
 
 loop-again : tie.Need-loop-again Inv-loop μ-loop
-loop-again c = strided-more _ _ _ _ _ _ (c .before .before .loop .inv) _ (c .frame-byte .ensures) (c .before .loop-test .taken)
+loop-again c = (strided-more _ _ _ _ _ _ (c .before .before .loop .inv .0) _ (c .frame-byte .ensures) (omega arith), omega arith)
 
 returns : tie.Need-returns Inv-loop μ-loop
-returns c = strided-all _ _ _ _ _ _ (c .before .loop .inv) (c .loop-test .left)
+returns c = λ l h. strided-at _ _ _ _ _ _ (c .before .loop .inv .0) _ l (c .loop-test .left) h
 
 pub gather-edge-spec : {M : Type 1} → statement M
 gather-edge-spec =

@@ -3,7 +3,7 @@ use mathlib.Core.Path.{refl}
 use Prim.Native.Nat.{_-_}
 use native.Mathlib.Omega.{arith}
 use lib.ListN.{getD}
-use Rattle.coding.proofs.BytesLaws.{Strided, strided-none, strided-within, strided-more, strided-all}
+use Rattle.coding.proofs.BytesLaws.{Strided, strided-none, strided-within, strided-more, strided-at}
 use Rattle.coding.proofs.frame.gather_inside.Statement.{statement}
 use Rattle.coding.proofs.frame.gather_inside.Tie as tie
 
@@ -35,7 +35,7 @@ loop-again : tie.Need-loop-again Inv-loop μ-loop
 loop-again c = strided-more _ _ _ _ _ _ (c .before .before .loop .inv) _ (refl) (c .before .loop-test .taken)
 
 returns : tie.Need-returns Inv-loop μ-loop
-returns c = strided-all _ _ _ _ _ _ (c .before .loop .inv) (c .loop-test .left)
+returns c = λ l h. strided-at _ _ _ _ _ _ (c .before .loop .inv) _ l (c .loop-test .left) h
 
 pub gather-inside-spec : {M : Type 1} → statement M
 gather-inside-spec =

@@ -43,7 +43,7 @@ loop-holds : tie.Need-loop-holds Inv-loop μ-loop
 loop-holds c = (
   omega arith,
   columns-stay _ _ _ _ _ _ _
-      (block-start _ _ _ _ (c .before .before .before .before .before .before .before .args .page .now) _ _ _ _ _ (c .before .before .before .before .before .before .before .pre .1) (c .before .before .before .before .before .before .before .pre .5) (c .before .before .before .before .gather .ensures)
+      (block-start _ _ _ _ (c .before .before .before .before .before .before .before .args .page .now) _ _ (c .before .before .before .before .gather .result) _ _ (c .before .before .before .before .before .before .before .pre .5) (c .before .before .before .before .gather .ensures)
       (c .before .before .start-row .ensures)),
 )
 
@@ -78,7 +78,7 @@ loop-again : tie.Need-loop-again Inv-loop μ-loop
 loop-again c =
     let z : c .before .before .before .before .before .before .loop .r - 1 + 1 ≡ c .before .before .before .before .before .before .loop .r = omega arith in (
       omega arith,
-      block-more _ _ _ _ (c .before .before .before .before .before .before .before .before .before .before .before .before .before .before .args .page .now) _ _ _ _ _ _ _ (c .before .before .before .before .before .before .before .before .before .before .before .before .before .before .pre .1) (omega arith) (c .before .before .before .before .gather2 .ensures)
+      block-more _ _ _ _ (c .before .before .before .before .before .before .before .before .before .before .before .before .before .before .args .page .now) _ _ _ (c .before .before .before .before .gather2 .result) _ _ _ (omega arith) (c .before .before .before .before .gather2 .ensures)
           (rw z (c .before .before .before .before .before .before .loop .inv .1)) (c .before .before .add-row .ensures),
     )
 
