@@ -1,8 +1,8 @@
 -- Laws of lists of bytes: what is tabulated, filled from the front, spliced.
-use mathlib.Core.Path.{_≡_, refl, sym, ap, _∙_}
+use mathlib.Core.Path.{_≡_, refl, sym, ap, ap₂, _∙_}
 use mathlib.Core.List.{List, [], _∷_, _++_, map, map-append}
 use Prim.Native.Nat.{ℕ, zero, suc, _+_, _-_, _*_, _<_, _≤_}
-use native.Mathlib.Nat.{add-mul, one-mul, not-suc-le-zero, mul-le-mul-right}
+use native.Mathlib.Nat.{zero-add, add-mul, one-mul, not-suc-le-zero, le-of-eq, mul-le-mul-right}
 use native.Mathlib.Numerals.{add-one}
 use native.Mathlib.Decide.{decLt, ℕ-discrete}
 use native.Mathlib.Omega.{arith}
@@ -122,6 +122,66 @@ module _ {ℓ} {A : Type ℓ} (d : List A) (at : ℕ) (s : List A) (n : ℕ) (z 
       ∙ getD-append-add (take at d ++ take n s) (drop (at + n) d) (q - (at + n)) z
       ∙ getD-drop (at + n) d (q - (at + n)) z
       ∙ ap (λ (x : ℕ). getD d x z) (sym f)
+
+-- u is d with f 0, f 1, .. over its first n bytes
+pub record Front (d : List ℕ) (f : ℕ → ℕ) (u : List ℕ) (n : ℕ) : Type 0 where
+  pub within : n ≤ length d
+  pub done : u ≡ paste d 0 (tabulate n f) n
+
+pub front-none : (d : List ℕ) (f : ℕ → ℕ) → Front d f d 0
+front-none d f = record { within = omega arith; done = paste-zero d 0 (tabulate 0 f) }
+
+module _ (d : List ℕ) (f : ℕ → ℕ) (u : List ℕ) (n : ℕ) (s : Front d f u n) where
+  fits : 0 + n ≤ length d
+  fits = omega (arith, s .within)
+
+  long : n ≤ length (tabulate n f)
+  long = le-of-eq (sym (length-tabulate n f))
+
+  pub front-length : length u ≡ length d
+  front-length = ap length (s .done) ∙ length-paste d 0 (tabulate n f) n fits long
+
+  front-in : (q : ℕ) → q < n → getD u q 0 ≡ f q
+  front-in q b =
+      ap₂ (λ (v : List ℕ) (x : ℕ). getD v x 0) (s .done) (sym (zero-add q))
+      ∙ paste-in d 0 (tabulate n f) n 0 fits long q b
+      ∙ getD-tabulate n f q 0 b
+
+  front-after : (q : ℕ) → n ≤ q → getD u q 0 ≡ getD d q 0
+  front-after q b = ap (λ (v : List ℕ). getD v q 0) (s .done) ∙ paste-after d 0 (tabulate n f) n 0 fits long q (omega arith)
+
+-- m bytes more
+pub front-more : (d : List ℕ) (f : ℕ → ℕ) (u : List ℕ) (n m : ℕ) (v : List ℕ) → Front d f u n → n + m ≤ length d → m ≤ length v
+    → ((l : ℕ) → l < m → getD v l 0 ≡ f (n + l)) → Front d f (paste u n v m) (n + m)
+front-more d f u n m v s hd hv e =
+    record {
+      within = hd;
+      done = ext-getD 0 (paste u n v m) w (length-paste u n v m hu hv ∙ front-length d f u n s ∙ sym (front-length d f w (n + m) t))
+          (λ q _. go q (decLt q n) (decLt q (n + m)));
+    }
+  where
+    w : List ℕ
+    w = paste d 0 (tabulate (n + m) f) (n + m)
+
+    t : Front d f w (n + m)
+    t = record { within = hd; done = refl }
+
+    hu : n + m ≤ length u
+    hu = rw (front-length d f u n s) hd
+
+    go : (q : ℕ) → Dec (q < n) → Dec (q < n + m) → getD (paste u n v m) q 0 ≡ getD w q 0
+    go q (yes h) p = paste-before u n v m 0 hu hv q h ∙ front-in d f u n s q h ∙ sym (front-in d f w (n + m) t q (omega arith))
+    go q (no h) (yes p) =
+        let z : n + (q - n) ≡ q = omega arith in
+        ap (λ (x : ℕ). getD (paste u n v m) x 0) (sym z)
+        ∙ paste-in u n v m 0 hu hv (q - n) (omega arith)
+        ∙ e (q - n) (omega arith)
+        ∙ ap f z
+        ∙ sym (front-in d f w (n + m) t q p)
+    go q (no h) (no p) =
+        paste-after u n v m 0 hu hv q (omega arith)
+        ∙ front-after d f u n s q (omega arith)
+        ∙ sym (front-after d f w (n + m) t q (omega arith))
 
 -- 16 lanes, of which the first l are filled with f 0, f 1, ..
 pub record Lanes (f : ℕ → ℕ) (v : List ℕ) (l : ℕ) : Type 0 where

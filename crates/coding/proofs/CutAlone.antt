@@ -9,7 +9,6 @@ use native.Mathlib.Omega.{arith}
 use lib.ListN.{length, take, drop}
 use lib.Seq.{paste, take-all, take-paste, drop-paste}
 use Rattle.coding.specs.Pieces.{proper, columns, piece}
-use Rattle.coding.specs.Answer.{Outcome}
 use Rattle.coding.specs.Split.{SplitEnd, split, cut}
 use Rattle.coding.specs.Join.{pieceIn}
 use Rattle.coding.specs.Alone.{Alone}

@@ -3,12 +3,12 @@ use mathlib.Core.Path.{_≡_, sym, ap, ap₂, _∙_}
 use mathlib.Core.Bool.{true, false}
 use mathlib.Core.List.{List}
 use Prim.Native.Nat.{ℕ, zero, suc, _+_, _-_, _*_, _<_, _≤_}
-use native.Mathlib.Nat.{zero-mul, add-mul, add-zero, suc-mul, le-of-eq}
+use native.Mathlib.Nat.{add-mul, add-zero, suc-mul, le-of-eq}
 use native.Mathlib.Numerals.{add-one}
 use native.Mathlib.Decide.{decLt}
 use native.Mathlib.Omega.{arith}
 use borrow.Author.Tests.{lt-ltb, le-ltb, le-leb, lt-leb}
-use lib.Bits.{xor-zero-r, xor-comm}
+use lib.Bits.{xor-zero-l, xor-comm}
 use lib.ListN.{length, getD, drop, List·getD-eq-default}
 use lib.Seq.{paste, drop-cons, drop-length}
 use Rattle.coding.specs.Field.{_⊕_, product, power, sum}
@@ -60,24 +60,22 @@ column-bytes k page c b i = go (decLt i k)
         let e : getD (column k page c) i 0 ≡ 0 = List·getD-eq-default (column k page c) 0 (rw (length-column k page c) (omega arith)) in
         omega arith
 
--- the value at point first + i + 1 of the rows from r on
-pub rows : ℕ → ℕ → List ℕ → ℕ → ℕ → ℕ → ℕ → ℕ
-rows first k page j r i l = value (drop r (column k page (j + l))) (first + i + 1)
+-- the value at the point x of the rows from r on, in column c
+pub rows : ℕ → List ℕ → ℕ → ℕ → ℕ → ℕ
+rows k page x c r = value (drop r (column k page c)) x
 
-rows-step : (first k : ℕ) (page : List ℕ) (j r i l : ℕ) → r < k
-    → rows first k page j r i l ≡ frameByte page ((j + l) * k + r) ⊕ product (rows first k page j (r + 1) i l) (first + i + 1)
+rows-step : (k : ℕ) (page : List ℕ) (x c r : ℕ) → r < k → rows k page x c r ≡ frameByte page (c * k + r) ⊕ product (rows k page x c (r + 1)) x
 unfolding rows value
-rows-step first k page j r i l h =
-    let s : r < length (column k page (j + l)) = rw (length-column k page (j + l)) h in
-    ap (λ (p : List ℕ). value p (first + i + 1)) (drop-cons (column k page (j + l)) r 0 s)
-    ∙ ap₂ (λ (a : ℕ) (n : ℕ). a ⊕ product (value (drop n (column k page (j + l))) (first + i + 1)) (first + i + 1))
-    (getD-column k page (j + l) r h) (sym (add-one r))
+rows-step k page x c r h =
+    let s : r < length (column k page c) = rw (length-column k page c) h in
+    ap (λ (p : List ℕ). value p x) (drop-cons (column k page c) r 0 s)
+    ∙ ap₂ (λ (a : ℕ) (n : ℕ). a ⊕ product (value (drop n (column k page c)) x) x) (getD-column k page c r h) (sym (add-one r))
 
-rows-none : (first k : ℕ) (page : List ℕ) (j i l : ℕ) → rows first k page j k i l ≡ 0
+pub rows-none : (k : ℕ) (page : List ℕ) (x c : ℕ) → rows k page x c k ≡ 0
 unfolding rows value
-rows-none first k page j i l =
-    ap (λ (n : ℕ). value (drop n (column k page (j + l))) (first + i + 1)) (sym (length-column k page (j + l)))
-    ∙ ap (λ (p : List ℕ). value p (first + i + 1)) (drop-length (column k page (j + l)))
+rows-none k page x c =
+    ap (λ (n : ℕ). value (drop n (column k page c)) x) (sym (length-column k page c))
+    ∙ ap (λ (p : List ℕ). value p x) (drop-length (column k page c))
 
 pub columns-ext : (n F j m : ℕ) (v w : ℕ → ℕ → ℕ) (t u : List ℕ) → ((i l : ℕ) → i < n → l < m → v i l ≡ w i l) → Columns n F j m v t u → Columns n F j m w t u
 columns-ext n F j m v w t u e c =
@@ -92,36 +90,41 @@ gathered-at : (k : ℕ) (page : List ℕ) (j m r : ℕ) (row : List ℕ) → Gat
 gathered-at k page j m r row e l h =
     let z : j * k + r + l * k ≡ (j + l) * k + r = omega (arith, add-mul j l k) in e l h ∙ ap (frameByte page) z
 
+-- one row more, in one lane
+pub row-more : (k : ℕ) (page : List ℕ) (x j m r : ℕ) (row : List ℕ) → r < k → Gathered k page j m r row
+    → (l s : ℕ) → l < m → s ≡ rows k page x (j + l) (r + 1) → product s x ⊕ getD row l 0 ≡ rows k page x (j + l) r
+row-more k page x j m r row hr e l s hl q =
+    ap₂ (λ (a : ℕ) (b : ℕ). product a x ⊕ b) q (gathered-at k page j m r row e l hl)
+    ∙ xor-comm (product (rows k page x (j + l) (r + 1)) x) (frameByte page ((j + l) * k + r))
+    ∙ sym (rows-step k page x (j + l) r hr)
+
+-- the rows from r on in the sums of the areas, that of point first + i + 1 in area i
+abbrev pub Rows : ℕ → ℕ → ℕ → ℕ → List ℕ → ℕ → ℕ → ℕ → List ℕ → List ℕ → Type 0
+Rows first n F k page j m r t u = Columns n F j m (λ i l. rows k page (first + i + 1) (j + l) r) t u
+
 -- the highest row alone
 pub block-start : (first n F k : ℕ) (page : List ℕ) (j m : ℕ) (row t u : List ℕ) → 1 ≤ k → Gathered k page j m (k - 1) row
-    → Columns n F j m (λ i l. getD row l 0) t u → Columns n F j m (rows first k page j (k - 1)) t u
+    → Columns n F j m (λ i l. getD row l 0) t u → Rows first n F k page j m (k - 1) t u
 block-start first n F k page j m row t u hk e c =
-    columns-ext n F j m (λ i l. getD row l 0) (rows first k page j (k - 1)) t u
+    columns-ext n F j m (λ i l. getD row l 0) (λ i l. rows k page (first + i + 1) (j + l) (k - 1)) t u
     (λ i l hi hl.
+    let x = first + i + 1 in
     let z : k - 1 + 1 ≡ k = omega arith in
-    gathered-at k page j m (k - 1) row e l hl
-    ∙ sym
-    (rows-step first k page j (k - 1) i l (omega arith)
-    ∙ ap (λ (x : ℕ). frameByte page ((j + l) * k + (k - 1)) ⊕ product x (first + i + 1))
-    (ap (λ (x : ℕ). rows first k page j x i l) z ∙ rows-none first k page j i l)
-    ∙ ap (λ (x : ℕ). frameByte page ((j + l) * k + (k - 1)) ⊕ x) (zero-product (first + i + 1))
-    ∙ xor-zero-r (frameByte page ((j + l) * k + (k - 1)))))
+    sym (xor-zero-l (getD row l 0))
+    ∙ ap (λ (a : ℕ). a ⊕ getD row l 0) (sym (zero-product x))
+    ∙ row-more k page x j m (k - 1) row (omega arith) e l 0 hl (sym (ap (rows k page x (j + l)) z ∙ rows-none k page x (j + l))))
     c
 
 -- one row more
 pub block-more : (first n F k : ℕ) (page : List ℕ) (j m r : ℕ) (row t u w : List ℕ) → r < k → Gathered k page j m r row
-    → Columns n F j m (rows first k page j (r + 1)) t u
+    → Rows first n F k page j m (r + 1) t u
     → Columns n F j m (λ i l. product (getD u (i * F + (j + l)) 0) (first + i + 1) ⊕ getD row l 0) u w
-    → Columns n F j m (rows first k page j r) t w
+    → Rows first n F k page j m r t w
 block-more first n F k page j m r row t u w hr e a b =
-    columns-again n F j m (rows first k page j (r + 1)) (rows first k page j r) t u w a
-    (columns-ext n F j m (λ i l. product (getD u (i * F + (j + l)) 0) (first + i + 1) ⊕ getD row l 0) (rows first k page j r) u w
-    (λ i l hi hl.
-    ap₂ (λ (x : ℕ) (y : ℕ). product x (first + i + 1) ⊕ y) (a .inside i l hi hl)
-    (gathered-at k page j m r row e l hl)
-    ∙ xor-comm (product (rows first k page j (r + 1) i l) (first + i + 1)) (frameByte page ((j + l) * k + r))
-    ∙ sym (rows-step first k page j r i l hr))
-    b)
+    columns-again n F j m (λ i l. rows k page (first + i + 1) (j + l) (r + 1)) (λ i l. rows k page (first + i + 1) (j + l) r) t u w a
+    (columns-ext n F j m (λ i l. product (getD u (i * F + (j + l)) 0) (first + i + 1) ⊕ getD row l 0)
+    (λ i l. rows k page (first + i + 1) (j + l) r) u w
+    (λ i l hi hl. row-more k page (first + i + 1) j m r row hr e l (getD u (i * F + (j + l)) 0) hl (a .inside i l hi hl)) b)
 
 -- the value of a column is the byte of a piece
 pub column-value : (k : ℕ) (page : List ℕ) (x c : ℕ) → Bytes page → value (column k page c) x ≡ pieceByte k (frame k page) x c
@@ -133,12 +136,15 @@ column-value k page x c b =
     (λ r h. ap (λ (v : ℕ). product v (power x r)) (getD-column k page c r h ∙ sym (frame-at k page (c * k + r))))
 
 -- all the rows
-pub block-all : (first n F k : ℕ) (page : List ℕ) (j m : ℕ) (t u : List ℕ) → Bytes page → Columns n F j m (rows first k page j 0) t u
-    → Columns n F j m (λ i l. pieceByte k (frame k page) (first + i + 1) (j + l)) t u
+pub rows-all : (k : ℕ) (page : List ℕ) (x c : ℕ) → Bytes page → rows k page x c 0 ≡ pieceByte k (frame k page) x c
 unfolding rows
+rows-all k page x c b = column-value k page x c b
+
+pub block-all : (first n F k : ℕ) (page : List ℕ) (j m : ℕ) (t u : List ℕ) → Bytes page → Rows first n F k page j m 0 t u
+    → Columns n F j m (λ i l. pieceByte k (frame k page) (first + i + 1) (j + l)) t u
 block-all first n F k page j m t u b c =
-    columns-ext n F j m (rows first k page j 0) (λ i l. pieceByte k (frame k page) (first + i + 1) (j + l)) t u
-    (λ i l hi hl. column-value k page (first + i + 1) (j + l) b) c
+    columns-ext n F j m (λ i l. rows k page (first + i + 1) (j + l) 0) (λ i l. pieceByte k (frame k page) (first + i + 1) (j + l)) t u
+    (λ i l hi hl. rows-all k page (first + i + 1) (j + l) b) c
 
 -- the room that splitting leaves, by its columns
 pub written-columns : (k F : ℕ) (page room : List ℕ) (n : ℕ) → columns k (length page) ≤ F → n * F ≤ length room
@@ -163,20 +169,10 @@ written-unique k F page room n u f h r c =
     (written-columns k F page room n h r)
 
 -- the room that cutting one piece leaves
-pub piece-unique : (k F : ℕ) (page room : List ℕ) (i : ℕ) (u : List ℕ) → 1 ≤ F → 1 ≤ i → columns k (length page) ≤ F → F ≤ length room
-    → Columns 1 F 0 (columns k (length page)) (λ a l. pieceByte k (frame k page) (i - 1 + a + 1) l) room u
-    → u ≡ paste room 0 (piece k page i) (columns k (length page))
+pub piece-cut : (k : ℕ) (page room : List ℕ) (i len : ℕ) → len ≡ columns k (length page)
+    → paste room 0 (tabulate len (pieceByte k (frame k page) i)) len ≡ paste room 0 (piece k page i) (columns k (length page))
 unfolding piece
-piece-unique k F page room i u f lo h r c =
-    let L = columns k (length page) in
-    let v : ℕ → ℕ → ℕ = λ a l. pieceByte k (frame k page) (i - 1 + a + 1) l in
-    let z : 0 * F + 0 ≡ 0 = omega (arith, zero-mul F) in
-    let e : i - 1 + 0 + 1 ≡ i = omega arith in
-    columns-unique 1 F L v room u (paste room 0 (piece k page i) L) f h c
-    (rw z at
-    (columns-more 0 F 0 L v room room (columns-none F 0 L v room) (omega arith)
-    (piece k page i) (le-of-eq (sym (length-tabulate L (pieceByte k (frame k page) i)))) (omega arith)
-    (λ l b. getD-tabulate L (pieceByte k (frame k page) i) l 0 b ∙ ap (λ (x : ℕ). pieceByte k (frame k page) x l) (sym e))))
+piece-cut k page room i len e = ap (λ (n : ℕ). paste room 0 (tabulate n (pieceByte k (frame k page) i)) n) e
 
 -- the answers, one for each way out
 module _ (n k F : ℕ) (page room : List ℕ) where

@@ -38,8 +38,7 @@ fn gather_inside(page: &[u8], from: usize, k: usize) -> [u8; 16]
     v
 }
 
-// m bytes of the frame, k apart, where some are length bytes or zeros. The count is not known, so that the compiler keeps this loop
-// small and puts the loads of gather_inside where they are used.
+// m bytes of the frame, k apart, where some are length bytes or zeros.
 fn gather_edge(page: &[u8], from: usize, k: usize, m: usize) -> [u8; 16]
     requires { ⌜ (from + 16 * k < 2 ^ 32) × (k ≤ 16) × (m ≤ 16) ⌝ }
     ensures { λ r. ⌜ ((l : ℕ) → l < m → getD r l 0 ≡ frameByte (now (page .entry)) (from + l * k)) ⌝ }
@@ -53,7 +52,8 @@ fn gather_edge(page: &[u8], from: usize, k: usize, m: usize) -> [u8; 16]
     v
 }
 
-// m bytes of the frame, k apart.
+// m bytes of the frame, k apart. The count is not known, so that the compiler keeps the loop at the edges small and puts the loads where
+// they are used: right for one piece.
 pub fn gather(page: &[u8], from: usize, k: usize, m: usize) -> [u8; 16]
     requires { ⌜ (from + 16 * k < 2 ^ 32) × (k ≤ 16) × (m ≤ 16) ⌝ }
     ensures { λ r. ⌜ ((l : ℕ) → l < m → getD r l 0 ≡ frameByte (now (page .entry)) (from + l * k)) ⌝ }
@@ -64,4 +64,13 @@ pub fn gather(page: &[u8], from: usize, k: usize, m: usize) -> [u8; 16]
         }
     }
     gather_edge(page, from, k, m)
+}
+
+// 16 bytes of the frame, k apart. The count is known, so that the compiler makes a call of it, and the bytes come through memory: right
+// for several pieces, of which each takes the row.
+pub fn gather_whole(page: &[u8], from: usize, k: usize) -> [u8; 16]
+    requires { ⌜ (from + 16 * k < 2 ^ 32) × (k ≤ 16) ⌝ }
+    ensures { λ r. ⌜ ((l : ℕ) → l < 16 → getD r l 0 ≡ frameByte (now (page .entry)) (from + l * k)) ⌝ }
+{
+    gather(page, from, k, 16)
 }

@@ -1,5 +1,5 @@
-// Splitting a page into pieces, all of them or one alone, straight from its bytes: no frame is made, the pieces themselves are the
-// accumulators, and no array here or beneath has more than 16 numbers (document 02, d).
+// Splitting a page into pieces, all of them or one alone, straight from its bytes: no frame is made, and no array here or beneath has
+// more than 16 numbers (document 02, d). Of the whole split the pieces themselves are the accumulators.
 use crate::answer::Refusal;
 use crate::answer::SplitAnswer;
 use crate::areas::block;
@@ -9,6 +9,7 @@ use crate::areas::store;
 use crate::areas::store_part;
 use crate::areas::store_whole;
 use crate::frame::gather;
+use crate::frame::gather_whole;
 use crate::lanes::add;
 use crate::lanes::scale;
 use crate::measures::piece_length;
@@ -98,10 +99,10 @@ fn write_block(
         (now (room .entry)) (now (room .exit)) ⌝ }
 {
     let mut r = k - 1;
-    start_row(n, f, j, m, gather(page, j * k + r, k, m), room);
+    start_row(n, f, j, m, gather_whole(page, j * k + r, k), room);
     while 0 < r {
         r -= 1;
-        add_row(first, n, f, j, m, gather(page, j * k + r, k, m), room);
+        add_row(first, n, f, j, m, gather_whole(page, j * k + r, k), room);
     }
 }
 
@@ -140,6 +141,34 @@ fn write_areas(n: usize, k: usize, f: usize, len: usize, page: &[u8], room: &mut
     write_pieces(0, 8, k, f, len, page, room);
     let rest = 8 * f;
     write_pieces(8, n - 8, k, f, len, page, &mut room[rest..]);
+}
+
+// The m columns from j on of the piece at the point x: row after row, the highest first.
+fn cut_block(x: u8, k: usize, j: usize, m: usize, page: &[u8]) -> [u8; 16]
+    requires { ⌜ (j ≤ 4096) × (m ≤ 16) × (k ≤ 16) ⌝ }
+    ensures { λ r. ⌜ ((l : ℕ) → l < m → getD r l 0 ≡ pieceByte k (frame k (now (page .entry))) x (j + l)) ⌝ }
+{
+    let mut r = k;
+    let mut sums = [0u8; 16];
+    while 0 < r {
+        r -= 1;
+        let next = add(scale(sums, x), gather(page, j * k + r, k, m));
+        sums = next;
+    }
+    sums
+}
+
+// The piece at the point x, 16 columns at a time. Its sums stay in a register until they are whole.
+fn cut_piece(x: u8, k: usize, len: usize, page: &[u8], room: &mut [u8])
+    requires { ⌜ (len ≤ 4096) × (len ≤ length (now room)) × (k ≤ 16) ⌝ }
+    ensures { λ _. ⌜ now (room .exit) ≡ paste (now (room .entry)) 0 (tabulate len (pieceByte k (frame k (now (page .entry))) x)) len ⌝ }
+{
+    let mut j = 0;
+    while j < len {
+        let m = block(len - j);
+        store(room, j, m, cut_block(x, k, j, m, page));
+        j += m;
+    }
 }
 
 // Splits a page into n pieces, any k of which make it. The room is n areas of f bytes, of which each takes one piece.
@@ -182,6 +211,6 @@ pub fn cut(n: usize, k: usize, f: usize, i: usize, page: &[u8], room: &mut [u8])
         return SplitAnswer::Refused(Refusal::TooLong);
     }
     let len = piece_length(k, page.len());
-    write_pieces(i - 1, 1, k, f, len, page, room);
+    cut_piece(i as u8, k, len, page, room);
     SplitAnswer::Pieces(len)
 }

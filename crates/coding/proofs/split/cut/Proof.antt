@@ -5,7 +5,7 @@ use borrow.Author.Tests.{not-true, not-false}
 use Rattle.coding.specs.Split.{SplitEnd}
 use Rattle.coding.proofs.MeasureLaws.{proper-measures, measures-small}
 use Rattle.coding.proofs.FrameLaws.{columns-within}
-use Rattle.coding.proofs.SplitLaws.{cut-measures, cut-short, cut-low, cut-high, cut-long, cut-done, piece-unique}
+use Rattle.coding.proofs.SplitLaws.{cut-measures, cut-short, cut-low, cut-high, cut-long, cut-done, piece-cut}
 use Rattle.coding.proofs.split.cut.Statement.{statement}
 use Rattle.coding.proofs.split.cut.Tie as tie
 
@@ -67,12 +67,19 @@ piece-length-requires c κs =
     let p = proper-measures _ _ _ (sym (t .proper-measures .ensures) ∙ not-false (t .proper-measures .result) (c .before .before .before .before .if1 .left)) in
     omega (arith, measures-small _ _ _ p, p)
 
-write-pieces-requires : tie.Need-write-pieces-requires
-write-pieces-requires c κs =
+cast-cut-piece : tie.Need-cast-cut-piece
+cast-cut-piece c =
+    let t = c .before .before .before .before .before .before in
+    let p = proper-measures _ _ _ (sym (t .proper-measures .ensures) ∙ not-false (t .proper-measures .result) (c .before .before .before .before .before .if1 .left)) in
+    omega (arith, p .nodes .1)
+
+cut-piece-requires : tie.Need-cut-piece-requires
+cut-piece-requires c κs =
     let t = c .before .before .before .before .before .before .before in
     let p = proper-measures _ _ _ (sym (t .proper-measures .ensures) ∙ not-false (t .proper-measures .result) (c .before .before .before .before .before .before .if1 .left)) in
     let l = columns-within _ _ _ (p .parts .0) (p .frame) (c .before .before .if5 .left) in
-    (rw (c .before .piece-length .ensures) l, omega (arith, p .nodes .1), p .longest .1, omega arith, p .parts .0, omega (arith, p .parts .1, p .nodes .1))
+    let e = c .before .piece-length .ensures in
+    omega (arith, l, e, p .longest .1, p .parts .1, p .nodes .1)
 
 same-length : tie.Need-same-length
 same-length c = search needs
@@ -85,12 +92,11 @@ returns-6 c =
     let room = b .before .before .before .if2 .left in
     let low = b .before .before .if3 .left in
     let m = sym (t .proper-measures .ensures) ∙ not-false (t .proper-measures .result) (b .before .before .before .before .if1 .left) in
-    let p = proper-measures _ _ _ m in
-    let l = columns-within _ _ _ (p .parts .0) (p .frame) (b .if5 .left) in
     let len = c .before .before .before .before .piece-length .ensures in
     let e = cut-done _ _ _ _ (a .page .now) (a .room .now) m room low (b .before .if4 .left) (b .if5 .left) in (
       rw len (sym (ap (λ (s : SplitEnd). s .outcome) e)),
-      piece-unique _ _ (a .page .now) _ _ _ (p .longest .0) low l room (rw len at (c .before .before .write-pieces .ensures))
+      c .before .before .cut-piece .ensures
+          ∙ piece-cut _ (a .page .now) _ _ _ len
           ∙ sym (ap (λ (s : SplitEnd). s .room) e),
     )
 
@@ -107,6 +113,7 @@ cut-spec =
     sub-if5
     returns-5
     piece-length-requires
-    write-pieces-requires
+    cast-cut-piece
+    cut-piece-requires
     same-length
     returns-6)

@@ -3,14 +3,13 @@ use mathlib.Core.Path.{_≡_, _∙_}
 use Prim.Native.Nat.{_+_, _-_, _<_, _≤_}
 use native.Mathlib.Nat.{mul-le-mul}
 use native.Mathlib.Omega.{arith}
-use Rattle.coding.specs.Areas.{Columns}
 use Rattle.coding.proofs.AreasLaws.{columns-stay, columns-again}
-use Rattle.coding.proofs.SplitLaws.{rows, block-start, block-more, block-all}
+use Rattle.coding.proofs.SplitLaws.{Rows, block-start, block-more, block-all}
 use Rattle.coding.proofs.split.write_block.Statement.{statement}
 use Rattle.coding.proofs.split.write_block.Tie as tie
 
 abbrev Inv-loop : tie.InvT-loop
-Inv-loop first n k f j m page room₀ r₀ room r = (r < k) × Columns n f j m (rows first k page j r) room₀ room
+Inv-loop first n k f j m page room₀ r₀ room r = (r < k) × Rows first n f k page j m r room₀ room
 
 abbrev μ-loop : tie.MeasureT-loop
 μ-loop first n k f j m page room₀ r₀ room r = r
@@ -18,20 +17,20 @@ abbrev μ-loop : tie.MeasureT-loop
 sub-r : tie.Need-sub-r Inv-loop μ-loop
 sub-r c = omega arith
 
-mul-gather : tie.Need-mul-gather Inv-loop μ-loop
-mul-gather c =
+mul-gather-whole : tie.Need-mul-gather-whole Inv-loop μ-loop
+mul-gather-whole c =
     let hj : c .before .before .args .j ≤ 4096 = omega arith in
     let hk : c .before .before .args .k ≤ 16 = omega arith in
     omega (arith, mul-le-mul hj hk)
 
-add-gather : tie.Need-add-gather Inv-loop μ-loop
-add-gather c =
+add-gather-whole : tie.Need-add-gather-whole Inv-loop μ-loop
+add-gather-whole c =
     let hj : c .before .before .args .j ≤ 4096 = omega arith in
     let hk : c .before .before .args .k ≤ 16 = omega arith in
     omega (arith, mul-le-mul hj hk)
 
-gather-requires : tie.Need-gather-requires Inv-loop μ-loop
-gather-requires c κs =
+gather-whole-requires : tie.Need-gather-whole-requires Inv-loop μ-loop
+gather-whole-requires c κs =
     let hj : c .before .before .args .j ≤ 4096 = omega arith in
     let hk : c .before .before .args .k ≤ 16 = omega arith in
     omega (arith, mul-le-mul hj hk)
@@ -43,27 +42,27 @@ loop-holds : tie.Need-loop-holds Inv-loop μ-loop
 loop-holds c = (
   omega arith,
   columns-stay _ _ _ _ _ _ _
-      (block-start _ _ _ _ (c .before .before .before .before .before .before .before .args .page .now) _ _ (c .before .before .before .before .gather .result) _ _ (c .before .before .before .before .before .before .before .pre .5) (c .before .before .before .before .gather .ensures)
+      (block-start _ _ _ _ (c .before .before .before .before .before .before .before .args .page .now) _ _ (c .before .before .before .before .gather-whole .result) _ _ (c .before .before .before .before .before .before .before .pre .5) (λ l h. c .before .before .before .before .gather-whole .ensures l (omega arith))
       (c .before .before .start-row .ensures)),
 )
 
 sub-r-2 : tie.Need-sub-r-2 Inv-loop μ-loop
 sub-r-2 c = omega arith
 
-mul-gather-2 : tie.Need-mul-gather-2 Inv-loop μ-loop
-mul-gather-2 c =
+mul-gather-whole-2 : tie.Need-mul-gather-whole-2 Inv-loop μ-loop
+mul-gather-whole-2 c =
     let hj : c .before .before .before .before .before .before .before .before .before .args .j ≤ 4096 = omega arith in
     let hk : c .before .before .before .before .before .before .before .before .before .args .k ≤ 16 = omega arith in
     omega (arith, mul-le-mul hj hk)
 
-add-gather-2 : tie.Need-add-gather-2 Inv-loop μ-loop
-add-gather-2 c =
+add-gather-whole-2 : tie.Need-add-gather-whole-2 Inv-loop μ-loop
+add-gather-whole-2 c =
     let hj : c .before .before .before .before .before .before .before .before .before .args .j ≤ 4096 = omega arith in
     let hk : c .before .before .before .before .before .before .before .before .before .args .k ≤ 16 = omega arith in
     omega (arith, mul-le-mul hj hk)
 
-gather-requires-2 : tie.Need-gather-requires-2 Inv-loop μ-loop
-gather-requires-2 c κs =
+gather-whole-requires-2 : tie.Need-gather-whole-requires-2 Inv-loop μ-loop
+gather-whole-requires-2 c κs =
     let hj : c .before .before .before .before .before .before .before .before .before .args .j ≤ 4096 = omega arith in
     let hk : c .before .before .before .before .before .before .before .before .before .args .k ≤ 16 = omega arith in
     omega (arith, mul-le-mul hj hk)
@@ -78,7 +77,7 @@ loop-again : tie.Need-loop-again Inv-loop μ-loop
 loop-again c =
     let z : c .before .before .before .before .before .before .loop .r - 1 + 1 ≡ c .before .before .before .before .before .before .loop .r = omega arith in (
       omega arith,
-      block-more _ _ _ _ (c .before .before .before .before .before .before .before .before .before .before .before .before .before .before .args .page .now) _ _ _ (c .before .before .before .before .gather2 .result) _ _ _ (omega arith) (c .before .before .before .before .gather2 .ensures)
+      block-more _ _ _ _ (c .before .before .before .before .before .before .before .before .before .before .before .before .before .before .args .page .now) _ _ _ (c .before .before .before .before .gather-whole2 .result) _ _ _ (omega arith) (λ l h. c .before .before .before .before .gather-whole2 .ensures l (omega arith))
           (rw z (c .before .before .before .before .before .before .loop .inv .1)) (c .before .before .add-row .ensures),
     )
 
@@ -98,15 +97,15 @@ write-block-spec =
     Inv-loop
     μ-loop
     sub-r
-    mul-gather
-    add-gather
-    gather-requires
+    mul-gather-whole
+    add-gather-whole
+    gather-whole-requires
     start-row-requires
     loop-holds
     sub-r-2
-    mul-gather-2
-    add-gather-2
-    gather-requires-2
+    mul-gather-whole-2
+    add-gather-whole-2
+    gather-whole-requires-2
     add-row-requires
     loop-less
     loop-again
