@@ -1,7 +1,8 @@
 #!/usr/bin/env python3
 """An independent account of document 01's program `stand`, and the sessions that the proved one is held to.
 
-    stand.py FOLDER    writes FOLDER/stdin (sessions) and FOLDER/stdout (what each must print)
+    stand.py FOLDER             writes FOLDER/stdin (sessions) and FOLDER/stdout (what each must print)
+    stand.py --sample FOLDER    writes document 01's example as the program `stand` itself takes and prints it
 
 Written from document 01's promise and not from its steps: all nodes are honest and each message is delivered at once, so that the page is one
 register. A deposit draws the sequence one above the highest, a reading gives the last deposit. Of reference.py it takes the bounds of the measures.
@@ -367,8 +368,12 @@ def write(folder, sessions, answer):
     return answers
 
 
-def main(folder):
-    assert answer(SAMPLE) == b'AWE 2 4 2 1 8\nREAD 1 0 none -\nDEPOSIT 0 1\nREAD 1 1 0 41\n'
+def write_sample(folder):
+    open(folder + '/stdin', 'wb').write(SAMPLE)
+    open(folder + '/stdout', 'wb').write(answer(SAMPLE))
+
+
+def write_sessions(folder):
     kinds = {}
     for out in write(folder, sessions(), answer):
         for line in out.decode().splitlines():
@@ -378,5 +383,14 @@ def main(folder):
         print(kinds[key], key)
 
 
+def main(arguments):
+    # document 01's own output
+    assert answer(SAMPLE) == b'AWE 2 4 2 1 8\nREAD 1 0 none -\nDEPOSIT 0 1\nREAD 1 1 0 41\n'
+    if arguments[0] == '--sample':
+        write_sample(arguments[1])
+    else:
+        write_sessions(arguments[0])
+
+
 if __name__ == '__main__':
-    main(sys.argv[1])
+    main(sys.argv[1:])
