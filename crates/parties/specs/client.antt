@@ -4,6 +4,7 @@ pub mod Step
 pub mod Pick
 pub mod Gate
 pub mod Draw
+pub mod End
 pub mod Choose
 pub mod Found
 pub mod Freeze

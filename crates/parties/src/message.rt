@@ -9,19 +9,6 @@ ghost use lib.ListN.{length};
 ghost use Rattle.parties.specs.protocol.Version.{noVersion};
 ghost use Rattle.parties.specs.node.ToNode.{listedFrom, storeSound, freeSound};
 
-// The tags of messages to a node, and of those to a client.
-pub(crate) const STORE: u8 = 1;
-
-pub(crate) const REQUEST: u8 = 2;
-
-pub(crate) const FREE: u8 = 3;
-
-pub(crate) const STORED: u8 = 4;
-
-pub(crate) const FREED: u8 = 5;
-
-pub(crate) const REPLY: u8 = 6;
-
 // A version, then a piece of 1 to F bytes.
 pub fn store_sound(s: Measures, b: &[u8]) -> bool
     requires { ⌜ s .f ≤ 4096 ⌝ }

@@ -3,14 +3,14 @@ use crate::Measures;
 use crate::Refusal;
 use crate::Service;
 use crate::Version;
-use crate::message::FREE;
-use crate::message::FREED;
-use crate::message::REPLY;
-use crate::message::REQUEST;
-use crate::message::STORE;
-use crate::message::STORED;
 use crate::message::free_sound;
 use crate::message::store_sound;
+use crate::protocol::tags::FREE;
+use crate::protocol::tags::FREED;
+use crate::protocol::tags::REPLY;
+use crate::protocol::tags::REQUEST;
+use crate::protocol::tags::STORE;
+use crate::protocol::tags::STORED;
 use crate::protocol::version::NONE;
 use crate::records::bytes::clear;
 use crate::records::bytes::copy;
@@ -34,7 +34,7 @@ ghost use Rattle.parties.specs.protocol.NodeEvents.{nodeFresh, nodeMessa
 ghost use Rattle.parties.specs.Answer.{served};
 ghost use Rattle.parties.specs.records.Places.{numberAt, soundAt, soundFrom, soundTable, rank, standsAt, splice, placeOf, versionAlone};
 ghost use Rattle.parties.specs.node.ToNode.{storeSound};
-ghost use Rattle.parties.specs.node.NodeCode.{Ready, Ends, event, broughtBy, inserted, listBehind, listNames, Listed, Released};
+ghost use Rattle.parties.specs.node.NodeCode.{NodeReady, Ends, event, broughtBy, inserted, listBehind, listNames, Listed, Released};
 
 // The length in the two bytes at a place.
 fn length_at(t: &[u8], at: usize) -> usize
@@ -98,7 +98,8 @@ fn table_sound(s: Measures, t: &[u8]) -> bool
     if !places_sound(s, t, count) {
         return false;
     }
-    zero_run(t, 2 + count * (7 + s.f), 2 + places * (7 + s.f))
+    let end = table_size(s);
+    zero_run(t, 2 + count * (7 + s.f), end)
 }
 
 // How many places have a version below v.
@@ -163,7 +164,7 @@ fn insert(s: Measures, t: &mut [u8], count: usize, at: usize, b: &[u8])
 
 // A piece is kept in its version's place; 8 for a new version at a full table.
 fn keep(s: Measures, t: &mut [u8], b: &[u8], room: &mut [u8]) -> Service
-    requires { ⌜ Ready s (now t) (now room) × (1 ≤ length (now b)) × (getD (now b) 0 0 ≡ storeTag) × (storeSound s (now b) ≡ true) ⌝ }
+    requires { ⌜ NodeReady s (now t) (now room) × (1 ≤ length (now b)) × (getD (now b) 0 0 ≡ storeTag) × (storeSound s (now b) ≡ true) ⌝ }
     ensures { λ r. ⌜ Ends (event s (now (t .entry)) (now (b .entry)) (now (room .entry))) (served r) (now (t .exit)) (now (room .exit)) ⌝ }
 {
     let z = 7 + s.f;
@@ -185,7 +186,7 @@ fn keep(s: Measures, t: &mut [u8], b: &[u8], room: &mut [u8]) -> Service
 }
 
 fn store(s: Measures, t: &mut [u8], b: &[u8], room: &mut [u8]) -> Service
-    requires { ⌜ Ready s (now t) (now room) × (1 ≤ length (now b)) × (getD (now b) 0 0 ≡ storeTag) ⌝ }
+    requires { ⌜ NodeReady s (now t) (now room) × (1 ≤ length (now b)) × (getD (now b) 0 0 ≡ storeTag) ⌝ }
     ensures { λ r. ⌜ Ends (event s (now (t .entry)) (now (b .entry)) (now (room .entry))) (served r) (now (t .exit)) (now (room .exit)) ⌝ }
 {
     if !store_sound(s, b) {
@@ -196,7 +197,7 @@ fn store(s: Measures, t: &mut [u8], b: &[u8], room: &mut [u8]) -> Service
 
 // A piece is handed back, or "not held".
 fn hand_back(s: Measures, t: &[u8], b: &[u8], room: &mut [u8]) -> Service
-    requires { ⌜ Ready s (now t) (now room) × (1 ≤ length (now b)) × (getD (now b) 0 0 ≡ requestTag) × (versionAlone s (now b) ≡ true) ⌝ }
+    requires { ⌜ NodeReady s (now t) (now room) × (1 ≤ length (now b)) × (getD (now b) 0 0 ≡ requestTag) × (versionAlone s (now b) ≡ true) ⌝ }
     ensures { λ r. ⌜ Ends (event s (now (t .entry)) (now (b .entry)) (now (room .entry))) (served r) (now (t .entry)) (now (room .exit)) ⌝ }
 {
     let z = 7 + s.f;
@@ -216,7 +217,7 @@ fn hand_back(s: Measures, t: &[u8], b: &[u8], room: &mut [u8]) -> Service
 }
 
 fn request(s: Measures, t: &[u8], b: &[u8], room: &mut [u8]) -> Service
-    requires { ⌜ Ready s (now t) (now room) × (1 ≤ length (now b)) × (getD (now b) 0 0 ≡ requestTag) ⌝ }
+    requires { ⌜ NodeReady s (now t) (now room) × (1 ≤ length (now b)) × (getD (now b) 0 0 ≡ requestTag) ⌝ }
     ensures { λ r. ⌜ Ends (event s (now (t .entry)) (now (b .entry)) (now (room .entry))) (served r) (now (t .entry)) (now (room .exit)) ⌝ }
 {
     if !version_alone(s, b) {
@@ -296,7 +297,7 @@ fn release(s: Measures, t: &mut [u8], b: &[u8], count: usize, listed: usize) -> 
 
 // The listed versions that are held are dropped.
 fn free(s: Measures, t: &mut [u8], b: &[u8], room: &mut [u8]) -> Service
-    requires { ⌜ Ready s (now t) (now room) × (1 ≤ length (now b)) × (getD (now b) 0 0 ≡ freeTag) ⌝ }
+    requires { ⌜ NodeReady s (now t) (now room) × (1 ≤ length (now b)) × (getD (now b) 0 0 ≡ freeTag) ⌝ }
     ensures { λ r. ⌜ Ends (event s (now (t .entry)) (now (b .entry)) (now (room .entry))) (served r) (now (t .exit)) (now (room .exit)) ⌝ }
 {
     if !free_sound(s, b) {

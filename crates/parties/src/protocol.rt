@@ -1,2 +1,3 @@
 mod measures;
+pub mod tags;
 pub(crate) mod version;

@@ -254,7 +254,7 @@ either true b r P h f g = f refl
 either false true r P h f g = g refl
 either false false r P h f g = absurd (omega (arith, ap (λ (x : Bool). cond {A = ℕ} x 1 0) h))
 
--- none is below all others
+-- no pointer's version is below none's
 none-lowest : (s : Measures) (p : Pointer) → GoodPointer s p → version.below (p .version) version.noVersion ≡ false
 unfolding properPointer
 none-lowest s p g =

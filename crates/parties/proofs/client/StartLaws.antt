@@ -70,15 +70,6 @@ ends-three x y e = (ap (λ (z : ClientEnd). z .answer) (sym e), ap (λ (z : Clie
 pub ends-four : (x y : ClientEnd) → x ≡ y → (y .answer ≡ x .answer) × (y .client ≡ x .client) × (y .room ≡ x .room) × (y .out ≡ x .out)
 ends-four x y e = let t = ends-three x y e in (t .0, t .1, t .2, ap (λ (z : ClientEnd). z .out) (sym e))
 
--- of an end that is another
-pub same-end : (x y : ClientEnd) → x ≡ y → (a : ClientAnswer) (k r : List ℕ) → (a ≡ y .answer) × (k ≡ y .client) × (r ≡ y .room)
-    → (a ≡ x .answer) × (k ≡ x .client) × (r ≡ x .room)
-same-end x y e a k r t = let q = ends-three x y e in (t .0 ∙ q .0, t .1 ∙ q .1, t .2 ∙ q .2)
-
-pub ends-as : (x y : ClientEnd) → x ≡ y → {a : ClientAnswer} {c r o : List ℕ} → (a ≡ y .answer) × (c ≡ y .client) × (r ≡ y .room) × (o ≡ y .out)
-    → (a ≡ x .answer) × (c ≡ x .client) × (r ≡ x .room) × (o ≡ x .out)
-ends-as x y e p = let q = ends-four x y e in (p .0 ∙ q .0, p .1 ∙ q .1, p .2 ∙ q .2, p .3 ∙ q .3)
-
 -- refused by a shut gate
 module _ (s : Measures) (own : ℕ) (p : Phase) (area : List ℕ) where
   abbrev bytes : List ℕ

@@ -17,10 +17,10 @@ pub range-length : (t : List ℕ) (a b : ℕ) → a ≤ b → b ≤ length t →
 range-length t a b h l = length-take-le (b - a) (drop a t) (omega (arith, length-drop a t))
 
 module _ (room : List ℕ) (at : ℕ) (s : List ℕ) (a b : ℕ) (t : List ℕ) (c d : ℕ) where
-  abbrev Put : Bool → ℕ → List ℕ → Type 0
-  Put stands r end = (r ≡ at + length (part stands a b s c d t)) × (end ≡ paste room at (part stands a b s c d t) (length (part stands a b s c d t)))
+  abbrev FieldPut : Bool → ℕ → List ℕ → Type 0
+  FieldPut stands r end = (r ≡ at + length (part stands a b s c d t)) × (end ≡ paste room at (part stands a b s c d t) (length (part stands a b s c d t)))
 
-  pub put-record : (stands : Bool) → stands ≡ true → a ≤ b → b ≤ length s → Put stands (at + (b - a)) (paste room at (drop a s) (b - a))
+  pub put-record : (stands : Bool) → stands ≡ true → a ≤ b → b ≤ length s → FieldPut stands (at + (b - a)) (paste room at (drop a s) (b - a))
   put-record true e h l =
       let n : length (range a b s) ≡ b - a = range-length s a b h l in
       let k : take (b - a) (drop a s) ≡ take (b - a) (range a b s) = sym (take-all (b - a) (range a b s) (omega arith)) in (
@@ -29,7 +29,7 @@ module _ (room : List ℕ) (at : ℕ) (s : List ℕ) (a b : ℕ) (t : List ℕ) 
       )
   put-record false e h l = absurd (false≢true e)
 
-  pub put-row : (stands : Bool) → stands ≡ false → c ≤ d → d ≤ length t → Put stands (at + (d - c)) (paste room at (drop c t) (d - c))
+  pub put-row : (stands : Bool) → stands ≡ false → c ≤ d → d ≤ length t → FieldPut stands (at + (d - c)) (paste room at (drop c t) (d - c))
   put-row true e h l = absurd (false≢true (sym e))
   put-row false e h l =
       let n : length (range c d t) ≡ d - c = range-length t c d h l in

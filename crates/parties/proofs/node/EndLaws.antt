@@ -27,7 +27,7 @@ use Rattle.parties.proofs.protocol.formats.PointerLaws.{length-version}
 use Rattle.parties.proofs.protocol.formats.NodeTableLaws.{FitsPlace, GoodTable}
 use Rattle.parties.specs.records.Places.{numberAt, versionAt, lengthAt, pieceAt, heldAt, heldFrom, soundAt, soundTable, rank, standsAt, splice, placeOf, versionAlone}
 use Rattle.parties.specs.node.ToNode.{versionsFrom, storeSound, freeSound}
-use Rattle.parties.specs.node.NodeCode.{Ready, Ends, event, broughtBy, inserted, Listed, Released}
+use Rattle.parties.specs.node.NodeCode.{NodeReady, Ends, event, broughtBy, inserted, Listed, Released}
 use Rattle.parties.proofs.records.SizeLaws.{below-rows}
 use Rattle.parties.proofs.records.PositionLaws.{from-length, every-at}
 use Rattle.parties.proofs.node.TableLaws.{table-none}
@@ -48,7 +48,7 @@ module _ (s : Measures) (t b room : List ℕ) where
       ends-of (event s t b room) (record { answer = refuses 4; table = t; room = room })
       (ap (λ (r : Option (Read (List Held))). onMessage s t room r (readToNode s b)) (table-none s t h q))
 
-  module _ (r : Ready s t room) where
+  module _ (r : NodeReady s t room) where
     pub broken-message : readToNode s b ≡ none → Ends (event s t b room) (refuses 4) t room
     broken-message e =
         ends-of (event s t b room) (record { answer = refuses 4; table = t; room = room })

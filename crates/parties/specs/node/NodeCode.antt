@@ -19,7 +19,7 @@ use Rattle.parties.specs.records.Places.{versionAt, heldFrom, soundAt, s
 use Rattle.parties.specs.node.ToNode.{versionsFrom}
 
 -- measures, slices and table are sound
-pub record Ready (s : Measures) (t room : List ℕ) : Type 0 where
+pub record NodeReady (s : Measures) (t room : List ℕ) : Type 0 where
   pub measures : passes s ≡ true
   pub table : tableSize s ≤ length t
   pub answer : answerSize s ≤ length room

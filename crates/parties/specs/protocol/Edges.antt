@@ -28,7 +28,7 @@ pub record Handed (s : Measures) (own : ℕ) (client rows room : List ℕ) (c : 
   pub rows-read : readDirectory s rows ≡ some (record { value = l; rest = rows-rest })
 
 -- a deposit is started at an idle client whose record reads, with the length that is wanted
-pub record Asked (s : Measures) (own : ℕ) (client : List ℕ) (c : Client) : Type 0 where
+pub record Starting (s : Measures) (own : ℕ) (client : List ℕ) (c : Client) : Type 0 where
   pub measures : passes s ≡ true
   pub number : own < s .m
   pub enough : clientSize s ≤ length client
@@ -43,9 +43,9 @@ pub record Edges : Type 0 where
   pub three-refused : (f own : ℕ) (client bytes : List ℕ)
       → startDeposit (record { m = 2; n = 3; k = 2; t = 1; f = f }) own client bytes .answer ≡ refused 1
   -- k 2, F 4, at the start of a deposit: 4 bytes pass, and its scan is called; 5 are refused 6
-  pub four-bytes : (m n t own : ℕ) (client bytes : List ℕ) (c : Client) → Asked (record { m = m; n = n; k = 2; t = t; f = 4 }) own client c
+  pub four-bytes : (m n t own : ℕ) (client bytes : List ℕ) (c : Client) → Starting (record { m = m; n = n; k = 2; t = t; f = 4 }) own client c
       → length bytes ≡ 4 → startDeposit (record { m = m; n = n; k = 2; t = t; f = 4 }) own client bytes .answer ≡ scan
-  pub five-bytes : (m n t own : ℕ) (client bytes : List ℕ) (c : Client) → Asked (record { m = m; n = n; k = 2; t = t; f = 4 }) own client c
+  pub five-bytes : (m n t own : ℕ) (client bytes : List ℕ) (c : Client) → Starting (record { m = m; n = n; k = 2; t = t; f = 4 }) own client c
       → length bytes ≡ 5 → startDeposit (record { m = m; n = n; k = 2; t = t; f = 4 }) own client bytes .answer ≡ refused 6
   -- version (2, 0) is above (1, 7)
   pub later : below (record { sequence = record { 0 = 1 }; client = 7 }) (record { sequence = record { 0 = 2 }; client = 0 }) ≡ true

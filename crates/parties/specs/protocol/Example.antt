@@ -336,6 +336,8 @@ pub record Claimed : Type 0 where
   pub claim-open : Claim measures honest opened
   -- Its clauses here, each with what it asks for. B's deposit and the reading bear (2, 1): they concern the same deposit.
   pub equal : Bears (ended .history) 1 (version 2 1) × Bears (ended .history) 2 (version 2 1) × Alike (ended .history) 1 2
+  -- A's deposit bears (1, 0) and the reading (2, 1): they do not
+  pub alike : Alike (ended .history) 0 2 → ⊥
   -- A's deposit ended before the reading began: (1, 0) is no higher than (2, 1); also before B's began: it is lower
   pub order : Precedes (ended .history) 0 2 × (below (version 2 1) (version 1 0) ≡ false)
   pub strict : Precedes (ended .history) 0 1 × (below (version 1 0) (version 2 1) ≡ true)

@@ -24,10 +24,9 @@ ghost use Rattle.parties.specs.protocol.Nodes.{stands as standing, count
 ghost use Rattle.parties.specs.protocol.Reading.{sameVersion};
 ghost use Rattle.parties.specs.protocol.Client.{storingStep, readClient};
 ghost use Rattle.parties.specs.protocol.ClientEvents.{roomSize};
-ghost use Rattle.parties.specs.client.Answer.{answered};
+ghost use Rattle.parties.specs.client.End.{stepEnd};
 ghost use Rattle.parties.specs.client.Record.{recordOf, isSome, workAt};
 ghost use Rattle.parties.specs.records.Places.{versionAt, numberAt};
-ghost use Rattle.parties.specs.client.Step.{phaseAfter};
 ghost use Rattle.parties.specs.client.Publish.{storedEnd};
 
 // The work stores this version, and the node is not among those that acknowledged it.
@@ -55,10 +54,7 @@ fn publish(
     requires { ⌜ (passes s ≡ true) × (1 ≤ i) × (i ≤ s .n) × (isSome (readClient s (recordOf p (now area))) ≡ true) × (roomSize s ≤ length (now room))
         × (p .step ≡ storingStep) × ((sameVersion v (versionAt (now area) (workAt s)) && not (standing (numberAt (now area) (workAt s + 5)) i)) ≡ true)
         × (map ≡ withNode (numberAt (now area) (workAt s + 5)) i) × (s .t + s .k ≤ counted map) ⌝ }
-    ensures { λ r. ⌜ ((out : List ℕ) → (answered r ≡ storedEnd s i v (recordOf p (now (area .entry))) (now (room .entry)) out .answer)
-        × (recordOf (phaseAfter p r) (now (area .exit)) ≡ storedEnd s i v (recordOf p (now (area .entry))) (now (room .entry)) out .client)
-        × (now (room .exit) ≡ storedEnd s i v (recordOf p (now (area .entry))) (now (room .entry)) out .room)
-        × (out ≡ storedEnd s i v (recordOf p (now (area .entry))) (now (room .entry)) out .out)) ⌝ }
+    ensures { λ r. ⌜ ((out : List ℕ) → stepEnd p r (now (area .exit)) (now (room .exit)) out ≡ storedEnd s i v (recordOf p (now (area .entry))) (now (room .entry)) out) ⌝ }
 {
     let at = work_at(s);
     form_pointer(s, map, area, at);
@@ -76,10 +72,7 @@ pub fn acknowledge(
     room: &mut [u8],
 ) -> ClientAnswer
     requires { ⌜ (passes s ≡ true) × (1 ≤ i) × (i ≤ s .n) × (isSome (readClient s (recordOf p (now area))) ≡ true) × (roomSize s ≤ length (now room)) ⌝ }
-    ensures { λ r. ⌜ ((out : List ℕ) → (answered r ≡ storedEnd s i v (recordOf p (now (area .entry))) (now (room .entry)) out .answer)
-        × (recordOf (phaseAfter p r) (now (area .exit)) ≡ storedEnd s i v (recordOf p (now (area .entry))) (now (room .entry)) out .client)
-        × (now (room .exit) ≡ storedEnd s i v (recordOf p (now (area .entry))) (now (room .entry)) out .room)
-        × (out ≡ storedEnd s i v (recordOf p (now (area .entry))) (now (room .entry)) out .out)) ⌝ }
+    ensures { λ r. ⌜ ((out : List ℕ) → stepEnd p r (now (area .exit)) (now (room .exit)) out ≡ storedEnd s i v (recordOf p (now (area .entry))) (now (room .entry)) out) ⌝ }
 {
     if p.step != STORING {
         return ClientAnswer::Waits;

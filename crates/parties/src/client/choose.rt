@@ -7,7 +7,7 @@ use crate::Version;
 use crate::client::form::work_at;
 use crate::client::form::work_size;
 use crate::client::pick::picked;
-use crate::message::REQUEST;
+use crate::protocol::tags::REQUEST;
 use crate::records::bytes::clear;
 use crate::records::bytes::copy;
 use crate::records::bytes::u16_at;
@@ -18,7 +18,7 @@ use crate::records::form::row_size;
 use crate::records::version::version_at;
 ghost use mathlib.Core.Path.{_≡_};
 ghost use mathlib.Core.Bool.{true, cond};
-ghost use mathlib.Core.List.{_++_};
+ghost use mathlib.Core.List.{[], _++_};
 ghost use mathlib.Core.Option.{some};
 ghost use Prim.Native.Nat.{_+_, _-_, _*_, _≤_, _<_};
 ghost use lib.ListN.{length, drop, replicate};
@@ -31,10 +31,9 @@ ghost use Rattle.parties.specs.protocol.Reading.{pick};
 ghost use Rattle.parties.specs.protocol.Message.{ToNode, writeToNode};
 ghost use Rattle.parties.specs.protocol.Client.{pickingStep, readClient};
 ghost use Rattle.parties.specs.protocol.ClientEvents.{lay, roomSize};
-ghost use Rattle.parties.specs.client.Answer.{answered};
 ghost use Rattle.parties.specs.records.Form.{rest};
+ghost use Rattle.parties.specs.client.End.{stepEnd};
 ghost use Rattle.parties.specs.client.Record.{recordOf, isSome};
-ghost use Rattle.parties.specs.client.Step.{phaseAfter};
 ghost use Rattle.parties.specs.records.Places.{versionAt, splice};
 ghost use Rattle.parties.specs.client.Draw.{rowsOf};
 ghost use Rattle.parties.specs.client.Choose.{offered, fetchEnd};
@@ -137,9 +136,7 @@ pub fn fetch(
 ) -> ClientAnswer
     requires { ⌜ (passes s ≡ true) × (own < s .m) × (p .step ≡ pickingStep) × (isSome (readClient s (recordOf p (now area))) ≡ true)
         × (s .m * rowSize s ≤ length (now rows)) × (isSome (readDirectory s (now rows)) ≡ true) × (roomSize s ≤ length (now room)) ⌝ }
-    ensures { λ r. ⌜ (answered r ≡ fetchEnd s own (recordOf p (now (area .entry))) (now (rows .entry)) (now (room .entry)) .answer)
-        × (recordOf (phaseAfter p r) (now (area .exit)) ≡ fetchEnd s own (recordOf p (now (area .entry))) (now (rows .entry)) (now (room .entry)) .client)
-        × (now (room .exit) ≡ fetchEnd s own (recordOf p (now (area .entry))) (now (rows .entry)) (now (room .entry)) .room) ⌝ }
+    ensures { λ r. ⌜ stepEnd p r (now (area .exit)) (now (room .exit)) [] ≡ fetchEnd s own (recordOf p (now (area .entry))) (now (rows .entry)) (now (room .entry)) ⌝ }
 {
     let reading = p.reading;
     let row = pick_row(s, own, reading, rows);

@@ -6,7 +6,7 @@ use crate::Sequence;
 use crate::Version;
 use crate::client::form::work_at;
 use crate::client::form::work_size;
-use crate::message::STORE;
+use crate::protocol::tags::STORE;
 use crate::records::bytes::clear;
 use crate::records::bytes::put_u16;
 use crate::records::bytes::put_u32;
@@ -31,9 +31,8 @@ ghost use Rattle.parties.specs.protocol.Message.{ToNode, writeToNode};
 ghost use Rattle.parties.specs.protocol.Client.{scanningStep, workSize, readClient};
 ghost use Rattle.parties.specs.protocol.ClientEvents.{roomSize, storesRoom};
 ghost use Rattle.parties.specs.protocol.Deposit.{highest as highestOf};
-ghost use Rattle.parties.specs.client.Answer.{answered};
+ghost use Rattle.parties.specs.client.End.{stepEnd};
 ghost use Rattle.parties.specs.client.Record.{recordOf, isSome};
-ghost use Rattle.parties.specs.client.Step.{phaseAfter};
 ghost use Rattle.parties.specs.client.Draw.{rowsOf, roomDigests, storesWork, drawEnd};
 
 fn larger(a: Sequence, b: Sequence) -> Sequence
@@ -178,9 +177,7 @@ pub fn draw(
 ) -> ClientAnswer
     requires { ⌜ (passes s ≡ true) × (own < s .m) × (p .step ≡ scanningStep) × (isSome (readClient s (recordOf p (now area))) ≡ true)
         × (roomSize s ≤ length (now room)) × (1 ≤ q .0) ⌝ }
-    ensures { λ r. ⌜ (answered r ≡ drawEnd s own q (recordOf p (now (area .entry))) (now (room .entry)) .answer)
-        × (recordOf (phaseAfter p r) (now (area .exit)) ≡ drawEnd s own q (recordOf p (now (area .entry))) (now (room .entry)) .client)
-        × (now (room .exit) ≡ drawEnd s own q (recordOf p (now (area .entry))) (now (room .entry)) .room) ⌝ }
+    ensures { λ r. ⌜ stepEnd p r (now (area .exit)) (now (room .exit)) [] ≡ drawEnd s own q (recordOf p (now (area .entry))) (now (room .entry)) ⌝ }
 {
     let at = work_at(s);
     let from = at + 4;

@@ -86,7 +86,7 @@ fn pointer_areas(s: Measures, size: usize, t: &[u8]) -> bool
     true
 }
 
-// A reserved version is none or one that a deposit draws.
+// A reserved version is none or a proper one.
 fn reserved_version(s: Measures, t: &[u8], at: usize) -> bool
     requires { ⌜ at + 5 ≤ length (now t) ⌝ }
     ensures { λ r. ⌜ rest (readReserved s (drop at (now (t .entry)))) ≡ cond r (some (drop (at + 5) (now (t .entry)))) none ⌝ }

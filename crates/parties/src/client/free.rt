@@ -2,7 +2,7 @@
 use crate::Measures;
 use crate::Version;
 use crate::client::draw::put_version;
-use crate::message::FREE;
+use crate::protocol::tags::FREE;
 use crate::records::bytes::move_up;
 use crate::records::form::pointer_size;
 use crate::records::nodes::stands;

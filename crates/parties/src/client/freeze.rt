@@ -18,7 +18,7 @@ use crate::records::nodes::stands;
 use crate::records::version::version_at;
 ghost use mathlib.Core.Path.{_≡_};
 ghost use mathlib.Core.Bool.{true, cond};
-ghost use mathlib.Core.List.{_++_};
+ghost use mathlib.Core.List.{[], _++_};
 ghost use Prim.Native.Nat.{_+_, _*_, _<_, _≤_};
 ghost use lib.ListN.{length, getD, drop, replicate};
 ghost use Rattle.parties.specs.protocol.Measures.{passes, rowSize, pointerSize};
@@ -26,9 +26,8 @@ ghost use Rattle.parties.specs.protocol.Nodes.{stands as standing};
 ghost use Rattle.parties.specs.protocol.Directory.{readDirectory, noRow};
 ghost use Rattle.parties.specs.protocol.Client.{freezingStep, workSize, readClient, readRetained, readSome, writeRetained};
 ghost use Rattle.parties.specs.protocol.ClientEvents.{roomSize};
-ghost use Rattle.parties.specs.client.Answer.{answered};
+ghost use Rattle.parties.specs.client.End.{stepEnd};
 ghost use Rattle.parties.specs.client.Record.{recordOf, isSome, workAt, areaSize};
-ghost use Rattle.parties.specs.client.Step.{phaseAfter};
 ghost use Rattle.parties.specs.client.Draw.{rowsOf};
 ghost use Rattle.parties.specs.client.Found.{retainedIn, pointerIn};
 ghost use Rattle.parties.specs.client.Freeze.{retainedAfter, freezeEnd};
@@ -96,9 +95,7 @@ pub fn freeze(
 ) -> ClientAnswer
     requires { ⌜ (passes s ≡ true) × (own < s .m) × (p .step ≡ freezingStep) × (isSome (readClient s (recordOf p (now area))) ≡ true)
         × (s .m * rowSize s ≤ length (now rows)) × (isSome (readDirectory s (now rows)) ≡ true) × (roomSize s ≤ length (now room)) ⌝ }
-    ensures { λ r. ⌜ (answered r ≡ freezeEnd s own (recordOf p (now (area .entry))) (now (rows .entry)) (now (room .entry)) .answer)
-        × (recordOf (phaseAfter p r) (now (area .exit)) ≡ freezeEnd s own (recordOf p (now (area .entry))) (now (rows .entry)) (now (room .entry)) .client)
-        × (now (room .exit) ≡ freezeEnd s own (recordOf p (now (area .entry))) (now (rows .entry)) (now (room .entry)) .room) ⌝ }
+    ensures { λ r. ⌜ stepEnd p r (now (area .exit)) (now (room .exit)) [] ≡ freezeEnd s own (recordOf p (now (area .entry))) (now (rows .entry)) (now (room .entry)) ⌝ }
 {
     let map = noticed_map(s, own, area, rows);
     let at = work_at(s);

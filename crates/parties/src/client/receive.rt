@@ -15,9 +15,8 @@ ghost use lib.ListN.{length};
 ghost use Rattle.parties.specs.protocol.Measures.{passes};
 ghost use Rattle.parties.specs.protocol.Client.{readClient};
 ghost use Rattle.parties.specs.protocol.ClientEvents.{roomSize};
-ghost use Rattle.parties.specs.client.Answer.{answered};
+ghost use Rattle.parties.specs.client.End.{stepEnd};
 ghost use Rattle.parties.specs.client.Record.{recordOf, isSome};
-ghost use Rattle.parties.specs.client.Step.{phaseAfter};
 ghost use Rattle.parties.specs.client.Receive.{receivedEnd};
 
 // A message from node i to a client whose record reads.
@@ -32,10 +31,7 @@ pub fn receive(
 ) -> ClientAnswer
     requires { ⌜ (passes s ≡ true) × (1 ≤ i) × (i ≤ s .n) × (isSome (readClient s (recordOf p (now area))) ≡ true) × (roomSize s ≤ length (now room))
         × (s .k * s .f - 4 ≤ length (now out)) ⌝ }
-    ensures { λ r. ⌜ (answered r ≡ receivedEnd s i (recordOf p (now (area .entry))) (now (message .entry)) (now (room .entry)) (now (out .entry)) .answer)
-        × (recordOf (phaseAfter p r) (now (area .exit)) ≡ receivedEnd s i (recordOf p (now (area .entry))) (now (message .entry)) (now (room .entry)) (now (out .entry)) .client)
-        × (now (room .exit) ≡ receivedEnd s i (recordOf p (now (area .entry))) (now (message .entry)) (now (room .entry)) (now (out .entry)) .room)
-        × (now (out .exit) ≡ receivedEnd s i (recordOf p (now (area .entry))) (now (message .entry)) (now (room .entry)) (now (out .entry)) .out) ⌝ }
+    ensures { λ r. ⌜ stepEnd p r (now (area .exit)) (now (room .exit)) (now (out .exit)) ≡ receivedEnd s i (recordOf p (now (area .entry))) (now (message .entry)) (now (room .entry)) (now (out .entry)) ⌝ }
 {
     let told = tell(s, message);
     match told {

@@ -36,9 +36,8 @@ ghost use Rattle.parties.specs.protocol.Measures.{passes};
 ghost use Rattle.parties.specs.protocol.Nodes.{nodesIn, count as counting, stands as standing, withNode};
 ghost use Rattle.parties.specs.protocol.Reading.{sameBytes};
 ghost use Rattle.parties.specs.protocol.Client.{fetchingStep, workSize, readClient};
-ghost use Rattle.parties.specs.client.Answer.{answered};
+ghost use Rattle.parties.specs.client.End.{stepEnd};
 ghost use Rattle.parties.specs.client.Record.{recordOf, workAt, isSome};
-ghost use Rattle.parties.specs.client.Step.{phaseAfter};
 ghost use Rattle.parties.specs.client.Reply.{repliedEnd, mapsAt, standingAt, countsAt, digestPlace, matchesAt, wentOn, cleared, mapped, areaPut, piecePut, lengthsWith};
 
 // What a reading keeps beside its pieces: the picked version, the nodes named, those counted, those that match.
@@ -244,10 +243,7 @@ fn finish(
         × (p .step ≡ fetchingStep) × (x ≡ standingAt (now area) (workAt s) (mapsAt s)) × (countsAt x i v ≡ true)
         × (matchesAt (s .f) (x .version) i (now piece) (now area) (digestPlace (workAt s) (x .named) i) ≡ true)
         × (s .k ≤ counting (withNode (x .matching) i)) ⌝ }
-    ensures { λ r. ⌜ ((room : List ℕ) → (answered r ≡ repliedEnd s i v (some (now (piece .entry))) (recordOf p (now (area .entry))) room (now (out .entry)) .answer)
-        × (recordOf (phaseAfter p r) (now (area .exit)) ≡ repliedEnd s i v (some (now (piece .entry))) (recordOf p (now (area .entry))) room (now (out .entry)) .client)
-        × (room ≡ repliedEnd s i v (some (now (piece .entry))) (recordOf p (now (area .entry))) room (now (out .entry)) .room)
-        × (now (out .exit) ≡ repliedEnd s i v (some (now (piece .entry))) (recordOf p (now (area .entry))) room (now (out .entry)) .out)) ⌝ }
+    ensures { λ r. ⌜ ((room : List ℕ) → stepEnd p r (now (area .exit)) room (now (out .exit)) ≡ repliedEnd s i v (some (now (piece .entry))) (recordOf p (now (area .entry))) room (now (out .entry))) ⌝ }
 {
     let at = work_at(s);
     let size = work_size(s);
@@ -275,10 +271,7 @@ fn reply_counted(
 ) -> ClientAnswer
     requires { ⌜ (passes s ≡ true) × (1 ≤ i) × (i ≤ s .n) × (isSome (readClient s (recordOf p (now area))) ≡ true) × (s .k * s .f - 4 ≤ length (now out))
         × (p .step ≡ fetchingStep) × (x ≡ standingAt (now area) (workAt s) (mapsAt s)) × (countsAt x i v ≡ true) ⌝ }
-    ensures { λ r. ⌜ ((room : List ℕ) → (answered r ≡ repliedEnd s i v (some (now (piece .entry))) (recordOf p (now (area .entry))) room (now (out .entry)) .answer)
-        × (recordOf (phaseAfter p r) (now (area .exit)) ≡ repliedEnd s i v (some (now (piece .entry))) (recordOf p (now (area .entry))) room (now (out .entry)) .client)
-        × (room ≡ repliedEnd s i v (some (now (piece .entry))) (recordOf p (now (area .entry))) room (now (out .entry)) .room)
-        × (now (out .exit) ≡ repliedEnd s i v (some (now (piece .entry))) (recordOf p (now (area .entry))) room (now (out .entry)) .out)) ⌝ }
+    ensures { λ r. ⌜ ((room : List ℕ) → stepEnd p r (now (area .exit)) room (now (out .exit)) ≡ repliedEnd s i v (some (now (piece .entry))) (recordOf p (now (area .entry))) room (now (out .entry))) ⌝ }
 {
     let at = work_at(s);
     let place = at + 7 + 32 * rank(x.named, i);
@@ -306,10 +299,7 @@ pub fn reply(
     out: &mut [u8],
 ) -> ClientAnswer
     requires { ⌜ (passes s ≡ true) × (1 ≤ i) × (i ≤ s .n) × (isSome (readClient s (recordOf p (now area))) ≡ true) × (s .k * s .f - 4 ≤ length (now out)) ⌝ }
-    ensures { λ r. ⌜ ((room : List ℕ) → (answered r ≡ repliedEnd s i v (some (now (piece .entry))) (recordOf p (now (area .entry))) room (now (out .entry)) .answer)
-        × (recordOf (phaseAfter p r) (now (area .exit)) ≡ repliedEnd s i v (some (now (piece .entry))) (recordOf p (now (area .entry))) room (now (out .entry)) .client)
-        × (room ≡ repliedEnd s i v (some (now (piece .entry))) (recordOf p (now (area .entry))) room (now (out .entry)) .room)
-        × (now (out .exit) ≡ repliedEnd s i v (some (now (piece .entry))) (recordOf p (now (area .entry))) room (now (out .entry)) .out)) ⌝ }
+    ensures { λ r. ⌜ ((room : List ℕ) → stepEnd p r (now (area .exit)) room (now (out .exit)) ≡ repliedEnd s i v (some (now (piece .entry))) (recordOf p (now (area .entry))) room (now (out .entry))) ⌝ }
 {
     if p.step != FETCHING {
         return ClientAnswer::Waits;
@@ -325,10 +315,7 @@ pub fn reply(
 // A node's reply that it holds no piece of a version.
 pub fn missing(s: Measures, i: usize, v: Version, p: Phase, area: &mut [u8]) -> ClientAnswer
     requires { ⌜ (passes s ≡ true) × (1 ≤ i) × (i ≤ s .n) × (isSome (readClient s (recordOf p (now area))) ≡ true) ⌝ }
-    ensures { λ r. ⌜ ((room out : List ℕ) → (answered r ≡ repliedEnd s i v none (recordOf p (now (area .entry))) room out .answer)
-        × (recordOf (phaseAfter p r) (now (area .exit)) ≡ repliedEnd s i v none (recordOf p (now (area .entry))) room out .client)
-        × (room ≡ repliedEnd s i v none (recordOf p (now (area .entry))) room out .room)
-        × (out ≡ repliedEnd s i v none (recordOf p (now (area .entry))) room out .out)) ⌝ }
+    ensures { λ r. ⌜ ((room out : List ℕ) → stepEnd p r (now (area .exit)) room out ≡ repliedEnd s i v none (recordOf p (now (area .entry))) room out) ⌝ }
 {
     if p.step != FETCHING {
         return ClientAnswer::Waits;

@@ -16,23 +16,21 @@ use crate::client::step::SCANNING;
 use crate::records::bytes::clear;
 ghost use mathlib.Core.Path.{_≡_};
 ghost use mathlib.Core.Bool.{true};
+ghost use mathlib.Core.List.{[]};
 ghost use Prim.Native.Nat.{_*_, _<_, _≤_};
 ghost use lib.ListN.{length};
 ghost use Rattle.parties.specs.protocol.Measures.{passes, rowSize};
 ghost use Rattle.parties.specs.protocol.Directory.{readDirectory};
 ghost use Rattle.parties.specs.protocol.Client.{scanningStep, readClient};
 ghost use Rattle.parties.specs.protocol.ClientEvents.{roomSize};
-ghost use Rattle.parties.specs.client.Answer.{answered};
+ghost use Rattle.parties.specs.client.End.{stepEnd};
 ghost use Rattle.parties.specs.client.Record.{recordOf, isSome};
-ghost use Rattle.parties.specs.client.Step.{phaseAfter};
 ghost use Rattle.parties.specs.client.Scan.{scannedEnd, spentEnd};
 
 // A deposit that has no sequence ends: its page is cleared. Phase and room are for the contract alone.
 fn give_up(s: Measures, p: Phase, area: &mut [u8], room: &[u8]) -> ClientAnswer
     requires { ⌜ (passes s ≡ true) × (isSome (readClient s (recordOf p (now area))) ≡ true) ⌝ }
-    ensures { λ r. ⌜ (answered r ≡ spentEnd s (recordOf p (now (area .entry))) (now (room .entry)) .answer)
-        × (recordOf (phaseAfter p r) (now (area .exit)) ≡ spentEnd s (recordOf p (now (area .entry))) (now (room .entry)) .client)
-        × (now (room .entry) ≡ spentEnd s (recordOf p (now (area .entry))) (now (room .entry)) .room) ⌝ }
+    ensures { λ r. ⌜ stepEnd p r (now (area .exit)) (now (room .entry)) [] ≡ spentEnd s (recordOf p (now (area .entry))) (now (room .entry)) ⌝ }
 {
     let at = work_at(s);
     let size = work_size(s);
@@ -51,9 +49,7 @@ fn first_scan(
 ) -> ClientAnswer
     requires { ⌜ (passes s ≡ true) × (own < s .m) × (p .step ≡ scanningStep) × (isSome (readClient s (recordOf p (now area))) ≡ true)
         × (isSome (readDirectory s (now rows)) ≡ true) × (roomSize s ≤ length (now room)) ⌝ }
-    ensures { λ r. ⌜ (answered r ≡ scannedEnd s own (recordOf p (now (area .entry))) (now (rows .entry)) (now (room .entry)) .answer)
-        × (recordOf (phaseAfter p r) (now (area .exit)) ≡ scannedEnd s own (recordOf p (now (area .entry))) (now (rows .entry)) (now (room .entry)) .client)
-        × (now (room .exit) ≡ scannedEnd s own (recordOf p (now (area .entry))) (now (rows .entry)) (now (room .entry)) .room) ⌝ }
+    ensures { λ r. ⌜ stepEnd p r (now (area .exit)) (now (room .exit)) [] ≡ scannedEnd s own (recordOf p (now (area .entry))) (now (rows .entry)) (now (room .entry)) ⌝ }
 {
     let top = highest(s, rows);
     let next = top.next();
@@ -74,9 +70,7 @@ pub fn after_scan(
 ) -> ClientAnswer
     requires { ⌜ (passes s ≡ true) × (own < s .m) × (isSome (readClient s (recordOf p (now area))) ≡ true)
         × (s .m * rowSize s ≤ length (now rows)) × (isSome (readDirectory s (now rows)) ≡ true) × (roomSize s ≤ length (now room)) ⌝ }
-    ensures { λ r. ⌜ (answered r ≡ scannedEnd s own (recordOf p (now (area .entry))) (now (rows .entry)) (now (room .entry)) .answer)
-        × (recordOf (phaseAfter p r) (now (area .exit)) ≡ scannedEnd s own (recordOf p (now (area .entry))) (now (rows .entry)) (now (room .entry)) .client)
-        × (now (room .exit) ≡ scannedEnd s own (recordOf p (now (area .entry))) (now (rows .entry)) (now (room .entry)) .room) ⌝ }
+    ensures { λ r. ⌜ stepEnd p r (now (area .exit)) (now (room .exit)) [] ≡ scannedEnd s own (recordOf p (now (area .entry))) (now (rows .entry)) (now (room .entry)) ⌝ }
 {
     if p.step == SCANNING {
         return first_scan(s, own, p, area, rows, room);

@@ -1,9 +1,9 @@
 // Messages to a client: their forms.
 use crate::Measures;
 use crate::Version;
-use crate::message::FREED;
-use crate::message::REPLY;
-use crate::message::STORED;
+use crate::protocol::tags::FREED;
+use crate::protocol::tags::REPLY;
+use crate::protocol::tags::STORED;
 use crate::records::version::proper_at;
 use crate::records::version::version_alone;
 use crate::records::version::version_at;

@@ -5,7 +5,6 @@ use Prim.Native.Nat.{_-_, _≤_}
 use native.Mathlib.Omega.{arith}
 use lib.ListN.{length, getD}
 use Rattle.coding.proofs.AreasLaws.{Walk, walk-none, walk-fits, walk-room, walk-more, walk-all}
-use Rattle.coding.proofs.AreasLaws.{Walk, walk-none, walk-fits, walk-room, walk-more, walk-all}
 use Rattle.coding.proofs.split.start_row.Statement.{statement}
 use Rattle.coding.proofs.split.start_row.Tie as tie
 

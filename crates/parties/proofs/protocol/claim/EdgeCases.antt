@@ -23,7 +23,7 @@ use Rattle.parties.specs.protocol.Reading.{candidate, pick}
 use Rattle.parties.specs.protocol.Answer.{refused, scan, number, refuses, empty}
 use Rattle.parties.specs.protocol.ClientEvents.{Step, stays, does, withPhase, isIdle, ClientEnd, roomSize, beginDeposit, scannedAt, fetch, draw, onClient, onRows, after, startDeposit, scanAnswer}
 use Rattle.parties.specs.protocol.DirectoryEvents.{directorySize, onTable, directoryUpdate}
-use Rattle.parties.specs.protocol.Edges.{Handed, Asked, Edges}
+use Rattle.parties.specs.protocol.Edges.{Handed, Starting, Edges}
 
 four : (f : ℕ) → 2 ≤ f → f ≤ 4096 → passes (record { m = 2; n = 4; k = 2; t = 1; f = f }) ≡ true
 unfolding passes
@@ -47,7 +47,7 @@ handed s own client rows room c l h =
     ∙ ap (λ r. after s client room [] (h .record-rest) (onRows r (λ y. scannedAt s own c room y (c .phase)))) (h .rows-read))
 
 -- where the record reads, a deposit's start is the step on it
-asked : (s : Measures) (own : ℕ) (client bytes : List ℕ) (c : Client) (h : Asked s own client c)
+asked : (s : Measures) (own : ℕ) (client bytes : List ℕ) (c : Client) (h : Starting s own client c)
     → startDeposit s own client bytes ≡ after s client [] [] (h .record-rest) (beginDeposit s c bytes)
 unfolding startDeposit
 asked s own client bytes c h =
@@ -55,7 +55,7 @@ asked s own client bytes c h =
     (ap (λ r. onClient s client [] [] r (λ x. beginDeposit s x bytes)) (h .record-reads))
 
 -- a page that has at most, or more than, kF − 4 bytes
-measured : (s : Measures) (own : ℕ) (client bytes : List ℕ) (c : Client) (h : Asked s own client c) (b : Bool) → leb (length bytes) (s .k * s .f - 4) ≡ b
+measured : (s : Measures) (own : ℕ) (client bytes : List ℕ) (c : Client) (h : Starting s own client c) (b : Bool) → leb (length bytes) (s .k * s .f - 4) ≡ b
     → startDeposit s own client bytes .answer ≡ cond b scan (refused 6)
 unfolding beginDeposit
 measured s own client bytes c h b e =

@@ -207,6 +207,9 @@ example-demand-3 =
       claim = at-end;
       claim-open = at-last;
       equal = (bears-1, bears-2, at-end .equal 1 2 (version 2 1) (version 2 1) bears-1 bears-2 refl);
+      alike = λ a.
+          let e = at-end .alike 0 2 (version 1 0) (version 2 1) bears-0 bears-2 a in
+          absurd (omega (arith, ap (λ (v : Version). v .sequence .0) e));
       order = ((13, ended-0, before-2), at-end .order 0 2 (version 1 0) (version 2 1) bears-0 bears-2 (13, ended-0, before-2));
       strict =
           ((13, ended-0, before-1), at-end .strict 0 1 (version 1 0) (version 2 1) pageB bears-0 bears-1 (13, ended-0, before-1) page-1);

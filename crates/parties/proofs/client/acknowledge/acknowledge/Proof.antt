@@ -1,10 +1,10 @@
 use borrow.Author.Needs.{needs}
+use mathlib.Core.Path.{sym}
 use mathlib.Core.Bool.{true, false}
 use native.Mathlib.Omega.{arith}
 use borrow.Author.Tests.{not-true, not-false}
 use Rattle.parties.proofs.client.FormLaws.{sizes}
 use Rattle.parties.proofs.client.AcknowledgeLaws.{map-there, adds-at, map-at, stored-other, stored-old, stored-few}
-use Rattle.parties.proofs.client.StartLaws.{ends-four}
 use Rattle.parties.proofs.client.GateLaws.{Opened}
 use Rattle.parties.proofs.client.acknowledge.acknowledge.Statement.{statement}
 use Rattle.parties.proofs.client.acknowledge.acknowledge.Tie as tie
@@ -21,7 +21,7 @@ opened c =
     }
 
 returns : tie.Need-returns
-returns c = λ out. let a = c .before .before .before .before .args in ends-four _ _ (stored-other (a .s) (a .p) (a .area .now) (opened (c .before)) (a .i) (a .v) (c .if1 .taken) (a .room .now) out)
+returns c = λ out. let a = c .before .before .before .before .args in sym (stored-other (a .s) (a .p) (a .area .now) (opened (c .before)) (a .i) (a .v) (c .if1 .taken) (a .room .now) out)
 
 work-at-requires : tie.Need-work-at-requires
 work-at-requires c κs = search needs
@@ -43,7 +43,7 @@ returns-2 c =
     let d = c .before .before .before .before .before in
     let work-at = c .before .before .before .work-at in
     let adds = c .before .adds in
-    ends-four _ _ (stored-old (a .s) (a .p) (a .area .now) (opened d) (a .i) (a .v) (c .before .before .before .before .if1 .left)
+    sym (stored-old (a .s) (a .p) (a .area .now) (opened d) (a .i) (a .v) (c .before .before .before .before .if1 .left)
     (adds-at (a .s) (a .p) (a .area .now) (opened d) (a .i) (a .v) (work-at .result) (work-at .ensures) (adds .result) false (adds .ensures) (not-true (adds .result) (c .if2 .taken)))
     (a .room .now) out)
 
@@ -92,7 +92,7 @@ returns-3 c =
     let u16-at = x .before .before .u16-at in
     let with-node = x .before .with-node in
     let count = x .count in
-    ends-four _ _ (stored-few (a .s) (a .p) (a .area .now) (opened d) (a .i) (a .v) (y .before .before .if1 .left)
+    sym (stored-few (a .s) (a .p) (a .area .now) (opened d) (a .i) (a .v) (y .before .before .if1 .left)
     (adds-at (a .s) (a .p) (a .area .now) (opened d) (a .i) (a .v) (work-at .result) (work-at .ensures) (adds .result) true (adds .ensures)
     (not-false (adds .result) (x .before .before .before .before .if2 .left)))
     (with-node .result) (map-at (a .s) (a .p) (a .area .now) (opened d) (a .i) (a .v) (work-at .result) (work-at .ensures) (u16-at .result) _ (u16-at .ensures) (with-node .result)

@@ -1,7 +1,7 @@
 use borrow.Author.Needs.{needs}
+use mathlib.Core.Path.{sym}
 use native.Mathlib.Omega.{arith}
 use Rattle.parties.proofs.client.AcknowledgeLaws.{published-bits, published-enough, published-retained, published-pointer, published-long, stored-published}
-use Rattle.parties.proofs.client.StartLaws.{ends-four}
 use Rattle.parties.proofs.client.GateLaws.{work-within, Opened}
 use Rattle.parties.proofs.client.acknowledge.publish.Statement.{statement}
 use Rattle.parties.proofs.client.acknowledge.publish.Tie as tie
@@ -59,7 +59,7 @@ returns c =
     let q = y .before .pre in
     let d = x .before .before .before .before in
     let put-update = c .before .before .put-update in
-    ends-four _ _ (stored-published (a .s) (a .p) (a .area .now) (opened d) (a .i) (a .v) (q .5) (q .6) (a .map) (q .7) (q .1) (q .2) (q .8) (d .work-at .result) (d .work-at .ensures) _
+    sym (stored-published (a .s) (a .p) (a .area .now) (opened d) (a .i) (a .v) (q .5) (q .6) (a .map) (q .7) (q .1) (q .2) (q .8) (d .work-at .result) (d .work-at .ensures) _
     (x .before .before .form-pointer .ensures)
     (a .room .now) (put-update .result) (put-update .ensures .0) _ (put-update .ensures .1) out)
 

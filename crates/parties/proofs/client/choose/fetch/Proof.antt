@@ -7,7 +7,6 @@ use Rattle.parties.specs.protocol.Pointer.{Pointer}
 use Rattle.parties.proofs.protocol.formats.PointerLaws.{GoodPointer, pointer-length}
 use Rattle.parties.proofs.protocol.formats.RowLaws.{pointer-fits}
 use Rattle.parties.specs.client.Choose.{offered}
-use Rattle.parties.proofs.client.StartLaws.{ends-three}
 use Rattle.parties.proofs.client.ChooseLaws.{offered-good, version-fits, version-shown}
 use Rattle.parties.proofs.client.FetchLaws.{finds-none, asks}
 use Rattle.parties.proofs.client.GateLaws.{work-within, Opened}
@@ -48,7 +47,7 @@ returns c =
     let a = x .before .before .before .before .before .before .args in
     let q = x .before .before .before .before .before .before .pre in
     let v = version-shown (a .s) (found x) (good x) (x .candidate-at .result .now) (x .candidate-at .ensures) in
-    ends-three _ _ (finds-none (a .s) (a .own) (a .p) (a .area .now) (opened x) (q .2) (a .rows .now) (a .room .now) (found x) (x .before .pick-row .ensures .0) (good x)
+    sym (finds-none (a .s) (a .own) (a .p) (a .area .now) (opened x) (q .2) (a .rows .now) (a .room .now) (found x) (x .before .pick-row .ensures .0) (good x)
     (ap isNoVersion (sym (c .before .before .version-at .ensures ∙ v)) ∙ sym (c .before .is-none .ensures) ∙ c .if1 .taken))
 
 u16-at-requires : tie.Need-u16-at-requires
@@ -91,7 +90,7 @@ returns-2 c =
     let x = y .before .before .before .before .before .before in
     let a = x .before .before .before .before .before .before .args in
     let q = x .before .before .before .before .before .before .pre in
-    ends-three _ _ (asks (a .s) (a .own) (a .p) (a .area .now) (opened x) (q .2) (a .rows .now) (a .room .now) (found x) (x .before .pick-row .ensures .0) (good x)
+    sym (asks (a .s) (a .own) (a .p) (a .area .now) (opened x) (q .2) (a .rows .now) (a .room .now) (found x) (x .before .pick-row .ensures .0) (good x)
     (x .candidate-at .result .now) (x .candidate-at .ensures) (y .before .before .before .before .before .version-at .result)
     (y .before .before .before .before .before .version-at .ensures)
     (sym (y .before .before .before .before .is-none .ensures) ∙ y .before .before .before .if1 .left) (y .before .before .u16-at .result) _ (y .before .before .u16-at .ensures) (y .before .work-at .result) (y .before .work-at .ensures)

@@ -1,9 +1,9 @@
+use mathlib.Core.Path.{sym}
 use Prim.Native.Nat.{_^_, _<_}
 use native.Mathlib.Omega.{arith}
 use Rattle.coding.proofs.FrameLaws.{columns-within}
 use Rattle.parties.proofs.protocol.formats.MeasureLaws.{passed}
 use Rattle.parties.proofs.client.FormLaws.{sizes}
-use Rattle.parties.proofs.client.StartLaws.{ends-three}
 use Rattle.parties.proofs.client.DrawEndLaws.{page-fits, page-short-at, drawn-at}
 use Rattle.parties.proofs.client.GateLaws.{work-within, Opened}
 use borrow.Author.Needs.{needs}
@@ -98,7 +98,7 @@ returns c =
     let y = x .before .before .before .before .before .before in
     let a = y .before .before .before .before .before .args in
     let q = y .before .before .before .before .before .pre in
-    ends-three _ _ (drawn-at (a .s) (a .own) (q .1) (a .p) (a .area .now) (opened (y .before .before .before .before)) (q .2) (y .before .before .work-at .result)
+    sym (drawn-at (a .s) (a .own) (q .1) (a .p) (a .area .now) (opened (y .before .before .before .before)) (q .2) (y .before .before .work-at .result)
     (y .before .before .work-at .ensures) (y .u32-at .result) _ (y .u32-at .ensures) (a .q) (q .5) (small-sequence (y .before .before)) (a .room .now) (q .4) (x .before .before .put-pieces .result)
     (x .before .before .put-pieces .ensures .0) _ (x .before .before .put-pieces .ensures .1) _ (c .before .before .put-stores .ensures))
 

@@ -1,5 +1,5 @@
+use mathlib.Core.Path.{sym}
 use native.Mathlib.Omega.{arith}
-use Rattle.parties.proofs.client.StartLaws.{ends-three}
 use Rattle.parties.proofs.client.FreezeEndLaws.{freeze-long, freeze-retained, freeze-pointer, frozen}
 use Rattle.parties.proofs.client.GateLaws.{Opened}
 use borrow.Author.Needs.{needs}
@@ -63,8 +63,7 @@ returns c =
     let k = y .before .before .before .before .before in
     let a = k .before .args in
     let q = k .before .pre in
-    ends-three _ _
-    (frozen (a .s) (a .p) (a .area .now) (opened k) (q .2) (a .own) (y .before .noticed-map .result) (a .rows .now) (y .before .noticed-map .ensures) (y .work-at .result) (y .work-at .ensures)
+    sym (frozen (a .s) (a .p) (a .area .now) (opened k) (q .2) (a .own) (y .before .noticed-map .result) (a .rows .now) (y .before .noticed-map .ensures) (y .work-at .result) (y .work-at .ensures)
     (x .before .before .before .before .version-at .result) (x .before .before .before .before .version-at .ensures) (a .room .now) (x .before .put-free-list .result)
     (x .before .put-free-list .ensures .0) _ (x .before .put-free-list .ensures .1) _ (c .before .before .retain .ensures))
 

@@ -1,6 +1,6 @@
 use borrow.Author.Needs.{needs}
+use mathlib.Core.Path.{sym, _∙_}
 use Rattle.parties.proofs.client.MessageLaws.{told-stored, told-reply, told-missing, told-freed, told-broken, told-long}
-use Rattle.parties.proofs.client.StartLaws.{ends-four, ends-as}
 use Rattle.parties.proofs.client.receive.receive.Statement.{statement}
 use Rattle.parties.proofs.client.receive.receive.Tie as tie
 
@@ -59,15 +59,15 @@ returns c =
     let a = y .before .before .before .args in
     let tell = x .before .before .before .before .tell in
     let told = x .before .before .told in
-    ends-as _ _ (told-stored (a .s) (a .i) _ (a .message .now) (a .room .now) (a .out .now) (tell .result) (tell .ensures) (told .given .0 .0) (told .given .1))
-    (c .before .before .before .before .acknowledge .ensures (a .out .now))
+    c .before .before .before .before .acknowledge .ensures (a .out .now)
+    ∙ sym (told-stored (a .s) (a .i) _ (a .message .now) (a .room .now) (a .out .now) (tell .result) (tell .ensures) (told .given .0 .0) (told .given .1))
 
 returns-2 : tie.Need-returns-2
 returns-2 c =
     let x = c .before .before .before .before .before .before in
     let a = x .before .args in
     let tell = c .before .before .tell in
-    ends-four _ _ (told-freed (a .s) (a .i) _ (a .message .now) (a .room .now) (a .out .now) (tell .result) (tell .ensures) (c .enum-told .given .1) (x .before .pre .3))
+    sym (told-freed (a .s) (a .i) _ (a .message .now) (a .room .now) (a .out .now) (tell .result) (tell .ensures) (c .enum-told .given .1) (x .before .pre .3))
 
 same-length-3 : tie.Need-same-length-3
 same-length-3 c = search needs
@@ -82,8 +82,8 @@ returns-3 c =
     let a = y .before .before .before .before .args in
     let tell = x .before .before .before .before .before .tell in
     let told = x .before .before .before .told2 in
-    ends-as _ _ (told-reply (a .s) (a .i) _ (a .message .now) (a .room .now) (a .out .now) (tell .result) (tell .ensures) (told .given .0 .0) (told .given .1))
-    (c .before .before .before .before .reply .ensures (a .room .now))
+    c .before .before .before .before .reply .ensures (a .room .now)
+    ∙ sym (told-reply (a .s) (a .i) _ (a .message .now) (a .room .now) (a .out .now) (tell .result) (tell .ensures) (told .given .0 .0) (told .given .1))
 
 same-length-5 : tie.Need-same-length-5
 same-length-5 c = search needs
@@ -95,15 +95,15 @@ returns-4 c =
     let a = y .args in
     let tell = x .before .tell in
     let told = c .before .before .before .before .before .told3 in
-    ends-as _ _ (told-missing (a .s) (a .i) _ (a .message .now) (a .room .now) (a .out .now) (tell .result) (tell .ensures) (told .given .0 .0) (told .given .1))
-    (c .before .before .missing .ensures (a .room .now) (a .out .now))
+    c .before .before .missing .ensures (a .room .now) (a .out .now)
+    ∙ sym (told-missing (a .s) (a .i) _ (a .message .now) (a .room .now) (a .out .now) (tell .result) (tell .ensures) (told .given .0 .0) (told .given .1))
 
 returns-5 : tie.Need-returns-5
 returns-5 c =
     let x = c .before .before .before .before .before .before in
     let a = x .before .args in
     let tell = c .before .before .tell in
-    ends-four _ _ (told-broken (a .s) (a .i) _ (a .message .now) (a .room .now) (a .out .now) (tell .result) (tell .ensures) (c .enum-told2 .given .1) (x .before .pre .3))
+    sym (told-broken (a .s) (a .i) _ (a .message .now) (a .room .now) (a .out .now) (tell .result) (tell .ensures) (c .enum-told2 .given .1) (x .before .pre .3))
 
 pub receive-spec : {M : Type 1} → statement M
 receive-spec =

@@ -1,4 +1,4 @@
-use mathlib.Core.Path.{_≡_, ap, _∙_}
+use mathlib.Core.Path.{_≡_, sym, ap, _∙_}
 use mathlib.Core.List.{List}
 use Prim.Native.Nat.{ℕ, _+_, _-_}
 use native.Mathlib.Omega.{arith}
@@ -6,10 +6,11 @@ use lib.ListN.{length, replicate}
 use lib.Seq.{paste}
 use Rattle.coding.specs.Answer.{joinOutcome}
 use Rattle.coding.specs.Join.{JoinEnd}
-use Rattle.parties.specs.client.Record.{recordOf}
+use Rattle.parties.specs.declared.ClientAnswer.{ClientAnswer}
+use Rattle.parties.specs.declared.Refusal.{Refusal}
+use Rattle.parties.specs.client.End.{stepEnd}
 use Rattle.parties.proofs.client.FormLaws.{sizes}
 use Rattle.parties.proofs.client.ReplyLaws.{lengthsAt, matches-short, lengths-within, clear-done, page-end, refused-end, join-told}
-use Rattle.parties.proofs.client.StartLaws.{ends-four}
 use Rattle.parties.proofs.client.GateLaws.{work-within, Opened}
 use borrow.Author.Needs.{needs}
 use Rattle.parties.proofs.client.reply.finish.Statement.{statement}
@@ -88,11 +89,11 @@ returns c =
     in
     let z : JoinEnd = record { outcome = joinOutcome (y .join-with .result); out = y .join-with .last .1 .1 .1 .1 .1 .1 .0 } in
     λ room.
-    let r = ends-four _ _ (refused-end (a .s) (a .p) (a .area .now) (opened (d .before .before .before .before .before)) (q .5) (a .i) (q .1) (q .2) (a .v) (a .x) (q .6) (a .piece .now)
+    let r = sym (refused-end (a .s) (a .p) (a .area .now) (opened (d .before .before .before .before .before)) (q .5) (a .i) (q .1) (q .2) (a .v) (a .x) (q .6) (a .piece .now)
     (λ i. d .before .before .before .before .shared-slice-known .given i .fits) (q .7) (q .8) (q .9) room (a .out .now) z
     (join-told (a .s) (a .i) (a .piece .now) (a .area .now) (a .out .now) _ _ _ lens (y .before .before .before .with-node .ensures) z (g .0) (g .1)) _ (ap joinOutcome (c .enum-told .given .1)))
     in
-    (r .0, ap (recordOf (a .p)) (g .2) ∙ r .1, r .2, r .3)
+    ap (λ (l : List ℕ). stepEnd (a .p) (ClientAnswer.Refused Refusal.Form) l room (z .out)) (g .2) ∙ r
 
 add-clear : tie.Need-add-clear
 add-clear c =
@@ -132,12 +133,12 @@ returns-2 c =
     let z : JoinEnd = record { outcome = joinOutcome (k .join-with .result); out = k .join-with .last .1 .1 .1 .1 .1 .1 .0 } in
     let x = c .before .before .clear .ensures ∙ ap (λ (l : List ℕ). paste l at (replicate to 0) to) (g .2) ∙ clear-done (a .s) (a .area .now) _ _ (w .before .work-at .ensures) (w .work-size .ensures) in
     λ room.
-    let r = ends-four _ _ (page-end (a .s) (a .p) (a .area .now) (opened (w .before .before .before .before)) (q .5) (a .i) (q .1) (q .2) (a .v) (a .x) (q .6) (a .piece .now)
+    let r = sym (page-end (a .s) (a .p) (a .area .now) (opened (w .before .before .before .before)) (q .5) (a .i) (q .1) (q .2) (a .v) (a .x) (q .6) (a .piece .now)
     (λ i. w .before .before .before .shared-slice-known .given i .fits) (q .7) (q .8) (q .9) room (a .out .now) z
     (join-told (a .s) (a .i) (a .piece .now) (a .area .now) (a .out .now) _ _ _ lens (d .before .before .with-node .ensures) z (g .0) (g .1)) _
     (ap joinOutcome (c .before .before .before .before .before .a .given .1)))
     in
-    (r .0, ap (λ (l : List ℕ). recordOf (record { step = 0; reading = a .p .reading }) l) x ∙ r .1, r .2, r .3)
+    ap (λ (l : List ℕ). stepEnd (a .p) (ClientAnswer.Page (a .x .version) (c .before .before .before .before .before .a .given .0 .0)) l room (z .out)) x ∙ r
 
 pub finish-spec : {M : Type 1} → statement M
 finish-spec =

@@ -9,7 +9,6 @@ use Rattle.parties.specs.protocol.Nodes.{nodesIn, stands}
 use Rattle.parties.specs.client.Reply.{standingAt, wentOn, cleared, mapped}
 use Rattle.parties.proofs.client.FormLaws.{sizes}
 use Rattle.parties.proofs.client.ReplyLaws.{other-end, skipped-end, missing-end}
-use Rattle.parties.proofs.client.StartLaws.{ends-four}
 use Rattle.parties.proofs.client.GateLaws.{work-within, Opened}
 use borrow.Author.Needs.{needs}
 use Rattle.parties.proofs.client.reply.missing.Statement.{statement}
@@ -24,7 +23,7 @@ returns : tie.Need-returns
 returns c =
     let a = c .before .before .before .args in
     let q = c .before .before .before .pre in
-    λ room out. ends-four _ _ (other-end (a .s) (a .p) (a .area .now) (opened (c .before .before)) (a .i) (a .v) none room out (c .if1 .taken))
+    λ room out. sym (other-end (a .s) (a .p) (a .area .now) (opened (c .before .before)) (a .i) (a .v) none room out (c .if1 .taken))
 
 work-at-requires : tie.Need-work-at-requires
 work-at-requires c κs = search needs
@@ -61,7 +60,7 @@ returns-2 c =
     let x = c .before .before .standing-at .ensures ∙ (λ j. standingAt (a .area .now) (c .before .before .before .before .before .work-at .ensures j)
     (c .before .before .before .before .before .work-at .ensures j + c .before .before .before .pointer-size .ensures j))
     in
-    λ room out. ends-four _ _ (skipped-end (a .s) (a .p) (a .area .now) (opened (y .before .before)) (y .if1 .left) (a .i) (q .1) (q .2) (a .v)
+    λ room out. sym (skipped-end (a .s) (a .p) (a .area .now) (opened (y .before .before)) (y .if1 .left) (a .i) (q .1) (q .2) (a .v)
     (c .before .before .standing-at .result) x none room out (sym (c .before .counts .ensures) ∙ not-true _ (c .if2 .taken)))
 
 with-node-requires : tie.Need-with-node-requires
@@ -90,7 +89,7 @@ returns-3 c =
     in
     let n = c .before .before .before .before .with-node .ensures in
     let g = c .before .before .go-on .ensures in
-    λ room out. ends-four _ _ (missing-end (a .s) (a .p) (a .area .now) (opened (z .before)) (y .before .before .before .before .before .if1 .left) (a .i) (q .1) (q .2) (a .v) s x
+    λ room out. sym (missing-end (a .s) (a .p) (a .area .now) (opened (z .before)) (y .before .before .before .before .before .if1 .left) (a .i) (q .1) (q .2) (a .v) s x
     (sym (y .counts .ensures) ∙ not-false _ (c .before .before .before .before .before .if2 .left)) room out _
     (g .0 ∙ (λ j. wentOn (all (stands (n j)) (nodesIn (s .named))))) _
     (g .1 ∙ (λ j. cond (all (stands (n j)) (nodesIn (s .named))) (cleared (a .s) (a .area .now)) (mapped (a .s) (n j) (s .matching) (a .area .now)))))

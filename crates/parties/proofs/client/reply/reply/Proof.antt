@@ -6,7 +6,6 @@ use borrow.Author.Tests.{not-true, not-false}
 use Rattle.parties.specs.client.Reply.{standingAt}
 use Rattle.parties.proofs.client.FormLaws.{sizes}
 use Rattle.parties.proofs.client.ReplyLaws.{other-end, skipped-end}
-use Rattle.parties.proofs.client.StartLaws.{ends-four}
 use Rattle.parties.proofs.client.GateLaws.{work-within, Opened}
 use borrow.Author.Needs.{needs}
 use Rattle.parties.proofs.client.reply.reply.Statement.{statement}
@@ -21,7 +20,7 @@ returns : tie.Need-returns
 returns c =
     let a = c .before .before .before .before .before .args in
     let q = c .before .before .before .before .before .pre in
-    λ room. ends-four _ _ (other-end (a .s) (a .p) (a .area .now) (opened (c .before .before .before .before)) (a .i) (a .v) (some (a .piece .now)) room (a .out .now) (c .if1 .taken))
+    λ room. sym (other-end (a .s) (a .p) (a .area .now) (opened (c .before .before .before .before)) (a .i) (a .v) (some (a .piece .now)) room (a .out .now) (c .if1 .taken))
 
 work-at-requires : tie.Need-work-at-requires
 work-at-requires c κs = search needs
@@ -58,7 +57,7 @@ returns-2 c =
     let x = c .before .before .standing-at .ensures ∙ (λ j. standingAt (a .area .now) (c .before .before .before .before .before .work-at .ensures j)
     (c .before .before .before .before .before .work-at .ensures j + c .before .before .before .pointer-size .ensures j))
     in
-    λ room. ends-four _ _ (skipped-end (a .s) (a .p) (a .area .now) (opened (y .before .before .before .before)) (y .if1 .left) (a .i) (q .1) (q .2) (a .v)
+    λ room. sym (skipped-end (a .s) (a .p) (a .area .now) (opened (y .before .before .before .before)) (y .if1 .left) (a .i) (q .1) (q .2) (a .v)
     (c .before .before .standing-at .result) x (some (a .piece .now)) room (a .out .now) (sym (c .before .counts .ensures) ∙ not-true _ (c .if2 .taken)))
 
 reply-counted-requires : tie.Need-reply-counted-requires

@@ -9,7 +9,6 @@ use Rattle.parties.specs.protocol.Nodes.{nodesIn, count, stands, withNod
 use Rattle.parties.specs.client.Reply.{matchesAt, piecePut, wentOn, cleared, mapped}
 use Rattle.parties.proofs.client.FormLaws.{sizes}
 use Rattle.parties.proofs.client.ReplyLaws.{matches-short, lengths-within, digest-within, missed-end, more-end}
-use Rattle.parties.proofs.client.StartLaws.{ends-four}
 use Rattle.parties.proofs.client.GateLaws.{work-within, Opened}
 use borrow.Author.Needs.{needs}
 use Rattle.parties.proofs.client.reply.reply_counted.Statement.{statement}
@@ -76,7 +75,7 @@ returns c =
     let m = (λ j. matchesAt (a .s .f) (a .x .version) (a .i) (a .piece .now) (a .area .now) (sym (y .before .before .before .work-at .ensures) j + 7 + 32 * sym (y .before .before .rank .ensures) j))
     ∙ sym (c .before .before .before .before .before .matches .ensures) ∙ not-true _ (c .before .before .before .before .if1 .taken)
     in
-    λ room. ends-four _ _ (missed-end (a .s) (a .p) (a .area .now) (opened z) (q .5) (a .i) (q .1) (q .2) (a .v) (a .x) (q .6) (a .piece .now) (q .7) m room (a .out .now) _
+    λ room. sym (missed-end (a .s) (a .p) (a .area .now) (opened z) (q .5) (a .i) (q .1) (q .2) (a .v) (a .x) (q .6) (a .piece .now) (q .7) m room (a .out .now) _
     (g .0 ∙ (λ j. wentOn (all (stands (n j)) (nodesIn (a .x .named))))) _
     (g .1 ∙ (λ j. cond (all (stands (n j)) (nodesIn (a .x .named))) (cleared (a .s) (a .area .now)) (mapped (a .s) (n j) (a .x .matching) (a .area .now)))))
 
@@ -148,7 +147,7 @@ returns-2 c =
     let t = y .put-piece .ensures
     ∙ (λ j. piecePut (d .work-at .ensures j + y .before .before .pointer-size .ensures j + 4) (a .s .n) (a .s .f) (a .i) (a .piece .now) (a .area .now))
     in
-    λ room. ends-four _ _ (more-end (a .s) (a .p) (a .area .now) (opened (d .before .before .before)) (q .5) (a .i) (q .1) (q .2) (a .v) (a .x) (q .6) (a .piece .now)
+    λ room. sym (more-end (a .s) (a .p) (a .area .now) (opened (d .before .before .before)) (q .5) (a .i) (q .1) (q .2) (a .v) (a .x) (q .6) (a .piece .now)
     (λ i. d .before .before .shared-slice-known .given i .fits) (q .7) m few room (a .out .now) _
     (g .0 ∙ (λ j. wentOn (all (stands (n j)) (nodesIn (a .x .named))))) _
     (g .1 ∙ (λ j. cond (all (stands (n j)) (nodesIn (a .x .named))) (cleared (a .s) (t j)) (mapped (a .s) (n j) (k j) (t j)))))

@@ -1,6 +1,6 @@
 use borrow.Author.Needs.{needs}
+use mathlib.Core.Path.{sym, _∙_}
 use native.Mathlib.Omega.{arith}
-use Rattle.parties.proofs.client.StartLaws.{ends-three, same-end}
 use Rattle.parties.proofs.client.ScanLaws.{scanned-freezes, scanned-fetches, scanned-other}
 use Rattle.parties.proofs.client.GateLaws.{Opened}
 use Rattle.parties.proofs.client.scan.after_scan.Statement.{statement}
@@ -37,7 +37,7 @@ returns-2 c =
     let y = c .before .before .before .before .before .before in
     let x = y .before .before .before in
     let a = x .before .before .before .before .before .args in
-    same-end _ _ (scanned-freezes (a .s) (a .p) (a .area .now) (opened x) (a .own) (a .rows .now) (a .room .now) (y .before .if2 .taken)) _ _ _ (c .before .before .before .before .freeze .ensures)
+    c .before .before .before .before .freeze .ensures ∙ sym (scanned-freezes (a .s) (a .p) (a .area .now) (opened x) (a .own) (a .rows .now) (a .room .now) (y .before .if2 .taken))
 
 fetch-requires : tie.Need-fetch-requires
 fetch-requires c κs = search needs
@@ -53,13 +53,13 @@ returns-3 c =
     let y = c .before .before .before .before .before .before in
     let x = y .before .before .before .before .before in
     let a = x .before .before .before .before .before .args in
-    same-end _ _ (scanned-fetches (a .s) (a .p) (a .area .now) (opened x) (a .own) (a .rows .now) (a .room .now) (y .before .if3 .taken)) _ _ _ (c .before .before .before .before .fetch .ensures)
+    c .before .before .before .before .fetch .ensures ∙ sym (scanned-fetches (a .s) (a .p) (a .area .now) (opened x) (a .own) (a .rows .now) (a .room .now) (y .before .if3 .taken))
 
 returns-4 : tie.Need-returns-4
 returns-4 c =
     let x = c .before .before .before .before in
     let a = x .before .before .before .before .before .args in
-    ends-three _ _ (scanned-other (a .s) (a .p) (a .area .now) (opened x) (a .own) (a .rows .now) (a .room .now) (x .if1 .left) (c .before .before .if2 .left) (c .if3 .left))
+    sym (scanned-other (a .s) (a .p) (a .area .now) (opened x) (a .own) (a .rows .now) (a .room .now) (x .if1 .left) (c .before .before .if2 .left) (c .if3 .left))
 
 pub after-scan-spec : {M : Type 1} → statement M
 after-scan-spec =

@@ -6,7 +6,6 @@ use Rattle.parties.specs.protocol.Directory.{readDirectory}
 use Rattle.parties.specs.protocol.Deposit.{highest}
 use Rattle.parties.specs.client.Draw.{rowsOf}
 use Rattle.parties.proofs.client.ScanLaws.{drawn-one, scanned-draws, scanned-spent}
-use Rattle.parties.proofs.client.StartLaws.{same-end}
 use Rattle.parties.proofs.client.GateLaws.{Opened}
 use Rattle.parties.proofs.client.scan.first_scan.Statement.{statement}
 use Rattle.parties.proofs.client.scan.first_scan.Tie as tie
@@ -47,8 +46,8 @@ returns c =
     let y = c .before .before .before .before .before .before in
     let x = y .before in
     let a = x .before .before .before .before .before .args in
-    same-end _ _ (scanned-spent (a .s) (a .p) (a .area .now) (opened x) (a .own) (a .rows .now) (a .room .now) (x .before .before .before .before .before .pre .2)
-    (told x ∙ c .before .before .before .before .before .enum-told .given .1)) _ _ _ (c .before .before .give-up .ensures)
+    c .before .before .give-up .ensures ∙ sym (scanned-spent (a .s) (a .p) (a .area .now) (opened x) (a .own) (a .rows .now) (a .room .now) (x .before .before .before .before .before .pre .2)
+    (told x ∙ c .before .before .before .before .before .enum-told .given .1))
 
 draw-requires : tie.Need-draw-requires
 draw-requires c κs =
@@ -74,8 +73,8 @@ returns-2 c =
     let y = c .before .before .before .before .before .before in
     let x = y .before .before .before .before in
     let a = x .before .before .before .before .before .args in
-    same-end _ _ (scanned-draws (a .s) (a .p) (a .area .now) (opened x) (a .own) (a .rows .now) (a .room .now) (x .before .before .before .before .before .pre .2)
-    (y .before .before .next2 .given .0 .0) (told x ∙ y .before .before .next2 .given .1)) _ _ _ (c .before .before .before .before .draw .ensures)
+    c .before .before .before .before .draw .ensures ∙ sym (scanned-draws (a .s) (a .p) (a .area .now) (opened x) (a .own) (a .rows .now) (a .room .now) (x .before .before .before .before .before .pre .2)
+    (y .before .before .next2 .given .0 .0) (told x ∙ y .before .before .next2 .given .1))
 
 pub first-scan-spec : {M : Type 1} → statement M
 first-scan-spec =

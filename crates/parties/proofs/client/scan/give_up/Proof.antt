@@ -1,7 +1,7 @@
 use borrow.Author.Needs.{needs}
+use mathlib.Core.Path.{sym}
 use native.Mathlib.Omega.{arith}
 use Rattle.parties.proofs.client.FormLaws.{sizes}
-use Rattle.parties.proofs.client.StartLaws.{ends-three}
 use Rattle.parties.proofs.client.ScanLaws.{spent-leaves}
 use Rattle.parties.proofs.client.GateLaws.{work-within, Opened}
 use Rattle.parties.proofs.client.scan.give_up.Statement.{statement}
@@ -38,7 +38,7 @@ returns c =
     let x = c .before .before .before .before .before in
     let a = x .before .before .before .args in
     let q = x .before .before .before .pre in
-    ends-three _ _ (spent-leaves (a .s) (a .p) (a .area .now) (opened x) (x .work-at .result) (x .work-at .ensures) (c .before .before .before .before .work-size .result)
+    sym (spent-leaves (a .s) (a .p) (a .area .now) (opened x) (x .work-at .result) (x .work-at .ensures) (c .before .before .before .before .work-size .result)
     (c .before .before .before .before .work-size .ensures) _ (c .before .before .clear .ensures) (a .room .now))
 
 pub give-up-spec : {M : Type 1} → statement M

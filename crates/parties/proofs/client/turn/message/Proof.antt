@@ -14,7 +14,7 @@ use Rattle.parties.specs.declared.Phase.{Phase}
 use Rattle.parties.specs.client.Record.{recordOf, areaSize, isSome}
 use Rattle.parties.proofs.client.GateLaws.{gated-open, gated-shut}
 use Rattle.parties.proofs.client.MessageLaws.{message-guarded, message-through, message-room, message-node}
-use Rattle.parties.proofs.client.StartLaws.{ends-four, ends-as}
+use Rattle.parties.proofs.client.StartLaws.{ends-four}
 use Rattle.parties.specs.client.Receive.{receivedEnd}
 use Rattle.parties.proofs.client.turn.message.Statement.{statement}
 use Rattle.parties.proofs.client.turn.message.Tie as tie
@@ -86,8 +86,8 @@ returns-2 c =
     let a = x .before .before .before .before .before .before .before .before .before .before .args in
     let numbered = x .before .before .before .before .numbered in
     let e = enters x in
-    let r = y .receive .ensures in
-    ends-as _ _ (message-through (a .s) (a .own) (a .i) (a .p) (a .area .now) (a .message .now) (a .room .now) (a .out .now) (numbered .result) (numbered .ensures) (e .0) (e .1) (e .2))
+    let r = ends-four _ _ (message-through (a .s) (a .own) (a .i) (a .p) (a .area .now) (a .message .now) (a .room .now) (a .out .now) (numbered .result) (numbered .ensures) (e .0) (e .1) (e .2)
+    ∙ sym (y .receive .ensures)) in
     (r .0, ap (λ (h : Phase). recordOf h (y .receive .last .1 .1 .1 .0)) (c .phase-after .ensures) ∙ r .1, r .2, r .3)
 
 pub message-spec : {M : Type 1} → statement M

@@ -19,7 +19,7 @@ use Rattle.parties.specs.records.Form.{rest}
 use Rattle.parties.specs.declared.Phase.{Phase}
 use Rattle.parties.specs.client.Record.{recordOf, areaSize, isSome}
 use Rattle.parties.proofs.client.GateLaws.{gated-open, gated-shut, Opened}
-use Rattle.parties.proofs.client.StartLaws.{ends-three, same-end}
+use Rattle.parties.proofs.client.StartLaws.{ends-three}
 use Rattle.parties.proofs.client.ScanLaws.{scan-shut, scan-broken, rows-read, scan-goes}
 use Rattle.parties.proofs.client.turn.scan_answer.Statement.{statement}
 use Rattle.parties.proofs.client.turn.scan_answer.Tie as tie
@@ -119,8 +119,8 @@ returns-3 c =
     let y = c .before .before .before .before .before .before .before in
     let x = y .before .before .before .before in
     let a = x .before .before .before .before .before .before .before .before .before .args in
-    let r = c .before .before .before .before .before .after-scan .ensures in
-    same-end _ _ (scan-goes (a .s) (a .own) (a .p) (a .area .now) (a .rows .now) (a .room .now) (opened x) (enters x .2) (enters x .1) _ (sound (y .before))) _ _ _
+    let r = ends-three _ _ (scan-goes (a .s) (a .own) (a .p) (a .area .now) (a .rows .now) (a .room .now) (opened x) (enters x .2) (enters x .1) _ (sound (y .before))
+    ∙ sym (c .before .before .before .before .before .after-scan .ensures)) in
     (r .0, ap (λ (h : Phase). recordOf h (c .before .before .before .before .before .after-scan .last .1 .1 .1 .0)) (c .phase-after .ensures) ∙ r .1, r .2)
 
 pub scan-answer-spec : {M : Type 1} → statement M
