@@ -1,7 +1,7 @@
 // One event in two forms: by value, and with the record in one slice.
 use crate::input;
 use crate::input::Call;
-use crate::line::Shown;
+use crate::line::Effect;
 use crate::records::load;
 use parties::ClientAnswer;
 use parties::Phase;
@@ -73,12 +73,12 @@ fn by_record(
     record::receive(h.measures, h.own, h.node, client, bytes, room, out)
 }
 
-fn shown(t: Turned, client: &[u8], room: &[u8], out: &[u8]) -> Shown
+fn shown(t: Turned, client: &[u8], room: &[u8], out: &[u8]) -> Effect
     requires { ⌜ 5 ≤ length (now client) ⌝ }
 {
     let answer = t.answer;
     let phase = t.phase;
-    Shown {
+    Effect {
         answer,
         phase,
         area: vectors::checksum(&client[5..]),
@@ -118,7 +118,7 @@ pub fn by_value(
     bytes: &[u8],
     room: &mut [u8],
     out: &mut [u8],
-) -> Shown
+) -> Effect
     requires { ⌜ 5 ≤ length (now client) ⌝ }
 {
     ready(h, records, client, room, out);
@@ -134,7 +134,7 @@ pub fn in_one_slice(
     bytes: &[u8],
     room: &mut [u8],
     out: &mut [u8],
-) -> Shown
+) -> Effect
     requires { ⌜ 5 ≤ length (now client) ⌝ }
 {
     ready(h, records, client, room, out);

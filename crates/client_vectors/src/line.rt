@@ -4,7 +4,7 @@ use parties::ClientAnswer;
 use parties::Phase;
 use parties::Version;
 
-pub struct Shown {
+pub struct Effect {
     pub answer: ClientAnswer,
     pub phase: Phase,
     pub area: usize,
@@ -46,7 +46,7 @@ fn print_answer(a: ClientAnswer) {
     }
 }
 
-fn print(kind: u8, x: Shown) {
+fn print(kind: u8, x: Effect) {
     vectors::digit(kind as usize);
     let a = x.answer;
     print_answer(a);
@@ -72,7 +72,7 @@ fn same_phase(p: Phase, q: Phase) -> bool {
     p.step == q.step && i.0 == j.0
 }
 
-fn same(x: Shown, y: Shown) -> bool {
+fn same(x: Effect, y: Effect) -> bool {
     let a = x.answer;
     let b = y.answer;
     same_answer(a, b)
@@ -83,7 +83,7 @@ fn same(x: Shown, y: Shown) -> bool {
 }
 
 // The line of one form; a line of words follows if the other shows anything else.
-pub fn print_agreed(kind: u8, x: Shown, y: Shown) {
+pub fn print_agreed(kind: u8, x: Effect, y: Effect) {
     print(kind, x);
     if !same(x, y) {
         vectors::word(b"not so in one slice\n");

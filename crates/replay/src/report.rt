@@ -11,6 +11,8 @@ use parties::Measures;
 use parties::Refusal;
 use parties::Service;
 use parties::Version;
+use parties::protocol::tags::FREED;
+use parties::protocol::tags::STORED;
 use parties::records::nodes::has_node;
 use runs::answer::Happened;
 use runs::least::least;
@@ -212,10 +214,10 @@ fn by_client(s: Measures, a: ClientAnswer, room: &Room, out: &Page) {
 // A node's message of so many bytes: tag, version, and for a piece a 1 in front of it.
 fn message(room: &[u8], len: usize) {
     let tag = byte_at(room, 0);
-    if tag == 5 {
+    if tag == FREED as usize {
         return say(b"answers freed");
     }
-    if tag == 4 {
+    if tag == STORED as usize {
         return say_version_at(b"answers stored %.%", room, 1);
     }
     if byte_at(room, 6) == 0 {

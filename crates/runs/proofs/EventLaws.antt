@@ -36,16 +36,16 @@ use Rattle.parties.proofs.ClientAnswer.{the-type}
 use Rattle.parties.specs.declared.Refusal.{Refusal}
 use Rattle.parties.specs.declared.Service.{Service}
 use Rattle.runs.specs.declared.answer.Happened.{Happened}
+use Rattle.runs.specs.declared.answer.EventEnd.{EventEnd}
 use Rattle.runs.specs.declared.event.Readiness.{Readiness}
 use Rattle.runs.specs.declared.event.Ahead.{Ahead}
-use Rattle.runs.proofs.event.Ahead.{the-type as the-ahead}
 use Rattle.runs.specs.declared.event.Clear.{Clear}
 use Rattle.runs.specs.declared.parcels.Found.{Found}
-use Rattle.runs.specs.Parcels.{Parcel, properKey, IsList, Broken, Stands, NoneStands, Looks, Appended, Removed}
+use Rattle.runs.specs.Parcels.{callKind, returnKind, toNodeKind, toClientKind, noNode, properKey, IsList, Broken, Stands, NoneStands, Looks, Appended, Removed}
 use Rattle.runs.specs.Sent.{longestMessage, needed}
 use Rattle.runs.specs.Acts.{Lent, body, tagged, Serves}
-use Rattle.runs.specs.Event.{Cramped, Readies, Stopped, Seen, Vacant, Aheads, Clears, lowestOf}
-use Rattle.runs.specs.Happens.{inBounds, suffices, Roomy, Unready, Ready, liesIn, honestIn}
+use Rattle.runs.specs.Event.{Cramped, Readies, Stopped, Waiting, Vacant, Halted, Aheads, Uncleared, Clears, lowestOf, Carried}
+use Rattle.runs.specs.Happens.{inBounds, suffices, PostRoomy, Unready, Happens, liesIn, honestIn}
 use Rattle.runs.proofs.SentLaws.{piece-within, room-small, rows-small}
 
 -- ---- a client's answer
@@ -100,7 +100,7 @@ needed-small s ok =
 
 -- there is room for an answer where the parcel that it answers was
 pub appendable : (s : Measures) (a : Service) (len : ℕ) (front part room : List ℕ) (k : ℕ) (post : List ℕ) (used at end : ℕ) (mid : List ℕ) (left : ℕ)
-    → Roomy s (length post) used × (8 + min (lengthOf (served a)) (length room) ≤ needed s) × (length front ≤ 1) × (at + 7 ≤ end) × (end ≤ used)
+    → PostRoomy s (length post) used × (8 + min (lengthOf (served a)) (length room) ≤ needed s) × (length front ≤ 1) × (at + 7 ≤ end) × (end ≤ used)
     → a ≡ Service.Served len → length part ≡ k → k ≡ min len (length room) → Removed at end post used mid left
     → (left + (7 + (length front + length part)) ≤ length mid) × (length front + length part ≤ 4294967295)
 appendable s a len front part room k post used at end mid left p e l m r =
@@ -141,7 +141,7 @@ and-true-right false = refl
 
 -- ---- what a call tells, by its answer
 
-pub ready-yes : (s : Measures) (post used : ℕ) (r : Readiness) → Readies s post used r → r ≡ Readiness.Yes → Roomy s post used
+pub ready-yes : (s : Measures) (post used : ℕ) (r : Readiness) → Readies s post used r → r ≡ Readiness.Yes → PostRoomy s post used
 ready-yes s post used r h e = rw e at h
 
 pub ready-no : (s : Measures) (post used : ℕ) (r : Readiness) → Readies s post used r → (x : Refusal) → r ≡ Readiness.No x → Cramped s post used (number x)
@@ -157,75 +157,84 @@ pub looks-at : (s : Measures) (kind c i used : ℕ) (post : List ℕ) (r : Found
     → Stands s kind c i used post at end
 looks-at s kind c i used post r h at end e = rw e at h
 
-pub ahead-refused : (s : Measures) (kind c i : ℕ) (post : List ℕ) (used : ℕ) (r : Ahead) → Aheads s kind c i post used r → (x : Refusal) → r ≡ Ahead.Refused x
-    → Stopped s kind c i post used (number x)
-ahead-refused s kind c i post used r h x e = rw e at h
-
-pub ahead-none : (s : Measures) (kind c i : ℕ) (post : List ℕ) (used : ℕ) (r : Ahead) → Aheads s kind c i post used r → r ≡ Ahead.Nothing
-    → Vacant s kind c i post used
-ahead-none s kind c i post used r h e = rw e at h
+pub ahead-ends : (s : Measures) (kind c i : ℕ) (post : List ℕ) (used : ℕ) (r : Ahead) → Aheads s kind c i post used r → (e : EventEnd) → r ≡ Ahead.Ends e
+    → Halted s kind c i post used e
+ahead-ends s kind c i post used r h e q = rw q at h
 
 pub ahead-at : (s : Measures) (kind c i : ℕ) (post : List ℕ) (used : ℕ) (r : Ahead) → Aheads s kind c i post used r → (at end : ℕ) → r ≡ Ahead.Found at end
-    → Seen s kind c i post used at end
+    → Waiting s kind c i post used at end
 ahead-at s kind c i post used r h at end e = rw e at h
 
-pub clear-yes : (s : Measures) (c i : ℕ) (post : List ℕ) (used : ℕ) (r : Clear) → Clears s c i post used r → r ≡ Clear.Yes
-    → Roomy s (length post) used × (properKey s 3 c i ≡ true) × IsList s used post
-clear-yes s c i post used r h e = rw e at h
+module _ (s : Measures) (c i memory : ℕ) (enough : Bool) (post : List ℕ) (used : ℕ) (r : Clear) (h : Clears s c i memory enough post used r) where
+  pub clear-yes : r ≡ Clear.Yes → PostRoomy s (length post) used × (properKey s toClientKind c i ≡ true) × IsList s used post
+  clear-yes q = rw q at h
 
-pub clear-late : (s : Measures) (c i : ℕ) (post : List ℕ) (used : ℕ) (r : Clear) → Clears s c i post used r → r ≡ Clear.Late
-    → Roomy s (length post) used × ((properKey s 3 c i ≡ false) ⊎ Broken s used post)
-clear-late s c i post used r h e = rw e at h
+  pub clear-ends : (e : EventEnd) → r ≡ Clear.Ends e → Uncleared s c i memory enough post used e
+  clear-ends e q = rw q at h
 
-pub clear-no : (s : Measures) (c i : ℕ) (post : List ℕ) (used : ℕ) (r : Clear) → Clears s c i post used r → (x : Refusal) → r ≡ Clear.No x
-    → Cramped s (length post) used (number x)
-clear-no s c i post used r h x e = rw e at h
+-- ---- an event as a whole
 
--- ---- an event that is not carried out
+module _ {s : Measures} {honest : ℕ → Bool} {e : Event} {used : ℕ} {x : Lent} where
+  cramped-unready : {n : ℕ} → Cramped s (length (x .post)) used n → Unready s honest e used x n
+  cramped-unready (Cramped.measures h) = Unready.measures h
+  cramped-unready (Cramped.short h k) = Unready.short h k
 
-module _ (s : Measures) (honest : ℕ → Bool) (e : Event) (used : ℕ) (x : Lent) where
-  pub cramped-unready : (n : ℕ) → Cramped s (length (x .post)) used n → Unready s honest e used x n
-  cramped-unready n (Cramped.measures h) = Unready.measures h
-  cramped-unready n (Cramped.short h k) = Unready.short h k
+  -- where a parcel is looked for: it ends here, or the parcel is carried
+  module _ {kind c i : ℕ} (b : properKey s kind c i ≡ inBounds s e) where
+    stopped-unready : suffices s honest e x ≡ true → {n : ℕ} → Stopped s kind c i (x .post) used n → Unready s honest e used x n
+    stopped-unready k (Stopped.cramped m h) = cramped-unready h
+    stopped-unready k (Stopped.outside r h) = Unready.outside r k (sym b ∙ h)
+    stopped-unready k (Stopped.form r h f) = Unready.form r k (sym b ∙ h) f
 
-  -- where no client is asked at once
-  pub stopped-unready : (kind c i : ℕ) → suffices s honest e x ≡ true → properKey s kind c i ≡ inBounds s e → (n : ℕ) → Stopped s kind c i (x .post) used n
+    pub halted-happens : suffices s honest e x ≡ true
+        → (Vacant s kind c i (x .post) used → Carried s honest e used x x (record { used = used; what = Happened.Nothing }))
+        → {end : EventEnd} → Halted s kind c i (x .post) used end → Happens s honest e used x x end
+    halted-happens k rests (Halted.stopped r h) = Happens.unready r (stopped-unready k h) refl
+    halted-happens k rests (Halted.vacant v) =
+        Happens.happens _ (record { roomy = v .roomy; bounds = sym b ∙ v .key; list = v .none .list }) refl (rests v .0) (rests v .1)
+
+    pub waiting-happens : {at end : ℕ} → Waiting s kind c i (x .post) used at end → {y : Lent} {result : EventEnd} → length (y .post) ≡ length (x .post)
+        → Carried s honest e used x y result → Happens s honest e used x y result
+    waiting-happens w l p = Happens.happens _ (record { roomy = w .roomy; bounds = sym b ∙ w .key; list = w .stands .list }) l (p .0) (p .1)
+
+  -- where a client is asked at once, and the event ends here
+  late-unready : (all : Bool) (c i : ℕ) → PostRoomy s (length (x .post)) used → suffices s honest e x ≡ all → properKey s toClientKind c i ≡ inBounds s e
+      → (properKey s toClientKind c i ≡ false) ⊎ Broken s used (x .post) → (n : ℕ) → n ≡ cond all (cond (properKey s toClientKind c i) 4 3) 2
       → Unready s honest e used x n
-  stopped-unready kind c i k b n (Stopped.cramped m h) = cramped-unready m h
-  stopped-unready kind c i k b n (Stopped.outside r h) = Unready.outside r k (sym b ∙ h)
-  stopped-unready kind c i k b n (Stopped.form r h f) = Unready.form r k (sym b ∙ h) f
-
-  -- where one is
-  pub late-unready : (enough : Bool) (c i : ℕ) → Roomy s (length (x .post)) used → suffices s honest e x ≡ enough → properKey s 3 c i ≡ inBounds s e
-      → (properKey s 3 c i ≡ false) ⊎ Broken s used (x .post) → (n : ℕ) → n ≡ cond enough (cond (properKey s 3 c i) 4 3) 2 → Unready s honest e used x n
   late-unready false c i r k b (inl h) n m = rw m (Unready.lacks r k (inl (sym b ∙ h)))
   late-unready false c i r k b (inr h) n m = rw m (Unready.lacks r k (inr h))
-  late-unready true c i r k b late n m = go (properKey s 3 c i) refl late m
+  late-unready true c i r k b late n m = go (properKey s toClientKind c i) refl late m
     where
-      go : (y : Bool) → properKey s 3 c i ≡ y → (properKey s 3 c i ≡ false) ⊎ Broken s used (x .post) → n ≡ cond y 4 3 → Unready s honest e used x n
+      go : (y : Bool) → properKey s toClientKind c i ≡ y → (properKey s toClientKind c i ≡ false) ⊎ Broken s used (x .post) → n ≡ cond y 4 3 → Unready s honest e used x n
       go true q (inl h) m = absurd (false≢true (sym h ∙ q))
       go true q (inr h) m = rw m (Unready.form r k (sym b ∙ q) h)
       go false q late m = rw m (Unready.outside r k (sym b ∙ q))
 
+  pub uncleared-happens : {c i : ℕ} {enough : Bool} → (passes s ≡ true → properKey s toClientKind c i ≡ inBounds s e)
+      → (passes s ≡ true → suffices s honest e x ≡ (leb (memorySize s) (length (x .memory)) && enough))
+      → {end : EventEnd} → Uncleared s c i (length (x .memory)) enough (x .post) used end → Happens s honest e used x x end
+  uncleared-happens b k (Uncleared.cramped r h) = Happens.unready r (cramped-unready h) refl
+  uncleared-happens b k (Uncleared.late r p l n) = Happens.unready r (late-unready _ _ _ p (k (p .measures)) (b (p .measures)) l _ n) refl
+
 -- the bounds of an event, by its key
-pub call-bounds : (s : Measures) (c : ℕ) → properKey s 0 c 0 ≡ ltb c (s .m)
+pub call-bounds : (s : Measures) (c : ℕ) → properKey s callKind c noNode ≡ ltb c (s .m)
 unfolding properKey
 call-bounds s c = and-true-right (ltb c (s .m))
 
-pub return-bounds : (s : Measures) (c : ℕ) → properKey s 1 c 0 ≡ ltb c (s .m)
+pub return-bounds : (s : Measures) (c : ℕ) → properKey s returnKind c noNode ≡ ltb c (s .m)
 unfolding properKey
 return-bounds s c = and-true-right (ltb c (s .m))
 
-pub node-bounds : (s : Measures) (c i : ℕ) → properKey s 2 c i ≡ (ltb c (s .m) && (leb 1 i && leb i (s .n)))
+pub node-bounds : (s : Measures) (c i : ℕ) → properKey s toNodeKind c i ≡ (ltb c (s .m) && (leb 1 i && leb i (s .n)))
 unfolding properKey
 node-bounds s c i = refl
 
-pub client-bounds : (s : Measures) (c i : ℕ) → properKey s 3 c i ≡ (ltb c (s .m) && (leb 1 i && leb i (s .n)))
+pub client-bounds : (s : Measures) (c i : ℕ) → properKey s toClientKind c i ≡ (ltb c (s .m) && (leb 1 i && leb i (s .n)))
 unfolding properKey
 client-bounds s c i = refl
 
 -- a start has no node; the first one is always there
-pub start-bounds : (s : Measures) → passes s ≡ true → (c : ℕ) → properKey s 3 c 1 ≡ ltb c (s .m)
+pub start-bounds : (s : Measures) → passes s ≡ true → (c : ℕ) → properKey s toClientKind c 1 ≡ ltb c (s .m)
 unfolding properKey
 start-bounds s ok c = rw (le-leb 1 (s .n) (passed s ok .nodes .0)) (and-true-right (ltb c (s .m)))
 
@@ -303,15 +312,15 @@ module _ (s : Measures) (c i memory : ℕ) where
   pub lowest-lacks : (enough : Bool) → enough ≡ false → 2 ≡ lowestOf s c i memory enough
   lowest-lacks enough e = rw e (go (leb (memorySize s) memory))
     where
-      go : (b : Bool) → _≡_ {A = ℕ} 2 (cond (b && false) (cond (properKey s 3 c i) 4 3) 2)
+      go : (b : Bool) → _≡_ {A = ℕ} 2 (cond (b && false) (cond (properKey s toClientKind c i) 4 3) 2)
       go true = refl
       go false = refl
 
   module _ (l : memorySize s ≤ memory) where
-    pub lowest-outside : (enough : Bool) → enough ≡ true → properKey s 3 c i ≡ false → 3 ≡ lowestOf s c i memory enough
+    pub lowest-outside : (enough : Bool) → enough ≡ true → properKey s toClientKind c i ≡ false → 3 ≡ lowestOf s c i memory enough
     lowest-outside enough e k = rw (le-leb (memorySize s) memory l, e, k) refl
 
-    pub lowest-form : (enough : Bool) → enough ≡ true → properKey s 3 c i ≡ true → 4 ≡ lowestOf s c i memory enough
+    pub lowest-form : (enough : Bool) → enough ≡ true → properKey s toClientKind c i ≡ true → 4 ≡ lowestOf s c i memory enough
     lowest-form enough e k = rw (le-leb (memorySize s) memory l, e, k) refl
 
 pub placed-long : (s : Measures) (len at size : ℕ) (r : Part) → Placed s len at size r → (a b : ℕ) → r ≡ Part.Within a b → memorySize s ≤ len
@@ -334,13 +343,6 @@ pub lie-asks-none : (s : Measures) (honest : ℕ → Bool) (i c : ℕ) (bytes ro
     → suffices s honest (lie i c bytes room out) x ≡ true
 lie-asks-none s honest i c bytes room out x z = rw z refl
 
--- something is under way, or nothing
-pub ahead-other : (s : Measures) (kind c i : ℕ) (post : List ℕ) (used : ℕ) (r : Ahead) → Aheads s kind c i post used r → OneOf (1 ∷ 2 ∷ []) (tagOf the-ahead r)
-    → Roomy s (length post) used × (properKey s kind c i ≡ true) × IsList s used post
-ahead-other s kind c i post used (Ahead.Refused x) h k = absurd (miss (1 ∷ 2 ∷ []) 0 tt k)
-ahead-other s kind c i post used Ahead.Nothing h k = (h .roomy, h .key, h .none .list)
-ahead-other s kind c i post used (Ahead.Found at end) h k = (h .roomy, h .key, h .stands .list)
-
 -- ---- numbers
 
 pub some-used : (n : ℕ) → (n ≡ 0 → ⊥) → 0 < n
@@ -358,13 +360,3 @@ last-kind (suc (suc (suc (suc n)))) h a b c = absurd (omega arith)
 pub key-kind-within : (s : Measures) (kind c i : ℕ) → properKey s kind c i ≡ true → kind ≤ 3
 unfolding properKey
 key-kind-within s kind c i e = leb-true kind 3 (both-true (leb kind 3) _ e .0)
-
--- ---- an event that is carried out
-
-pub seen-ready : (s : Measures) (e : Event) (used : ℕ) (x : Lent) (kind c i at end : ℕ) → Seen s kind c i (x .post) used at end → properKey s kind c i ≡ inBounds s e
-    → Ready s e used x
-seen-ready s e used x kind c i at end h b = record { roomy = h .roomy; bounds = sym b ∙ h .key; list = h .stands .list }
-
-pub vacant-ready : (s : Measures) (e : Event) (used : ℕ) (x : Lent) (kind c i : ℕ) → Vacant s kind c i (x .post) used → properKey s kind c i ≡ inBounds s e
-    → Ready s e used x
-vacant-ready s e used x kind c i h b = record { roomy = h .roomy; bounds = sym b ∙ h .key; list = h .none .list }

@@ -25,19 +25,19 @@ taken-short n l = omega (arith, length-take n l)
 -- ---- bytes put after others
 
 -- bytes stand after the first `used`
-pub record Put (post : List ℕ) (used : ℕ) (after b : List ℕ) : Type 0 where
+pub record Behind (post : List ℕ) (used : ℕ) (after b : List ℕ) : Type 0 where
   pub long : length after ≡ length post
   pub within : used + length b ≤ length post
   pub done : take (used + length b) after ≡ take used post ++ b
 
-pub put-none : (post : List ℕ) (used : ℕ) → used ≤ length post → Put post used post []
+pub put-none : (post : List ℕ) (used : ℕ) → used ≤ length post → Behind post used post []
 put-none post used h =
     let e : used + 0 ≡ used = omega arith in
     record { long = refl; within = omega arith; done = ap (λ (n : ℕ). take n post) e ∙ sym (append-nil (take used post)) }
 
-module _ (post : List ℕ) (used : ℕ) (t b : List ℕ) (p : Put post used t b) where
+module _ (post : List ℕ) (used : ℕ) (t b : List ℕ) (p : Behind post used t b) where
   -- a byte more
-  pub put-byte : (at x : ℕ) → at ≡ used + length b → at < length post → Put post used (set t at x) (b ++ (x ∷ []))
+  pub put-byte : (at x : ℕ) → at ≡ used + length b → at < length post → Behind post used (set t at x) (b ++ (x ∷ []))
   put-byte at x e h =
       let l : length t ≡ length post = p .long in
       let n : used + length (b ++ (x ∷ [])) ≡ suc at = simp length-append (omega arith) in
@@ -54,7 +54,7 @@ module _ (post : List ℕ) (used : ℕ) (t b : List ℕ) (p : Put post used t b)
 
   -- n bytes more
   pub put-bytes : (at : ℕ) (s : List ℕ) (n : ℕ) (u : List ℕ) → at ≡ used + length b → at + n ≤ length post → n ≤ length s → u ≡ paste t at s n
-      → Put post used u (b ++ take n s)
+      → Behind post used u (b ++ take n s)
   put-bytes at s n u e h k g =
       let l : length t ≡ length post = p .long in
       let m : used + length (b ++ take n s) ≡ at + n = simp length-append (omega (arith, length-take-le n s k)) in
@@ -72,7 +72,7 @@ module _ (post : List ℕ) (used : ℕ) (t b : List ℕ) (p : Put post used t b)
 
   -- bytes that are all copied
   pub put-all : (at : ℕ) (s : List ℕ) (u : List ℕ) → at ≡ used + length b → at + length s ≤ length post → u ≡ paste t at s (length s)
-      → Put post used u (b ++ s)
+      → Behind post used u (b ++ s)
   put-all at s u e h g = rw take-length at (put-bytes at s (length s) u e h (omega arith) g)
 
 -- ---- one parcel
@@ -121,7 +121,7 @@ pub parcel-put : (post : List ℕ) (used kind c i : ℕ) (front rest : List ℕ)
 unfolding writeNumber writeMany
 parcel-put post used kind c i front rest h t l d u e v g =
     let n : ℕ = length front + length rest in
-    let a : Put post used t (heading kind c i n) = record { long = l; within = omega arith; done = d } in
+    let a : Behind post used t (heading kind c i n) = record { long = l; within = omega arith; done = d } in
     let b = put-all post used t _ a (used + 7) front u (omega arith) (omega arith) e in
     let x = put-all post used u _ b (used + 7 + length front) rest v (omega (arith, length-append front [])) (omega arith) g in
     let p : Parcel = record { kind = kind; client = c; node = i; bytes = front ++ rest } in

@@ -57,7 +57,7 @@ suffices s honest (lie i c bytes room out) x =
     cond (honest i) true (leb (memorySize s) (length (x .memory)) && (leb (roomSize s) (length room) && leb (s .k * s .f - 4) (length out)))
 
 -- before a list is looked at: measures that pass, and a slice with room for what an event sends
-pub record Roomy (s : Measures) (post used : ℕ) : Type 0 where
+pub record PostRoomy (s : Measures) (post used : ℕ) : Type 0 where
   pub measures : passes s ≡ true
   pub enough : used + needed s ≤ post
 
@@ -66,13 +66,13 @@ pub record Roomy (s : Measures) (post used : ℕ) : Type 0 where
 pub data Unready (s : Measures) (honest : ℕ → Bool) (e : Event) (used : ℕ) (x : Lent) : ℕ → Type 0 where
   measures : passes s ≡ false → Unready s honest e used x 1
   short : passes s ≡ true → length (x .post) < used + needed s → Unready s honest e used x 2
-  lacks : Roomy s (length (x .post)) used → suffices s honest e x ≡ false → (inBounds s e ≡ false) ⊎ Broken s used (x .post) → Unready s honest e used x 2
-  outside : Roomy s (length (x .post)) used → suffices s honest e x ≡ true → inBounds s e ≡ false → Unready s honest e used x 3
-  form : Roomy s (length (x .post)) used → suffices s honest e x ≡ true → inBounds s e ≡ true → Broken s used (x .post) → Unready s honest e used x 4
+  lacks : PostRoomy s (length (x .post)) used → suffices s honest e x ≡ false → (inBounds s e ≡ false) ⊎ Broken s used (x .post) → Unready s honest e used x 2
+  outside : PostRoomy s (length (x .post)) used → suffices s honest e x ≡ true → inBounds s e ≡ false → Unready s honest e used x 3
+  form : PostRoomy s (length (x .post)) used → suffices s honest e x ≡ true → inBounds s e ≡ true → Broken s used (x .post) → Unready s honest e used x 4
 
 -- it is carried out
 pub record Ready (s : Measures) (e : Event) (used : ℕ) (x : Lent) : Type 0 where
-  pub roomy : Roomy s (length (x .post)) used
+  pub roomy : PostRoomy s (length (x .post)) used
   pub bounds : inBounds s e ≡ true
   pub list : IsList s used (x .post)
 

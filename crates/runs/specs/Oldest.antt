@@ -12,7 +12,7 @@ use Rattle.runs.specs.declared.answer.Happened.{Happened}
 use Rattle.runs.specs.declared.answer.EventEnd.{EventEnd}
 use Rattle.runs.specs.Parcels.{callKind, returnKind, toNodeKind, toClientKind, Broken}
 use Rattle.runs.specs.Acts.{Lent}
-use Rattle.runs.specs.Happens.{Roomy, Happens, honestIn}
+use Rattle.runs.specs.Happens.{PostRoomy, Happens, honestIn}
 use Rattle.runs.specs.Event.{Cramped}
 
 -- every node is honest
@@ -37,9 +37,9 @@ alone x = record { memory = x .memory; post = x .post; room = []; out = [] }
 pub data Oldest (s : Measures) (used : ℕ) (x y : Lent) : EventEnd → Type 0 where
   cramped : (r : Refusal) → Cramped s (length (x .post)) used (number r) → y ≡ x → Oldest s used x y (record { used = used; what = Happened.Refused r })
   -- no parcel is under way
-  none : Roomy s (length (x .post)) used → used ≡ 0 → y ≡ x → Oldest s used x y (record { used = used; what = Happened.Nothing })
+  none : PostRoomy s (length (x .post)) used → used ≡ 0 → y ≡ x → Oldest s used x y (record { used = used; what = Happened.Nothing })
   -- the bytes are no list of parcels, by the first one's heading
-  form : Roomy s (length (x .post)) used → Broken s used (x .post) → y ≡ x → Oldest s used x y (record { used = used; what = Happened.Refused Refusal.Form })
+  form : PostRoomy s (length (x .post)) used → Broken s used (x .post) → y ≡ x → Oldest s used x y (record { used = used; what = Happened.Refused Refusal.Form })
   call : (result : EventEnd) → 7 ≤ used → getD (x .post) 0 0 ≡ callKind → y .out ≡ x .out
       → Happens s honestAll (carry (clientIn x) (x .room)) used (without x) (without y) result → Oldest s used x y result
   return : (result : EventEnd) → 7 ≤ used → getD (x .post) 0 0 ≡ returnKind → y .out ≡ x .out

@@ -50,7 +50,7 @@ ghost use Rattle.runs.specs.Parcels.{callKind, returnKind, toNodeKind, t
 ghost use Rattle.runs.specs.Sent.{needed as neededFor};
 ghost use Rattle.runs.specs.Acts.{body, tagged as taggedWith, Sends, Takes, Serves};
 ghost use Rattle.runs.specs.Event.{Readies, Aheads, Clears, lowestOf, Carried};
-ghost use Rattle.runs.specs.Happens.{Roomy, Happens, honestIn};
+ghost use Rattle.runs.specs.Happens.{PostRoomy, Happens, honestIn};
 
 pub enum Readiness {
     Yes,
@@ -59,8 +59,8 @@ pub enum Readiness {
 
 // What an event that hands over a parcel finds.
 pub enum Ahead {
-    Refused(Refusal),
-    Nothing,
+    // It ends here: refused, or nothing is under way.
+    Ends(EventEnd),
     // The parcel from the first place to the second.
     Found(usize, usize),
 }
@@ -68,9 +68,8 @@ pub enum Ahead {
 // What an event that goes to a client at once finds.
 pub enum Clear {
     Yes,
-    // A number is out of bounds, or the bytes in use are no list of parcels.
-    Late,
-    No(Refusal),
+    // It ends here, refused.
+    Ends(EventEnd),
 }
 
 // Bytes that the parcels of one event take at most; 0 where the measures do not pass.
@@ -106,37 +105,21 @@ pub(crate) fn ready(s: Measures, post: usize, used: usize) -> Readiness
 fn look_ahead(s: Measures, kind: u8, c: usize, i: usize, post: &[u8], used: usize) -> Ahead
     ensures { λ r. ⌜ Aheads s kind c i (now (post .entry)) used r ⌝ }
 {
-    match ready(s, post.len(), used) {
-        Readiness::No(x) => Ahead::Refused(x),
+    let what = match ready(s, post.len(), used) {
+        Readiness::No(x) => Happened::Refused(x),
         Readiness::Yes => {
-            if !proper(s, kind, c, i) {
-                return Ahead::Refused(Refusal::Number);
-            }
-            match find(s, post, used, kind, c, i) {
-                Found::Broken => Ahead::Refused(Refusal::Form),
-                Found::Nothing => Ahead::Nothing,
-                Found::At(at, end) => Ahead::Found(at, end),
+            if proper(s, kind, c, i) {
+                match find(s, post, used, kind, c, i) {
+                    Found::Broken => Happened::Refused(Refusal::Form),
+                    Found::Nothing => Happened::Nothing,
+                    Found::At(at, end) => return Ahead::Found(at, end),
+                }
+            } else {
+                Happened::Refused(Refusal::Number)
             }
         }
-    }
-}
-
-// Where a client is asked at once, its own 2 comes before its number and the list.
-fn clearance(s: Measures, c: usize, i: usize, post: &[u8], used: usize) -> Clear
-    ensures { λ r. ⌜ Clears s c i (now (post .entry)) used r ⌝ }
-{
-    match ready(s, post.len(), used) {
-        Readiness::No(x) => Clear::No(x),
-        Readiness::Yes => {
-            if !proper(s, TO_CLIENT, c, i) {
-                return Clear::Late;
-            }
-            if sound(s, post, used, 0) {
-                return Clear::Yes;
-            }
-            Clear::Late
-        }
-    }
+    };
+    Ahead::Ends(EventEnd { used, what })
 }
 
 // The lowest that applies: a client's 2, its 3, or the list's 4.
@@ -159,11 +142,40 @@ fn lowest(s: Measures, c: usize, i: usize, memory: usize, enough: bool) -> Refus
     }
 }
 
-// The room and the output that a message to a client wants.
-fn message_slices(s: Measures, room: usize, out: usize) -> bool
-    requires { ⌜ passes s ≡ true ⌝ }
-    ensures { λ r. ⌜ r ≡ (leb (roomSize s) room && leb (s .k * s .f - 4) out) ⌝ }
+// Where a client is asked at once, its own 2 comes before its number and the list; enough says whether its slices beside memory suffice.
+fn clearance(
+    s: Measures,
+    c: usize,
+    i: usize,
+    memory: usize,
+    enough: bool,
+    post: &[u8],
+    used: usize,
+) -> Clear
+    ensures { λ r. ⌜ Clears s c i memory enough (now (post .entry)) used r ⌝ }
 {
+    let x = match ready(s, post.len(), used) {
+        Readiness::No(x) => x,
+        Readiness::Yes => {
+            if proper(s, TO_CLIENT, c, i) {
+                if sound(s, post, used, 0) {
+                    return Clear::Yes;
+                }
+            }
+            lowest(s, c, i, memory, enough)
+        }
+    };
+    let what = Happened::Refused(x);
+    Clear::Ends(EventEnd { used, what })
+}
+
+// The room and the output that a message to a client wants; false where the measures do not pass.
+fn message_slices(s: Measures, room: usize, out: usize) -> bool
+    ensures { λ r. ⌜ (passes s ≡ true → r ≡ (leb (roomSize s) room && leb (s .k * s .f - 4) out)) ⌝ }
+{
+    if !s.pass() {
+        return false;
+    }
     if room < sizes::room(s) {
         return false;
     }
@@ -188,7 +200,7 @@ fn starts(
     post: &mut [u8],
     used: usize,
 ) -> EventEnd
-    requires { ⌜ Roomy s (length (now post)) used × Sized s (answered a) ⌝ }
+    requires { ⌜ PostRoomy s (length (now post)) used × Sized s (answered a) ⌝ }
     ensures { λ r. ⌜ (length (now (post .exit)) ≡ length (now (post .entry))) × Sends s c a (now (room .entry)) (now (post .entry)) used (now (post .exit)) r ⌝ }
 {
     let what = Happened::ByClient(a);
@@ -210,7 +222,7 @@ fn takes(
     at: usize,
     end: usize,
 ) -> EventEnd
-    requires { ⌜ Roomy s (length (now post)) used × Sized s (answered a) × (at + 7 ≤ end) × (end ≤ used) ⌝ }
+    requires { ⌜ PostRoomy s (length (now post)) used × Sized s (answered a) × (at + 7 ≤ end) × (end ≤ used) ⌝ }
     ensures { λ r. ⌜ (length (now (post .exit)) ≡ length (now (post .entry))) × Takes s c a (now (room .entry)) (now (post .entry)) used at end (now (post .exit)) r ⌝ }
 {
     let what = Happened::ByClient(a);
@@ -236,7 +248,7 @@ fn serves(
     at: usize,
     end: usize,
 ) -> EventEnd
-    requires { ⌜ Roomy s (length (now post)) used × (8 + min (lengthOf (served a)) (length (now room)) ≤ neededFor s) × (length (now front) ≤ 1) × (at + 7 ≤ end) × (end ≤ used) ⌝ }
+    requires { ⌜ PostRoomy s (length (now post)) used × (8 + min (lengthOf (served a)) (length (now room)) ≤ neededFor s) × (length (now front) ≤ 1) × (at + 7 ≤ end) × (end ≤ used) ⌝ }
     ensures { λ r. ⌜ (length (now (post .exit)) ≡ length (now (post .entry))) × Serves kind c i (now (front .entry)) (now (room .entry)) (now (post .entry)) used at end (now (post .exit)) a r ⌝ }
 {
     let what = Happened::ByServer(a);
@@ -273,7 +285,7 @@ fn carry_update(
     at: usize,
     end: usize,
 ) -> EventEnd
-    requires { ⌜ Roomy s (length (now post)) used × Stands s callKind c noNode used (now post) at end × (taggedWith (body (now post) at end) ≡ true) ⌝ }
+    requires { ⌜ PostRoomy s (length (now post)) used × Stands s callKind c noNode used (now post) at end × (taggedWith (body (now post) at end) ≡ true) ⌝ }
     ensures { λ r. ⌜ (length (now (post .exit)) ≡ length (now (post .entry)))
         × ((honest : ℕ → Bool) → Carried s honest (carryEvent c (now (room .entry))) used
         (record { memory = now (memory .entry); post = now (post .entry); room = now (room .entry); out = [] })
@@ -307,7 +319,7 @@ fn carry_scan(
     at: usize,
     end: usize,
 ) -> EventEnd
-    requires { ⌜ Roomy s (length (now post)) used × Stands s callKind c noNode used (now post) at end × (taggedWith (body (now post) at end) ≡ false) ⌝ }
+    requires { ⌜ PostRoomy s (length (now post)) used × Stands s callKind c noNode used (now post) at end × (taggedWith (body (now post) at end) ≡ false) ⌝ }
     ensures { λ r. ⌜ (length (now (post .exit)) ≡ length (now (post .entry)))
         × ((honest : ℕ → Bool) → Carried s honest (carryEvent c (now (room .entry))) used
         (record { memory = now (memory .entry); post = now (post .entry); room = now (room .entry); out = [] })
@@ -340,7 +352,7 @@ fn hand_updated(
     at: usize,
     end: usize,
 ) -> EventEnd
-    requires { ⌜ Roomy s (length (now post)) used × Stands s returnKind c noNode used (now post) at end × (taggedWith (body (now post) at end) ≡ false) ⌝ }
+    requires { ⌜ PostRoomy s (length (now post)) used × Stands s returnKind c noNode used (now post) at end × (taggedWith (body (now post) at end) ≡ false) ⌝ }
     ensures { λ r. ⌜ (length (now (post .exit)) ≡ length (now (post .entry)))
         × ((honest : ℕ → Bool) → Carried s honest (handEvent c (now (room .entry))) used
         (record { memory = now (memory .entry); post = now (post .entry); room = now (room .entry); out = [] })
@@ -361,7 +373,7 @@ fn hand_rows(
     at: usize,
     end: usize,
 ) -> EventEnd
-    requires { ⌜ Roomy s (length (now post)) used × Stands s returnKind c noNode used (now post) at end × (taggedWith (body (now post) at end) ≡ true) ⌝ }
+    requires { ⌜ PostRoomy s (length (now post)) used × Stands s returnKind c noNode used (now post) at end × (taggedWith (body (now post) at end) ≡ true) ⌝ }
     ensures { λ r. ⌜ (length (now (post .exit)) ≡ length (now (post .entry)))
         × ((honest : ℕ → Bool) → Carried s honest (handEvent c (now (room .entry))) used
         (record { memory = now (memory .entry); post = now (post .entry); room = now (room .entry); out = [] })
@@ -384,7 +396,7 @@ fn bring_honest(
     at: usize,
     end: usize,
 ) -> EventEnd
-    requires { ⌜ Roomy s (length (now post)) used × Stands s toNodeKind c i used (now post) at end ⌝ }
+    requires { ⌜ PostRoomy s (length (now post)) used × Stands s toNodeKind c i used (now post) at end ⌝ }
     ensures { λ r. ⌜ (length (now (post .exit)) ≡ length (now (post .entry)))
         × ((honest : ℕ → Bool) → honest i ≡ true → Carried s honest (bringEvent c i (now (room .entry))) used
         (record { memory = now (memory .entry); post = now (post .entry); room = now (room .entry); out = [] })
@@ -408,7 +420,7 @@ fn bring_dishonest(
     at: usize,
     end: usize,
 ) -> EventEnd
-    requires { ⌜ Roomy s (length (now post)) used × Stands s toNodeKind c i used (now post) at end ⌝ }
+    requires { ⌜ PostRoomy s (length (now post)) used × Stands s toNodeKind c i used (now post) at end ⌝ }
     ensures { λ r. ⌜ (length (now (post .exit)) ≡ length (now (post .entry)))
         × ((honest : ℕ → Bool) → honest i ≡ false → Carried s honest (bringEvent c i (now (room .entry))) used
         (record { memory = now (memory .entry); post = now (post .entry); room = now (room .entry); out = [] })
@@ -434,7 +446,7 @@ fn deliver_message(
     at: usize,
     end: usize,
 ) -> EventEnd
-    requires { ⌜ Roomy s (length (now post)) used × Stands s toClientKind c i used (now post) at end ⌝ }
+    requires { ⌜ PostRoomy s (length (now post)) used × Stands s toClientKind c i used (now post) at end ⌝ }
     ensures { λ r. ⌜ (length (now (post .exit)) ≡ length (now (post .entry)))
         × ((honest : ℕ → Bool) → Carried s honest (deliverEvent i c (now (room .entry)) (now (out .entry))) used
         (record { memory = now (memory .entry); post = now (post .entry); room = now (room .entry); out = now (out .entry) })
@@ -458,18 +470,8 @@ pub fn deposit(
         (record { memory = now (memory .entry); post = now (post .entry); room = []; out = [] })
         (record { memory = now (memory .exit); post = now (post .exit); room = []; out = [] }) r) ⌝ }
 {
-    match clearance(s, c, 1, post, used) {
-        Clear::No(x) => EventEnd {
-            used,
-            what: Happened::Refused(x),
-        },
-        Clear::Late => {
-            let x = lowest(s, c, 1, memory.len(), true);
-            EventEnd {
-                used,
-                what: Happened::Refused(x),
-            }
-        }
+    match clearance(s, c, 1, memory.len(), true, post, used) {
+        Clear::Ends(e) => e,
         Clear::Yes => {
             let a = start_deposit(s, c, memory, page);
             let none: &[u8] = &[0u8];
@@ -491,19 +493,9 @@ pub fn reading(
         (record { memory = now (memory .entry); post = now (post .entry); room = now (room .entry); out = [] })
         (record { memory = now (memory .exit); post = now (post .exit); room = now (room .exit); out = [] }) r) ⌝ }
 {
-    match clearance(s, c, 1, post, used) {
-        Clear::No(x) => EventEnd {
-            used,
-            what: Happened::Refused(x),
-        },
-        Clear::Late => {
-            let enough = sizes::room(s) <= room.len();
-            let x = lowest(s, c, 1, memory.len(), enough);
-            EventEnd {
-                used,
-                what: Happened::Refused(x),
-            }
-        }
+    let enough = sizes::room(s) <= room.len();
+    match clearance(s, c, 1, memory.len(), enough, post, used) {
+        Clear::Ends(e) => e,
         Clear::Yes => {
             let a = start_reading(s, c, memory, room);
             starts(s, c, a, room, post, used)
@@ -525,14 +517,7 @@ pub fn carry(
         (record { memory = now (memory .exit); post = now (post .exit); room = now (room .exit); out = [] }) r) ⌝ }
 {
     match look_ahead(s, CALL, c, NO_NODE, post, used) {
-        Ahead::Refused(x) => EventEnd {
-            used,
-            what: Happened::Refused(x),
-        },
-        Ahead::Nothing => EventEnd {
-            used,
-            what: Happened::Nothing,
-        },
+        Ahead::Ends(e) => e,
         Ahead::Found(at, end) => {
             if tagged(post, at, end) {
                 carry_update(s, c, memory, room, post, used, at, end)
@@ -557,14 +542,7 @@ pub fn hand(
         (record { memory = now (memory .exit); post = now (post .exit); room = now (room .exit); out = [] }) r) ⌝ }
 {
     match look_ahead(s, RETURN, c, NO_NODE, post, used) {
-        Ahead::Refused(x) => EventEnd {
-            used,
-            what: Happened::Refused(x),
-        },
-        Ahead::Nothing => EventEnd {
-            used,
-            what: Happened::Nothing,
-        },
+        Ahead::Ends(e) => e,
         Ahead::Found(at, end) => {
             if tagged(post, at, end) {
                 hand_rows(s, c, memory, room, post, used, at, end)
@@ -591,14 +569,7 @@ pub fn bring(
         (record { memory = now (memory .exit); post = now (post .exit); room = now (room .exit); out = [] }) r ⌝ }
 {
     match look_ahead(s, TO_NODE, c, i, post, used) {
-        Ahead::Refused(x) => EventEnd {
-            used,
-            what: Happened::Refused(x),
-        },
-        Ahead::Nothing => EventEnd {
-            used,
-            what: Happened::Nothing,
-        },
+        Ahead::Ends(e) => e,
         Ahead::Found(at, end) => {
             if has_node(liars, i) {
                 bring_dishonest(s, c, i, memory, room, post, used, at, end)
@@ -625,14 +596,7 @@ pub fn deliver(
         (record { memory = now (memory .exit); post = now (post .exit); room = now (room .exit); out = now (out .exit) }) r) ⌝ }
 {
     match look_ahead(s, TO_CLIENT, c, i, post, used) {
-        Ahead::Refused(x) => EventEnd {
-            used,
-            what: Happened::Refused(x),
-        },
-        Ahead::Nothing => EventEnd {
-            used,
-            what: Happened::Nothing,
-        },
+        Ahead::Ends(e) => e,
         Ahead::Found(at, end) => {
             deliver_message(s, c, i, memory, room, out, post, used, at, end)
         }
@@ -655,19 +619,9 @@ fn lie_dishonest(
         (record { memory = now (memory .entry); post = now (post .entry); room = now (room .entry); out = now (out .entry) })
         (record { memory = now (memory .exit); post = now (post .exit); room = now (room .exit); out = now (out .exit) }) r) ⌝ }
 {
-    match clearance(s, c, i, post, used) {
-        Clear::No(x) => EventEnd {
-            used,
-            what: Happened::Refused(x),
-        },
-        Clear::Late => {
-            let enough = message_slices(s, room.len(), out.len());
-            let x = lowest(s, c, i, memory.len(), enough);
-            EventEnd {
-                used,
-                what: Happened::Refused(x),
-            }
-        }
+    let enough = message_slices(s, room.len(), out.len());
+    match clearance(s, c, i, memory.len(), enough, post, used) {
+        Clear::Ends(e) => e,
         Clear::Yes => {
             let a = to_client(s, c, i, memory, bytes, room, out);
             starts(s, c, a, room, post, used)
@@ -696,11 +650,8 @@ pub fn lie(
         return lie_dishonest(s, c, i, bytes, memory, room, out, post, used);
     }
     match look_ahead(s, TO_CLIENT, c, i, post, used) {
-        Ahead::Refused(x) => EventEnd {
-            used,
-            what: Happened::Refused(x),
-        },
-        _ => EventEnd {
+        Ahead::Ends(e) => e,
+        Ahead::Found(_, _) => EventEnd {
             used,
             what: Happened::Nothing,
         },

@@ -28,10 +28,10 @@ use Rattle.lines.proofs.LengthLaws.{header-length, refused-length, deposited-le
 use Rattle.session.specs.declared.session.Session.{Session}
 use Rattle.session.specs.declared.session.Lengths.{Lengths}
 use Rattle.session.specs.Say.{clientLine, happenedLine, putTold}
-use Rattle.session.specs.Session.{small, ample, Reply, refuses, opens, Replies}
+use Rattle.session.specs.Session.{small, slicesLong, Reply, refuses, opens, Replies}
 
 -- slices that suffice have a text of so many bytes
-pub text-enough : (s : Measures) (l : Lengths) → ample s l ≡ true → 2 * (s .k * s .f) + 32 ≤ l .text
+pub text-enough : (s : Measures) (l : Lengths) → slicesLong s l ≡ true → 2 * (s .k * s .f) + 32 ≤ l .text
 text-enough s l e =
     let a = and-right (leb (roomSize s) (l .room)) _ e in
     let b = and-right (leb (directorySize s) (l .room)) _ a in
@@ -133,7 +133,7 @@ pub header-whole : (s : Measures) (l : Lengths) (memory text memory′ text′ :
     → Whole (headerLine (s .m) (s .n) (s .k) (s .t) (s .f)) text text′ len × (2 * (s .k * s .f) + 32 ≤ length text′)
 unfolding opens
 header-whole s l memory text memory′ text′ y len e g w =
-    let o = opened (passes s) (small s) (ample s l) (leb (memorySize s) (length memory)) _ memory g in
+    let o = opened (passes s) (small s) (slicesLong s l) (leb (memorySize s) (length memory)) _ memory g in
     let i : written text′ len ≡ putLine text (headerLine (s .m) (s .n) (s .k) (s .t) (s .f)) = rw (o .0, o .1, o .2, o .3) at (w .line) in
     let f = text-enough s l (o .2) in
     let v = whole _ text text′ len i (omega (arith, header-fits s (o .0) (o .1))) in (v, omega (arith, v .2))

@@ -48,7 +48,7 @@ use Rattle.session.specs.declared.session.Session.{Session}
 use Rattle.session.specs.declared.session.Lengths.{Lengths}
 use Rattle.session.specs.declared.settle.Settled.{Settled}
 use Rattle.session.specs.Settle.{Desk, desk, Settles}
-use Rattle.session.specs.Session.{Held, newLine, deskOf, asks, small, ample, lengths, Reply, refuses, opens, firstReply, firstMeasures, Replies, First}
+use Rattle.session.specs.Session.{Held, newLine, deskOf, asks, small, slicesLong, lengths, Reply, refuses, opens, firstReply, firstMeasures, Replies, First}
 use Rattle.session.specs.Session.{Reads, Deposits as StartsDeposit, Operates, Refuses, Later, Ends, within, taken}
 use Rattle.session.proofs.SessionLaws.{fresh-long}
 
@@ -75,31 +75,31 @@ module _ (s : Measures) (l : Lengths) where
   abbrev frame : ℕ
   frame = s .k * s .f
 
-  pub no-room : l .room < roomSize s → false ≡ ample s l
+  pub no-room : l .room < roomSize s → false ≡ slicesLong s l
   no-room a = rw (lt-leb (roomSize s) (l .room) a) refl
 
   module _ (a : roomSize s ≤ l .room) where
-    pub no-rows : l .room < directorySize s → false ≡ ample s l
+    pub no-rows : l .room < directorySize s → false ≡ slicesLong s l
     no-rows b = rw (le-leb (roomSize s) (l .room) a, lt-leb (directorySize s) (l .room) b) refl
 
     module _ (b : directorySize s ≤ l .room) where
-      pub no-output : l .out < frame - 4 → false ≡ ample s l
+      pub no-output : l .out < frame - 4 → false ≡ slicesLong s l
       no-output d = rw (le-leb (roomSize s) (l .room) a, le-leb (directorySize s) (l .room) b, lt-leb (frame - 4) (l .out) d) refl
 
       module _ (d : frame - 4 ≤ l .out) where
-        pub no-page : l .page ≤ frame - 4 → false ≡ ample s l
+        pub no-page : l .page ≤ frame - 4 → false ≡ slicesLong s l
         no-page e =
             rw (le-leb (roomSize s) (l .room) a, le-leb (directorySize s) (l .room) b, le-leb (frame - 4) (l .out) d, le-ltb (frame - 4) (l .page) e) refl
 
         module _ (e : frame - 4 < l .page) where
-          others : ample s l ≡ (leb (2 * frame + 32) (l .text) && leb (2 * needed s) (l .post))
+          others : slicesLong s l ≡ (leb (2 * frame + 32) (l .text) && leb (2 * needed s) (l .post))
           others =
               rw (le-leb (roomSize s) (l .room) a, le-leb (directorySize s) (l .room) b, le-leb (frame - 4) (l .out) d, lt-ltb (frame - 4) (l .page) e) refl
 
-          pub no-text : l .text < 2 * frame + 32 → false ≡ ample s l
+          pub no-text : l .text < 2 * frame + 32 → false ≡ slicesLong s l
           no-text f = sym (others ∙ rw (lt-leb (2 * frame + 32) (l .text) f) refl)
 
-          pub by-post : 2 * frame + 32 ≤ l .text → leb (2 * needed s) (l .post) ≡ ample s l
+          pub by-post : 2 * frame + 32 ≤ l .text → leb (2 * needed s) (l .post) ≡ slicesLong s l
           by-post f = sym (others ∙ rw (le-leb (2 * frame + 32) (l .text) f) refl)
 
 -- ---- a `config`
@@ -113,12 +113,12 @@ module _ (s : Measures) (l : Lengths) (memory : List ℕ) where
   unfolding opens
   opens-big e f = rw (e, f) refl
 
-  pub opens-scarce : passes s ≡ true → small s ≡ true → ample s l ≡ false → opens s l memory ≡ refuses 2 memory
+  pub opens-scarce : passes s ≡ true → small s ≡ true → slicesLong s l ≡ false → opens s l memory ≡ refuses 2 memory
   unfolding opens
   opens-scarce e f w = rw (e, f, w) refl
 
   -- the service refuses a memory that is too short, and nothing else
-  pub opens-short : (a : Service) (r : Refusal) (n : ℕ) → passes s ≡ true → small s ≡ true → ample s l ≡ true → a ≡ Service.Refused r → served a ≡ memoryFresh s memory .answer → n ≡ number r
+  pub opens-short : (a : Service) (r : Refusal) (n : ℕ) → passes s ≡ true → small s ≡ true → slicesLong s l ≡ true → a ≡ Service.Refused r → served a ≡ memoryFresh s memory .answer → n ≡ number r
       → (opens s l memory ≡ refuses n memory) × (memoryFresh s memory .memory ≡ memory)
   unfolding opens
   opens-short a r n e f w g h m = go (decLe (memorySize s) (length memory))
@@ -133,7 +133,7 @@ module _ (s : Measures) (l : Lengths) (memory : List ℕ) where
           let j : 2 ≡ n = cc in
           (rw (e, f, w, lt-leb (memorySize s) (length memory) (omega arith)) (ap (λ (x : ℕ). refuses x memory) j), sym (d .1))
 
-  pub opens-taken : (a : Service) (k : ℕ) → passes s ≡ true → small s ≡ true → ample s l ≡ true → a ≡ Service.Served k → served a ≡ memoryFresh s memory .answer
+  pub opens-taken : (a : Service) (k : ℕ) → passes s ≡ true → small s ≡ true → slicesLong s l ≡ true → a ≡ Service.Served k → served a ≡ memoryFresh s memory .answer
       → opens s l memory ≡ record { line = headerLine (s .m) (s .n) (s .k) (s .t) (s .f); stage = 1; memory = memoryFresh s memory .memory }
   unfolding opens
   opens-taken a k e f w g h =

@@ -79,8 +79,8 @@ small s = leb (s .m) 3 && leb (s .f) 64
 
 -- and its slices suffice for them: a room for what a client sends and for rows, an output for a page, a page for one byte more, so that a longer
 -- one is told from it, a text for a line, and parcels for twice what an event sends at most
-abbrev pub ample : Measures → Lengths → Bool
-ample s l =
+abbrev pub slicesLong : Measures → Lengths → Bool
+slicesLong s l =
     leb (roomSize s) (l .room) && (leb (directorySize s) (l .room) && (leb (s .k * s .f - 4) (l .out) && (ltb (s .k * s .f - 4) (l .page)
     && (leb (2 * (s .k * s .f) + 32) (l .text) && leb (2 * needed s) (l .post)))))
 
@@ -102,7 +102,7 @@ unfoldable pub opens : Measures → Lengths → List ℕ → Reply
 opens s l memory =
     cond (passes s)
     (cond (small s)
-    (cond (ample s l)
+    (cond (slicesLong s l)
     (cond (leb (memorySize s) (length memory))
     (record { line = headerLine (s .m) (s .n) (s .k) (s .t) (s .f); stage = 1; memory = memoryFresh s memory .memory })
     (refuses 2 memory)) (refuses 2 memory)) (refuses 2 memory)) (refuses 1 memory)

@@ -25,7 +25,7 @@ ghost use Rattle.parties.specs.protocol.Measures.{passes};
 ghost use Rattle.lines.specs.Read.{endedOf};
 ghost use Rattle.lines.specs.Command.{askedOf, given};
 ghost use Rattle.session.specs.Settle.{lend, desk};
-ghost use Rattle.session.specs.Session.{Runs, Live, newLine, started, held, small as fits, ample as suffice, opens, Replies, First, Reads, Deposits, Operates, Later, Ends, Feeds, Closes};
+ghost use Rattle.session.specs.Session.{Runs, Live, newLine, started, held, small as fits, slicesLong as suffice, opens, Replies, First, Reads, Deposits, Operates, Later, Ends, Feeds, Closes};
 
 pub struct Session {
     // 0 before the first line, 1 after a `config`, 2 after a first line that was refused.
@@ -98,7 +98,7 @@ fn small(s: Measures) -> bool
 }
 
 // Whether the slices suffice for such measures.
-fn ample(s: Measures, l: Lengths) -> bool
+fn slices_long(s: Measures, l: Lengths) -> bool
     requires { ⌜ passes s ≡ true ⌝ }
     ensures { λ r. ⌜ r ≡ suffice s l ⌝ }
 {
@@ -137,7 +137,7 @@ fn config(s: Measures, l: Lengths, memory: &mut [u8], text: &mut [u8]) -> Answer
         let n = refused(text, 2);
         return at_stage(2, s, 0, n);
     }
-    if !ample(s, l) {
+    if !slices_long(s, l) {
         let n = refused(text, 2);
         return at_stage(2, s, 0, n);
     }

@@ -3,14 +3,14 @@ use mathlib.Core.Path.{refl, sym, _∙_}
 use native.Mathlib.Omega.{arith}
 use borrow.Author.Tests.{not-true, not-false}
 use lib.ListN.{length}
-use Rattle.runs.specs.Happens.{Roomy}
+use Rattle.runs.specs.Happens.{PostRoomy}
 use Rattle.runs.specs.Oldest.{honestAll, Oldest}
 use Rattle.runs.proofs.FormLaws.{from-list, none-short, none-key}
 use Rattle.runs.proofs.EventLaws.{ready-yes, ready-no, some-used, last-kind, key-kind-within}
 use Rattle.runs.proofs.oldest.oldest.Statement.{statement}
 use Rattle.runs.proofs.oldest.oldest.Tie as tie
 
-able : (c : tie.After-enum-told) → let a = c .before .before .before .before .before .before .before .args in Roomy (a .s) (length (a .post .now)) (a .used)
+able : (c : tie.After-enum-told) → let a = c .before .before .before .before .before .before .before .args in PostRoomy (a .s) (length (a .post .now)) (a .used)
 able c = let a = c .before .before .before .before .before .before .before .args in ready-yes (a .s) (length (a .post .now)) (a .used) (c .before .before .ready .result) (c .before .before .ready .ensures) (c .enum-told .given .1)
 
 ready-requires : tie.Need-ready-requires

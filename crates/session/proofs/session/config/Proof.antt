@@ -5,7 +5,7 @@ use borrow.Author.Tests.{not-false, not-true}
 use borrow.Author.Needs.{needs}
 use Rattle.parties.specs.protocol.Measures.{passes}
 use Rattle.session.specs.declared.session.Session.{Session}
-use Rattle.session.specs.Session.{small, ample}
+use Rattle.session.specs.Session.{small, slicesLong}
 use Rattle.session.proofs.LineLaws.{opens-measures, opens-big, opens-scarce, opens-short, opens-taken, replied}
 use Rattle.session.proofs.SessionLaws.{new-live, fresh-runs}
 use Rattle.session.proofs.session.config.Statement.{statement}
@@ -29,8 +29,8 @@ passing c = sym (c .before .pass .ensures) ∙ not-false (c .before .pass .resul
 fitting : (c : tie.Else2) → small (c .before .before .before .before .before .before .args .s) ≡ true
 fitting c = sym (c .before .small .ensures) ∙ not-false (c .before .small .result) (c .if2 .left)
 
-sufficing : (c : tie.Else3) → let a = c .before .before .before .before .before .before .before .before .args in ample (a .s) (a .l) ≡ true
-sufficing c = sym (c .before .ample .ensures) ∙ not-false (c .before .ample .result) (c .if3 .left)
+sufficing : (c : tie.Else3) → let a = c .before .before .before .before .before .before .before .before .args in slicesLong (a .s) (a .l) ≡ true
+sufficing c = sym (c .before .slices-long .ensures) ∙ not-false (c .before .slices-long .result) (c .if3 .left)
 
 returns : tie.Need-returns
 returns c =
@@ -60,8 +60,8 @@ returns-2 c =
       replied _ _ _ _ _ _ _ _ _ (opens-big _ _ _ (passing (c .before .before .before .before .before .before .before)) no) (c .before .before .before .refused2 .ensures) refl (a .0) (a .1),
     )
 
-ample-requires : tie.Need-ample-requires
-ample-requires c κs = passing (c .before .before)
+slices-long-requires : tie.Need-slices-long-requires
+slices-long-requires c κs = passing (c .before .before)
 
 refused-requires-3 : tie.Need-refused-requires-3
 refused-requires-3 c κs = search needs
@@ -75,7 +75,7 @@ same-length-3 c = search needs
 returns-3 : tie.Need-returns-3
 returns-3 c =
     let a = c .at-stage3 .ensures in
-    let no = sym (c .before .before .before .before .before .before .ample .ensures) ∙ not-true (c .before .before .before .before .before .before .ample .result) (c .before .before .before .before .before .if3 .taken) in (
+    let no = sym (c .before .before .before .before .before .before .slices-long .ensures) ∙ not-true (c .before .before .before .before .before .before .slices-long .result) (c .before .before .before .before .before .if3 .taken) in (
       λ post page. new-live _ _ _ _ _ post page (a .1) (λ e. absurd (omega arith)),
       replied _ _ _ _ _ _ _ _ _ (opens-scarce _ _ _ (passing (c .before .before .before .before .before .before .before .before .before)) (fitting (c .before .before .before .before .before .before .before)) no) (c .before .before .before .refused3 .ensures) refl (a .0) (a .1),
     )
@@ -151,7 +151,7 @@ config-spec =
     at-stage-requires-2
     same-length-2
     returns-2
-    ample-requires
+    slices-long-requires
     refused-requires-3
     at-stage-requires-3
     same-length-3

@@ -9,8 +9,8 @@ use Rattle.parties.proofs.SizesLaws.{sized-passed}
 use Rattle.runs.specs.Sent.{needed}
 use Rattle.runs.proofs.EventLaws.{sized-is, needed-small}
 use Rattle.session.proofs.LineLaws.{frame-bound, no-room, no-rows, no-output, no-page, no-text, by-post}
-use Rattle.session.proofs.session.ample.Statement.{statement}
-use Rattle.session.proofs.session.ample.Tie as tie
+use Rattle.session.proofs.session.slices_long.Statement.{statement}
+use Rattle.session.proofs.session.slices_long.Tie as tie
 
 room-requires : tie.Need-room-requires
 room-requires c κs = search needs
@@ -80,8 +80,8 @@ returns-6 c =
     ap (λ (n : ℕ). leb (2 * n) (x .args .l .post)) e
     ∙ by-post (x .args .s) (x .args .l) (wide (c .before .before .before .before .before .before .before .before .before .before)) (rows (c .before .before .before .before .before .before .before .before)) (output (c .before .before .before .before .before .before)) (page (c .before .before .before .before)) (text (c .before .before))
 
-pub ample-spec : {M : Type 1} → statement M
-ample-spec =
+pub slices-long-spec : {M : Type 1} → statement M
+slices-long-spec =
     tie.close
     (tie.spec
     room-requires
