@@ -35,6 +35,7 @@ use crate::records::form::row_size;
 ghost use mathlib.Core.Path.{_≡_};
 ghost use Prim.Native.Nat.{_+_, _*_, _≤_};
 ghost use lib.ListN.{length};
+ghost use Rattle.parties.specs.declared.ClientAnswer.{ClientAnswer};
 ghost use Rattle.parties.specs.protocol.ClientEvents.{clientFresh, startDeposit, startReading, updateAnswer, scanAnswer, clientMessage};
 ghost use Rattle.parties.specs.client.Answer.{answered};
 ghost use Rattle.parties.specs.client.Record.{recordOf, marked};
@@ -53,23 +54,27 @@ fn put_none(t: &mut [u8], from: usize, width: usize, n: usize)
     }
 }
 
+// A refusal leaves the phase.
+fn refuse(p: Phase, r: Refusal) -> Turned
+    ensures { λ t. ⌜ t ≡ record { phase = p; answer = ClientAnswer.Refused r } ⌝ }
+{
+    Turned {
+        phase: p,
+        answer: ClientAnswer::Refused(r),
+    }
+}
+
 // A fresh record: idle, all pointers and versions none, all indices 0.
 pub fn fresh_client(p: Phase, s: Measures, area: &mut [u8]) -> Turned
     ensures { λ r. ⌜ (answered (r .answer) ≡ clientFresh s (recordOf p (now (area .entry))) .answer)
         × (recordOf (r .phase) (now (area .exit)) ≡ clientFresh s (recordOf p (now (area .entry))) .client) ⌝ }
 {
     if !s.pass() {
-        return Turned {
-            phase: p,
-            answer: ClientAnswer::Refused(Refusal::Measures),
-        };
+        return refuse(p, Refusal::Measures);
     }
     let size = area_size(s);
     if area.len() < size {
-        return Turned {
-            phase: p,
-            answer: ClientAnswer::Refused(Refusal::Short),
-        };
+        return refuse(p, Refusal::Short);
     }
     let width = pointer_size(s);
     let pointers = (s.m + 1) * width;
@@ -93,23 +98,14 @@ pub fn start_deposit(p: Phase, s: Measures, own: usize, area: &mut [u8], page: &
     let enough = area_long(s, area.len());
     let g = admit(s, enough, own < s.m, p, area);
     if let Gate::Shut(r) = g {
-        return Turned {
-            phase: p,
-            answer: ClientAnswer::Refused(r),
-        };
+        return refuse(p, r);
     }
     if p.step != IDLE {
-        return Turned {
-            phase: p,
-            answer: ClientAnswer::Refused(Refusal::OutOfTurn),
-        };
+        return refuse(p, Refusal::OutOfTurn);
     }
     let n = page.len();
     if s.k * s.f - 4 < n {
-        return Turned {
-            phase: p,
-            answer: ClientAnswer::Refused(Refusal::TooLong),
-        };
+        return refuse(p, Refusal::TooLong);
     }
     let at = work_at(s);
     put_u32(area, at, n as u32);
@@ -133,24 +129,15 @@ pub fn start_reading(p: Phase, s: Measures, own: usize, area: &mut [u8], room: &
     let enough = area_and_room_long(s, area.len(), room.len());
     let g = admit(s, enough, own < s.m, p, area);
     if let Gate::Shut(r) = g {
-        return Turned {
-            phase: p,
-            answer: ClientAnswer::Refused(r),
-        };
+        return refuse(p, r);
     }
     if p.step != IDLE {
-        return Turned {
-            phase: p,
-            answer: ClientAnswer::Refused(Refusal::OutOfTurn),
-        };
+        return refuse(p, Refusal::OutOfTurn);
     }
     let reading = p.reading;
     let next = reading.next();
     let NextIndex::Raised(i) = next else {
-        return Turned {
-            phase: p,
-            answer: ClientAnswer::Refused(Refusal::Spent),
-        };
+        return refuse(p, Refusal::Spent);
     };
     room[0] = READING_MAP;
     put_u32(room, 1, i.0);
@@ -172,10 +159,7 @@ pub fn update_answer(p: Phase, s: Measures, own: usize, area: &mut [u8], room: &
     let enough = area_and_room_long(s, area.len(), room.len());
     let g = admit(s, enough, own < s.m, p, area);
     if let Gate::Shut(r) = g {
-        return Turned {
-            phase: p,
-            answer: ClientAnswer::Refused(r),
-        };
+        return refuse(p, r);
     }
     let reading = p.reading;
     if p.step == UPDATING {
@@ -196,10 +180,7 @@ pub fn update_answer(p: Phase, s: Measures, own: usize, area: &mut [u8], room: &
             answer: ClientAnswer::Scan,
         };
     }
-    Turned {
-        phase: p,
-        answer: ClientAnswer::Refused(Refusal::OutOfTurn),
-    }
+    refuse(p, Refusal::OutOfTurn)
 }
 
 // The rows of a scan: a deposit draws its version or frees, a reading asks for its pieces.
@@ -218,17 +199,11 @@ pub fn scan_answer(
     let enough = area_rows_and_room_long(s, area.len(), rows.len(), room.len());
     let g = admit(s, enough, own < s.m, p, area);
     if let Gate::Shut(r) = g {
-        return Turned {
-            phase: p,
-            answer: ClientAnswer::Refused(r),
-        };
+        return refuse(p, r);
     }
     let size = row_size(s);
     if !directory(s, size, rows) {
-        return Turned {
-            phase: p,
-            answer: ClientAnswer::Refused(Refusal::Form),
-        };
+        return refuse(p, Refusal::Form);
     }
     let a = after_scan(s, own, p, area, rows, room);
     Turned {
@@ -257,10 +232,7 @@ pub fn message(
     let within = numbered(s, own, i);
     let g = admit(s, enough, within, p, area);
     if let Gate::Shut(r) = g {
-        return Turned {
-            phase: p,
-            answer: ClientAnswer::Refused(r),
-        };
+        return refuse(p, r);
     }
     let a = receive(s, i, p, area, message, room, out);
     Turned {

@@ -31,19 +31,25 @@ times c =
 pass-requires : tie.Need-pass-requires
 pass-requires c κs = search needs
 
+refuse-requires : tie.Need-refuse-requires
+refuse-requires c κs = search needs
+
 returns : tie.Need-returns
 returns c =
-    let a = c .before .before .before .args in
-    ends-two _ _ (fresh-measures (a .s) (a .p) (a .area .now) (sym (c .before .pass .ensures) ∙ not-true (c .before .pass .result) (c .if1 .taken)))
+    let a = c .before .before .before .before .args in
+    rw (c .refuse .ensures) (ends-two _ _ (fresh-measures (a .s) (a .p) (a .area .now) (sym (c .before .before .pass .ensures) ∙ not-true (c .before .before .pass .result) (c .before .if1 .taken))))
 
 area-size-requires : tie.Need-area-size-requires
 area-size-requires c κs = sym (c .before .pass .ensures) ∙ not-false (c .before .pass .result) (c .if1 .left)
 
+refuse-requires-2 : tie.Need-refuse-requires-2
+refuse-requires-2 c κs = search needs
+
 returns-2 : tie.Need-returns-2
 returns-2 c =
-    let a = c .before .before .before .before .before .args in
-    ends-two _ _ (fresh-short (a .s) (a .p) (a .area .now) (sym (c .before .before .before .pass .ensures) ∙ not-false (c .before .before .before .pass .result) (c .before .before .if1 .left))
-    (omega (arith, c .before .area-size .ensures, c .if2 .taken)))
+    let a = c .before .before .before .before .before .before .args in
+    rw (c .refuse2 .ensures) (ends-two _ _ (fresh-short (a .s) (a .p) (a .area .now) (sym (c .before .before .before .before .pass .ensures) ∙ not-false (c .before .before .before .before .pass .result) (c .before .before .before .if1 .left))
+    (omega (arith, c .before .before .area-size .ensures, c .before .if2 .taken))))
 
 pointer-size-requires : tie.Need-pointer-size-requires
 pointer-size-requires c κs = sym (c .before .before .before .pass .ensures) ∙ not-false (c .before .before .before .pass .result) (c .before .before .if1 .left)
@@ -111,8 +117,10 @@ fresh-client-spec =
     tie.close
     (tie.spec
     pass-requires
+    refuse-requires
     returns
     area-size-requires
+    refuse-requires-2
     returns-2
     pointer-size-requires
     add-pointers

@@ -39,20 +39,23 @@ admit-requires c κs = let a = c .before .before .before .before .before .before
 enum-known-g : tie.Need-enum-known-g
 enum-known-g c = search needs
 
+refuse-requires : tie.Need-refuse-requires
+refuse-requires c κs = search needs
+
 same-length : tie.Need-same-length
 same-length c = search needs
 
 returns : tie.Need-returns
 unfolding receivedEnd
 returns c =
-    let a = c .before .before .before .before .before .before .before .before .before .before .before .args in
-    let l = c .before .before .before .before .before .before .area-room-and-output-long in
-    let numbered = c .before .before .before .before .before .numbered in
-    let k = c .before .before .before .admit in
-    let n = c .before .g .given .0 .0 in
-    ends-four _ _ (message-guarded (a .s) (a .own) (a .i) (a .p) (a .area .now) (a .message .now) (a .room .now) (a .out .now) (numbered .result) (numbered .ensures)
-    ∙ gated-shut (a .s) (a .p) (a .area .now) (leb (areaSize (a .s)) (length (a .area .now)) && (leb (roomSize (a .s)) (length (a .room .now)) && leb (a .s .k * a .s .f - 4) (length (a .out .now)))) (l .result) (numbered .result) (l .ensures) (k .result) (k .ensures) n (c .before .g .given .1)
-    (a .room .now) (a .out .now) (λ k. onMessage (readToClient (a .s) (a .message .now)) (λ m. messageAt (a .s) (a .i) k (a .room .now) (a .out .now) m)))
+    let a = c .before .before .before .before .before .before .before .before .before .before .before .before .args in
+    let l = c .before .before .before .before .before .before .before .area-room-and-output-long in
+    let numbered = c .before .before .before .before .before .before .numbered in
+    let k = c .before .before .before .before .admit in
+    let n = c .before .before .g .given .0 .0 in
+    rw (c .refuse .ensures) (ends-four _ _ (message-guarded (a .s) (a .own) (a .i) (a .p) (a .area .now) (a .message .now) (a .room .now) (a .out .now) (numbered .result) (numbered .ensures)
+    ∙ gated-shut (a .s) (a .p) (a .area .now) (leb (areaSize (a .s)) (length (a .area .now)) && (leb (roomSize (a .s)) (length (a .room .now)) && leb (a .s .k * a .s .f - 4) (length (a .out .now)))) (l .result) (numbered .result) (l .ensures) (k .result) (k .ensures) n (c .before .before .g .given .1)
+    (a .room .now) (a .out .now) (λ k. onMessage (readToClient (a .s) (a .message .now)) (λ m. messageAt (a .s) (a .i) k (a .room .now) (a .out .now) m))))
 
 enum-told : tie.Need-enum-told
 enum-told c = search needs
@@ -98,6 +101,7 @@ message-spec =
     numbered-requires
     admit-requires
     enum-known-g
+    refuse-requires
     same-length
     returns
     enum-told

@@ -53,19 +53,22 @@ admit-requires c κs = let a = c .before .before .before .before .before .before
 enum-known-g : tie.Need-enum-known-g
 enum-known-g c = search needs
 
+refuse-requires : tie.Need-refuse-requires
+refuse-requires c κs = search needs
+
 same-length : tie.Need-same-length
 same-length c = search needs
 
 returns : tie.Need-returns
 returns c =
-    let a = c .before .before .before .before .before .before .before .before .before .before .args in
-    let l = c .before .before .before .before .before .before .area-rows-and-room-long in
-    let k = c .before .before .before .admit in
-    let n = c .before .g .given .0 .0 in
-    ends-three _ _ (scan-shut (a .s) (a .own) (a .p) (a .area .now) (a .rows .now) (a .room .now)
+    let a = c .before .before .before .before .before .before .before .before .before .before .before .args in
+    let l = c .before .before .before .before .before .before .before .area-rows-and-room-long in
+    let k = c .before .before .before .before .admit in
+    let n = c .before .before .g .given .0 .0 in
+    rw (c .refuse .ensures) (ends-three _ _ (scan-shut (a .s) (a .own) (a .p) (a .area .now) (a .rows .now) (a .room .now)
     (unchanged (refused (number n)) (recordOf (a .p) (a .area .now)) (a .room .now) [])
-    (gated-shut (a .s) (a .p) (a .area .now) (leb (areaSize (a .s)) (length (a .area .now)) && (leb (a .s .m * rowSize (a .s)) (length (a .rows .now)) && leb (roomSize (a .s)) (length (a .room .now)))) (l .result) (ltb (a .own) (a .s .m)) (l .ensures) (k .result) (k .ensures) n (c .before .g .given .1)
-    (a .room .now) [] (λ k. onRows (readDirectory (a .s) (a .rows .now)) (λ l. scannedAt (a .s) (a .own) k (a .room .now) l (k .phase)))))
+    (gated-shut (a .s) (a .p) (a .area .now) (leb (areaSize (a .s)) (length (a .area .now)) && (leb (a .s .m * rowSize (a .s)) (length (a .rows .now)) && leb (roomSize (a .s)) (length (a .room .now)))) (l .result) (ltb (a .own) (a .s .m)) (l .ensures) (k .result) (k .ensures) n (c .before .before .g .given .1)
+    (a .room .now) [] (λ k. onRows (readDirectory (a .s) (a .rows .now)) (λ l. scannedAt (a .s) (a .own) k (a .room .now) l (k .phase))))))
 
 enum-told : tie.Need-enum-told
 enum-told c = search needs
@@ -76,15 +79,18 @@ row-size-requires c κs = enters c .0
 directory-requires : tie.Need-directory-requires
 directory-requires c κs = (enters (c .before) .0, c .row-size .ensures, long (c .before) .0)
 
+refuse-requires-2 : tie.Need-refuse-requires-2
+refuse-requires-2 c κs = search needs
+
 same-length-2 : tie.Need-same-length-2
 same-length-2 c = search needs
 
 returns-2 : tie.Need-returns-2
 returns-2 c =
-    let x = c .before .before .before in
+    let x = c .before .before .before .before in
     let a = x .before .before .before .before .before .before .before .before .before .args in
-    ends-three _ _ (scan-broken (a .s) (a .own) (a .p) (a .area .now) (a .rows .now) (a .room .now) (opened x) (enters x .2) (enters x .1)
-    (c .before .directory .ensures ∙ ap (λ (b : Bool). cond b (some (drop (a .s .m * rowSize (a .s)) (a .rows .now))) none) (not-true (c .before .directory .result) (c .if1 .taken))))
+    rw (c .refuse2 .ensures) (ends-three _ _ (scan-broken (a .s) (a .own) (a .p) (a .area .now) (a .rows .now) (a .room .now) (opened x) (enters x .2) (enters x .1)
+    (c .before .before .directory .ensures ∙ ap (λ (b : Bool). cond b (some (drop (a .s .m * rowSize (a .s)) (a .rows .now))) none) (not-true (c .before .before .directory .result) (c .before .if1 .taken)))))
 
 -- the rows keep their form
 sound : (c : tie.Else1) → let a = c .before .before .before .before .before .before .before .before .before .before .before .before .args in rest (readDirectory (a .s) (a .rows .now)) ≡ some (drop (a .s .m * rowSize (a .s)) (a .rows .now))
@@ -130,11 +136,13 @@ scan-answer-spec =
     area-rows-and-room-long-requires
     admit-requires
     enum-known-g
+    refuse-requires
     same-length
     returns
     enum-told
     row-size-requires
     directory-requires
+    refuse-requires-2
     same-length-2
     returns-2
     after-scan-requires

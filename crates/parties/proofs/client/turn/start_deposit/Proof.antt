@@ -51,31 +51,37 @@ admit-requires c κs = let a = c .before .before .before .before .before .args i
 enum-known-g : tie.Need-enum-known-g
 enum-known-g c = search needs
 
+refuse-requires : tie.Need-refuse-requires
+refuse-requires c κs = search needs
+
 same-length : tie.Need-same-length
 same-length c = search needs
 
 returns : tie.Need-returns
 returns c =
-    let a = c .before .before .before .before .before .before .before .before .before .args in
-    let l = c .before .before .before .before .before .before .area-long in
-    let k = c .before .before .before .admit in
-    let n = c .before .g .given .0 .0 in
-    ends-two _ _ (deposit-shut (a .s) (a .own) (a .p) (a .area .now) (a .page .now)
+    let a = c .before .before .before .before .before .before .before .before .before .before .args in
+    let l = c .before .before .before .before .before .before .before .area-long in
+    let k = c .before .before .before .before .admit in
+    let n = c .before .before .g .given .0 .0 in
+    rw (c .refuse .ensures) (ends-two _ _ (deposit-shut (a .s) (a .own) (a .p) (a .area .now) (a .page .now)
     (unchanged (refused (number n)) (recordOf (a .p) (a .area .now)) [] [])
-    (gated-shut (a .s) (a .p) (a .area .now) (leb (areaSize (a .s)) (length (a .area .now))) (l .result) (ltb (a .own) (a .s .m)) (l .ensures) (k .result) (k .ensures) n (c .before .g .given .1)
-    [] [] (λ k. beginDeposit (a .s) k (a .page .now))))
+    (gated-shut (a .s) (a .p) (a .area .now) (leb (areaSize (a .s)) (length (a .area .now))) (l .result) (ltb (a .own) (a .s .m)) (l .ensures) (k .result) (k .ensures) n (c .before .before .g .given .1)
+    [] [] (λ k. beginDeposit (a .s) k (a .page .now)))))
 
 enum-told : tie.Need-enum-told
 enum-told c = search needs
+
+refuse-requires-2 : tie.Need-refuse-requires-2
+refuse-requires-2 c κs = search needs
 
 same-length-2 : tie.Need-same-length-2
 same-length-2 c = search needs
 
 returns-2 : tie.Need-returns-2
 returns-2 c =
-    let a = c .before .before .before .before .before .before .before .before .before .before .args in
-    let d = (c .before .before) in
-    ends-two _ _ (deposit-busy (a .s) (a .own) (a .p) (a .area .now) (opened d) (enters d .2) (a .page .now) (long d) (c .if1 .taken))
+    let a = c .before .before .before .before .before .before .before .before .before .before .before .args in
+    let d = (c .before .before .before) in
+    rw (c .refuse2 .ensures) (ends-two _ _ (deposit-busy (a .s) (a .own) (a .p) (a .area .now) (opened d) (enters d .2) (a .page .now) (long d) (c .before .if1 .taken)))
 
 mul-if2 : tie.Need-mul-if2
 mul-if2 c =
@@ -89,14 +95,17 @@ sub-if2 c =
     let z = sizes (d .before .before .before .before .before .before .before .before .args .s) (enters d .0) in
     omega (arith, z .frame)
 
+refuse-requires-3 : tie.Need-refuse-requires-3
+refuse-requires-3 c κs = search needs
+
 same-length-3 : tie.Need-same-length-3
 same-length-3 c = search needs
 
 returns-3 : tie.Need-returns-3
 returns-3 c =
-    let a = c .before .before .before .before .before .before .before .before .before .before .before .before .args in
-    let d = (c .before .before .before .before) in
-    ends-two _ _ (deposit-long (a .s) (a .own) (a .p) (a .area .now) (opened d) (enters d .2) (a .page .now) (long d) (c .before .before .if1 .left) (c .if2 .taken))
+    let a = c .before .before .before .before .before .before .before .before .before .before .before .before .before .args in
+    let d = (c .before .before .before .before .before) in
+    rw (c .refuse3 .ensures) (ends-two _ _ (deposit-long (a .s) (a .own) (a .p) (a .area .now) (opened d) (enters d .2) (a .page .now) (long d) (c .before .before .before .if1 .left) (c .before .if2 .taken)))
 
 work-at-requires : tie.Need-work-at-requires
 work-at-requires c κs = enters (c .before .before .before .before) .0
@@ -155,13 +164,16 @@ start-deposit-spec =
     area-long-requires
     admit-requires
     enum-known-g
+    refuse-requires
     same-length
     returns
     enum-told
+    refuse-requires-2
     same-length-2
     returns-2
     mul-if2
     sub-if2
+    refuse-requires-3
     same-length-3
     returns-3
     work-at-requires

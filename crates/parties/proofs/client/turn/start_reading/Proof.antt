@@ -54,31 +54,37 @@ admit-requires c κs = let a = c .before .before .before .before .before .args i
 enum-known-g : tie.Need-enum-known-g
 enum-known-g c = search needs
 
+refuse-requires : tie.Need-refuse-requires
+refuse-requires c κs = search needs
+
 same-length : tie.Need-same-length
 same-length c = search needs
 
 returns : tie.Need-returns
 returns c =
-    let a = c .before .before .before .before .before .before .before .before .before .args in
-    let l = c .before .before .before .before .before .before .area-and-room-long in
-    let k = c .before .before .before .admit in
-    let n = c .before .g .given .0 .0 in
-    ends-three _ _ (reading-shut (a .s) (a .own) (a .p) (a .area .now) (a .room .now)
+    let a = c .before .before .before .before .before .before .before .before .before .before .args in
+    let l = c .before .before .before .before .before .before .before .area-and-room-long in
+    let k = c .before .before .before .before .admit in
+    let n = c .before .before .g .given .0 .0 in
+    rw (c .refuse .ensures) (ends-three _ _ (reading-shut (a .s) (a .own) (a .p) (a .area .now) (a .room .now)
     (unchanged (refused (number n)) (recordOf (a .p) (a .area .now)) (a .room .now) [])
-    (gated-shut (a .s) (a .p) (a .area .now) (leb (areaSize (a .s)) (length (a .area .now)) && leb (roomSize (a .s)) (length (a .room .now))) (l .result) (ltb (a .own) (a .s .m)) (l .ensures) (k .result) (k .ensures) n (c .before .g .given .1)
-    (a .room .now) [] (λ k. beginReading k (a .room .now))))
+    (gated-shut (a .s) (a .p) (a .area .now) (leb (areaSize (a .s)) (length (a .area .now)) && leb (roomSize (a .s)) (length (a .room .now))) (l .result) (ltb (a .own) (a .s .m)) (l .ensures) (k .result) (k .ensures) n (c .before .before .g .given .1)
+    (a .room .now) [] (λ k. beginReading k (a .room .now)))))
 
 enum-told : tie.Need-enum-told
 enum-told c = search needs
+
+refuse-requires-2 : tie.Need-refuse-requires-2
+refuse-requires-2 c κs = search needs
 
 same-length-2 : tie.Need-same-length-2
 same-length-2 c = search needs
 
 returns-2 : tie.Need-returns-2
 returns-2 c =
-    let a = c .before .before .before .before .before .before .before .before .before .before .args in
-    let d = (c .before .before) in
-    ends-three _ _ (reading-busy (a .s) (a .own) (a .p) (a .area .now) (opened d) (enters d .2) (a .room .now) (long d) (c .if1 .taken))
+    let a = c .before .before .before .before .before .before .before .before .before .before .before .args in
+    let d = (c .before .before .before) in
+    rw (c .refuse2 .ensures) (ends-three _ _ (reading-busy (a .s) (a .own) (a .p) (a .area .now) (opened d) (enters d .2) (a .room .now) (long d) (c .before .if1 .taken)))
 
 next-requires : tie.Need-next-requires
 next-requires c κs = search needs
@@ -89,17 +95,20 @@ enum-known-next c = search needs
 enum-told-2 : tie.Need-enum-told-2
 enum-told-2 c = search needs
 
+refuse-requires-3 : tie.Need-refuse-requires-3
+refuse-requires-3 c κs = search needs
+
 same-length-3 : tie.Need-same-length-3
 same-length-3 c = search needs
 
 returns-3 : tie.Need-returns-3
 returns-3 c =
-    let x = c .before .before .before .before .before .before in
+    let x = c .before .before .before .before .before .before .before in
     let y = x .before .before .before .before .before .before in
     let a = y .before .before .args in
     let d = x in
-    ends-three _ _ (reading-spent (a .s) (a .own) (a .p) (a .area .now) (opened d) (enters d .2) (a .room .now) (long d) (c .before .before .before .before .if1 .left)
-    (sym (c .before .before .next .ensures) ∙ c .enum-told2 .given .1))
+    rw (c .refuse3 .ensures) (ends-three _ _ (reading-spent (a .s) (a .own) (a .p) (a .area .now) (opened d) (enters d .2) (a .room .now) (long d) (c .before .before .before .before .before .if1 .left)
+    (sym (c .before .before .before .next .ensures) ∙ c .before .enum-told2 .given .1)))
 
 slice-write-room : tie.Need-slice-write-room
 slice-write-room c = let l = room-long (c .before .before .before .before .before .before .before) in omega (arith, l)
@@ -142,14 +151,17 @@ start-reading-spec =
     area-and-room-long-requires
     admit-requires
     enum-known-g
+    refuse-requires
     same-length
     returns
     enum-told
+    refuse-requires-2
     same-length-2
     returns-2
     next-requires
     enum-known-next
     enum-told-2
+    refuse-requires-3
     same-length-3
     returns-3
     slice-write-room

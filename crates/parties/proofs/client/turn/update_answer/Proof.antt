@@ -44,19 +44,22 @@ admit-requires c κs = let a = c .before .before .before .before .before .args i
 enum-known-g : tie.Need-enum-known-g
 enum-known-g c = search needs
 
+refuse-requires : tie.Need-refuse-requires
+refuse-requires c κs = search needs
+
 same-length : tie.Need-same-length
 same-length c = search needs
 
 returns : tie.Need-returns
 returns c =
-    let a = c .before .before .before .before .before .before .before .before .before .args in
-    let l = c .before .before .before .before .before .before .area-and-room-long in
-    let k = c .before .before .before .admit in
-    let n = c .before .g .given .0 .0 in
-    ends-three _ _ (update-shut (a .s) (a .own) (a .p) (a .area .now) (a .room .now)
+    let a = c .before .before .before .before .before .before .before .before .before .before .args in
+    let l = c .before .before .before .before .before .before .before .area-and-room-long in
+    let k = c .before .before .before .before .admit in
+    let n = c .before .before .g .given .0 .0 in
+    rw (c .refuse .ensures) (ends-three _ _ (update-shut (a .s) (a .own) (a .p) (a .area .now) (a .room .now)
     (unchanged (refused (number n)) (recordOf (a .p) (a .area .now)) (a .room .now) [])
-    (gated-shut (a .s) (a .p) (a .area .now) (leb (areaSize (a .s)) (length (a .area .now)) && leb (roomSize (a .s)) (length (a .room .now))) (l .result) (ltb (a .own) (a .s .m)) (l .ensures) (k .result) (k .ensures) n (c .before .g .given .1)
-    (a .room .now) [] (λ k. acknowledgedAt k (a .room .now) (k .phase))))
+    (gated-shut (a .s) (a .p) (a .area .now) (leb (areaSize (a .s)) (length (a .area .now)) && leb (roomSize (a .s)) (length (a .room .now))) (l .result) (ltb (a .own) (a .s .m)) (l .ensures) (k .result) (k .ensures) n (c .before .before .g .given .1)
+    (a .room .now) [] (λ k. acknowledgedAt k (a .room .now) (k .phase)))))
 
 enum-told : tie.Need-enum-told
 enum-told c = search needs
@@ -79,14 +82,17 @@ returns-3 c =
     let d = (c .before .before .before .before .before) in
     ends-three _ _ (update-picking (a .s) (a .own) (a .p) (a .area .now) (opened d) (enters d .2) (a .room .now) (long d) (c .if2 .taken))
 
+refuse-requires-2 : tie.Need-refuse-requires-2
+refuse-requires-2 c κs = search needs
+
 same-length-4 : tie.Need-same-length-4
 same-length-4 c = search needs
 
 returns-4 : tie.Need-returns-4
 returns-4 c =
-    let a = c .before .before .before .before .before .before .before .before .before .before .before .before .before .args in
-    let d = (c .before .before .before .before .before) in
-    ends-three _ _ (update-other (a .s) (a .own) (a .p) (a .area .now) (opened d) (enters d .2) (a .room .now) (long d) (c .before .before .if1 .left) (c .if2 .left))
+    let a = c .before .before .before .before .before .before .before .before .before .before .before .before .before .before .args in
+    let d = (c .before .before .before .before .before .before) in
+    rw (c .refuse2 .ensures) (ends-three _ _ (update-other (a .s) (a .own) (a .p) (a .area .now) (opened d) (enters d .2) (a .room .now) (long d) (c .before .before .before .if1 .left) (c .before .if2 .left)))
 
 pub update-answer-spec : {M : Type 1} → statement M
 update-answer-spec =
@@ -95,6 +101,7 @@ update-answer-spec =
     area-and-room-long-requires
     admit-requires
     enum-known-g
+    refuse-requires
     same-length
     returns
     enum-told
@@ -102,5 +109,6 @@ update-answer-spec =
     returns-2
     same-length-3
     returns-3
+    refuse-requires-2
     same-length-4
     returns-4)
