@@ -1,4 +1,5 @@
-// Links the proved archives. CODING_LIB, PARTIES_LIB and TITLE_LIB name another folder with an archive of that name, to measure a trial.
+// Links the proved archives. CODING_LIB, RECORDINGS_LIB, PARTIES_LIB and TITLE_LIB name another folder with an archive of that name, to
+// measure a trial.
 use std::env;
 use std::fs;
 use std::path::{Path, PathBuf};
@@ -27,6 +28,7 @@ fn main() {
     if env::var_os("CARGO_FEATURE_ARCHIVES").is_some() {
         let out = PathBuf::from(env::var("OUT_DIR").unwrap());
         link("CODING_LIB", "coding_export", &out);
+        link("RECORDINGS_LIB", "recordings_export", &out);
         link("PARTIES_LIB", "parties_export", &out);
         link("TITLE_LIB", "title_export", &out);
         println!("cargo:rustc-link-search=native={}", out.display());

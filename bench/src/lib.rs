@@ -1,5 +1,6 @@
-//! The proved functions for Rust. `coding`, `parties` and `title` are the three layers, each function a thin wrapper around the one of
-//! an archive; `Title` keeps one page and carries its deposits and readings out from start to end.
+//! The proved functions for Rust. `coding`, `parties` and `title` are the three layers, and `recordings` stands beside the layers; each
+//! function is a thin wrapper around the one of an archive. `Title` keeps one page and carries its deposits and readings out from start
+//! to end.
 
 pub mod answer;
 pub mod measures;
@@ -10,6 +11,8 @@ pub mod coding;
 mod operation;
 #[cfg(feature = "archives")]
 pub mod parties;
+#[cfg(feature = "archives")]
+pub mod recordings;
 #[cfg(feature = "archives")]
 pub mod title;
 

@@ -14,8 +14,12 @@ mod parties;
 mod piece_calls;
 mod pieces;
 mod plain;
+mod planes;
 mod proved;
 mod random;
+mod recording_calls;
+mod recording_tasks;
+mod recordings;
 mod report;
 mod runs;
 mod service;
@@ -79,6 +83,8 @@ fn times(numbers: &mut Numbers) {
         coding_tasks::longer(numbers),
         coding_tasks::wider(numbers),
         tables::larger(numbers),
+        recording_tasks::whole(numbers),
+        recording_tasks::longer(numbers),
     ];
     clock::measure(&mut sections);
     for section in &sections {
@@ -97,6 +103,8 @@ fn comparisons(numbers: &mut Numbers) {
     titles::titles(numbers, OPERATIONS);
     println!();
     wrong::wrong(numbers, 3000);
+    println!();
+    recording_calls::calls(numbers, CALLS);
 }
 
 /// Takes a number to start from, if another is wanted; with the word `times` only what is timed is compared.

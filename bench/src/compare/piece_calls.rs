@@ -9,14 +9,14 @@ use jolbizna::Answer;
 use std::collections::BTreeSet;
 
 /// What refuses a call, with its number.
-type Cause = (u32, &'static str);
+pub type Cause = (u32, &'static str);
 
 /// A slice that is too short: names for one less, none, and any other number.
-type Names = [&'static str; 3];
+pub type Names = [&'static str; 3];
 
 const ROOM: Names = ["room short by one", "room empty", "room shorter"];
 const LENGTHS: Names = ["lengths short by one", "lengths empty", "lengths shorter"];
-const OUTPUT: Names = ["output short by one", "output empty", "output shorter"];
+pub const OUTPUT: Names = ["output short by one", "output empty", "output shorter"];
 
 /// A node that there is not.
 const NODE: Names = ["node 0", "node above n by one", "node far above n"];
@@ -25,7 +25,7 @@ const TOO_LONG: &str = "page too long";
 const ABOVE: &str = "node above n";
 const WRAPS: &str = "a product wraps";
 
-fn short(names: Names, len: usize, need: usize) -> Option<Cause> {
+pub fn short(names: Names, len: usize, need: usize) -> Option<Cause> {
     let [one, none, other] = names;
     let name = match need.saturating_sub(len) {
         0 => return None,
@@ -53,7 +53,7 @@ fn outside(i: usize, n: usize) -> Option<Cause> {
 const MOST: usize = 70_000;
 
 /// A length around the one that is needed, if so much can be lent: most times that one; one less, none, any fewer, some more.
-fn around(numbers: &mut Numbers, need: usize) -> usize {
+pub fn around(numbers: &mut Numbers, need: usize) -> usize {
     if need > MOST {
         return numbers.below(100);
     }
@@ -167,7 +167,7 @@ impl Shape {
 }
 
 /// A number at a bound, near it, or far out.
-fn odd(numbers: &mut Numbers, bound: usize) -> usize {
+pub fn odd(numbers: &mut Numbers, bound: usize) -> usize {
     match numbers.below(8) {
         0 => 0,
         1 => bound,

@@ -1,4 +1,5 @@
-//! The baseline of the timings: the same work in plain Rust, one product by the two tables for each byte of the frame.
+//! The baseline of the timings: the same work in plain Rust, one product by the two tables for each byte of the frame; a recording
+//! byte by byte.
 
 use jolbizna::Answer;
 
@@ -278,6 +279,39 @@ pub fn digest(s: &[u8], out: &mut [u8]) -> Answer {
     }
     for (bytes, word) in out.chunks_exact_mut(4).zip(state) {
         bytes.copy_from_slice(&word.to_be_bytes());
+    }
+    Ok(0)
+}
+
+/// How many samples there are.
+fn sampled(width: usize, data: &[u8], out: &[u8]) -> Result<usize, u32> {
+    if out.len() < data.len() {
+        return Err(2);
+    }
+    if !(1..=8).contains(&width) || !data.len().is_multiple_of(width) {
+        return Err(15);
+    }
+    Ok(data.len() / width)
+}
+
+/// Byte p of sample s goes to place p * n + s.
+pub fn planes(width: usize, data: &[u8], out: &mut [u8]) -> Answer {
+    let n = sampled(width, data, out)?;
+    for s in 0..n {
+        for p in 0..width {
+            out[p * n + s] = data[s * width + p];
+        }
+    }
+    Ok(0)
+}
+
+/// The way back.
+pub fn samples(width: usize, data: &[u8], out: &mut [u8]) -> Answer {
+    let n = sampled(width, data, out)?;
+    for s in 0..n {
+        for p in 0..width {
+            out[s * width + p] = data[p * n + s];
+        }
     }
     Ok(0)
 }

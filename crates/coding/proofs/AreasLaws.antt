@@ -72,31 +72,31 @@ pub columns-stay : (n F j m : ℕ) (v : ℕ → ℕ → ℕ) (t u : List ℕ) �
 columns-stay n F j m v t u c = record { same = refl; inside = c .inside; outside = λ q h. refl }
 
 -- columns that follow those written
-pub columns-join : (n F j m : ℕ) (v w : ℕ → ℕ → ℕ) (r t u : List ℕ) → j + m ≤ F → ((i l : ℕ) → w i l ≡ v i (j + l))
-    → Columns n F 0 j v r t → Columns n F j m w t u → Columns n F 0 (j + m) v r u
-columns-join n F j m v w r t u fits e a b =
+pub columns-join : (n F a j m : ℕ) (v w : ℕ → ℕ → ℕ) (r t u : List ℕ) → a + j + m ≤ F → ((i l : ℕ) → w i l ≡ v i (j + l))
+    → Columns n F a j v r t → Columns n F (a + j) m w t u → Columns n F a (j + m) v r u
+columns-join n F a j m v w r t u fits e x y =
     record {
-      same = b .same ∙ a .same;
+      same = y .same ∙ x .same;
       inside = λ i l hi hl. go-in i l hi hl (decLt l j);
       outside = λ q h.
-          b .outside q (λ i l hi hl z. h i (j + l) hi (omega arith) (omega arith))
-          ∙ a .outside q (λ i l hi hl z. h i l hi (omega arith) z);
+          y .outside q (λ i l hi hl z. h i (j + l) hi (omega arith) (omega arith))
+          ∙ x .outside q (λ i l hi hl z. h i l hi (omega arith) z);
     }
   where
-    apart : (i l i′ l′ : ℕ) → l < j → l′ < m → Dec (i < i′) → Dec (i′ < i) → i * F + (0 + l) ≡ i′ * F + (j + l′) → ⊥
+    apart : (i l i′ l′ : ℕ) → l < j → l′ < m → Dec (i < i′) → Dec (i′ < i) → i * F + (a + l) ≡ i′ * F + (a + j + l′) → ⊥
     apart i l i′ l′ hl hl′ (yes p) q z = omega (arith, below-area i i′ F p)
     apart i l i′ l′ hl hl′ (no p) (yes q) z = omega (arith, below-area i′ i F q)
     apart i l i′ l′ hl hl′ (no p) (no q) z =
         let s : i ≡ i′ = omega arith in
-        let y : i * F + (0 + l) ≡ i * F + (j + l′) = z ∙ ap (λ (x : ℕ). x * F + (j + l′)) (sym s) in omega arith
+        let d : i * F + (a + l) ≡ i * F + (a + j + l′) = z ∙ ap (λ (x : ℕ). x * F + (a + j + l′)) (sym s) in omega arith
 
-    go-in : (i l : ℕ) → i < n → l < j + m → Dec (l < j) → getD u (i * F + (0 + l)) 0 ≡ v i l
+    go-in : (i l : ℕ) → i < n → l < j + m → Dec (l < j) → getD u (i * F + (a + l)) 0 ≡ v i l
     go-in i l hi hl (yes h) =
-        b .outside (i * F + (0 + l)) (λ i′ l′ hi′ hl′. apart i l i′ l′ h hl′ (decLt i i′) (decLt i′ i)) ∙ a .inside i l hi h
+        y .outside (i * F + (a + l)) (λ i′ l′ hi′ hl′. apart i l i′ l′ h hl′ (decLt i i′) (decLt i′ i)) ∙ x .inside i l hi h
     go-in i l hi hl (no h) =
-        let z : i * F + (0 + l) ≡ i * F + (j + (l - j)) = omega arith in
-        let y : j + (l - j) ≡ l = omega arith in
-        ap (λ (x : ℕ). getD u x 0) z ∙ b .inside i (l - j) hi (omega arith) ∙ e i (l - j) ∙ ap (v i) y
+        let z : i * F + (a + l) ≡ i * F + (a + j + (l - j)) = omega arith in
+        let d : j + (l - j) ≡ l = omega arith in
+        ap (λ (x : ℕ). getD u x 0) z ∙ y .inside i (l - j) hi (omega arith) ∙ e i (l - j) ∙ ap (v i) d
 
 -- a place is in one column of one area, or in none
 place : (n F m q : ℕ) → 0 < F → m ≤ F

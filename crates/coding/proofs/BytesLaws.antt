@@ -141,13 +141,13 @@ module _ (d : List ℕ) (f : ℕ → ℕ) (u : List ℕ) (n : ℕ) (s : Front d 
   pub front-length : length u ≡ length d
   front-length = ap length (s .done) ∙ length-paste d 0 (tabulate n f) n fits long
 
-  front-in : (q : ℕ) → q < n → getD u q 0 ≡ f q
+  pub front-in : (q : ℕ) → q < n → getD u q 0 ≡ f q
   front-in q b =
       ap₂ (λ (v : List ℕ) (x : ℕ). getD v x 0) (s .done) (sym (zero-add q))
       ∙ paste-in d 0 (tabulate n f) n 0 fits long q b
       ∙ getD-tabulate n f q 0 b
 
-  front-after : (q : ℕ) → n ≤ q → getD u q 0 ≡ getD d q 0
+  pub front-after : (q : ℕ) → n ≤ q → getD u q 0 ≡ getD d q 0
   front-after q b = ap (λ (v : List ℕ). getD v q 0) (s .done) ∙ paste-after d 0 (tabulate n f) n 0 fits long q (omega arith)
 
 -- m bytes more

@@ -1,6 +1,7 @@
 -- The columns below j stand in every area.
 use mathlib.Core.Path.{_≡_, refl}
 use Prim.Native.Nat.{_+_, _-_, _≤_}
+use native.Mathlib.Nat.{zero-add}
 use native.Mathlib.Omega.{arith}
 use Rattle.coding.specs.Pieces.{pieceByte, frame}
 use Rattle.coding.specs.Areas.{Columns}
@@ -35,7 +36,8 @@ loop-less c = omega arith
 loop-again : tie.Need-loop-again Inv-loop μ-loop
 loop-again c = (
   omega arith,
-  columns-join _ _ _ _ _ _ _ _ _ (omega arith) (λ i l. refl) (c .before .before .before .before .before .before .loop .inv .1) (c .before .before .write-block .ensures),
+  columns-join _ _ 0 _ _ _ _ _ _ _ (omega arith) (λ i l. refl) (c .before .before .before .before .before .before .loop .inv .1)
+      (rw zero-add (c .before .before .write-block .ensures)),
 )
 
 same-length : tie.Need-same-length Inv-loop μ-loop

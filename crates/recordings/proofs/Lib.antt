@@ -1,0 +1,10 @@
+pub mod PlaceLaws
+pub mod CountLaws
+pub mod FrontLaws
+pub mod ShuffleLaws
+pub mod BlockLaws
+pub mod ArrangeLaws
+pub mod Permutations
+pub mod Undone
+pub mod RefusalLaws
+pub mod EdgeCases
