@@ -39,7 +39,7 @@ fn task(numbers: &mut Numbers, way: &Way, name: String, width: usize, len: usize
 /// 1 MB of samples of each width, as many as fit.
 pub fn whole(numbers: &mut Numbers) -> Section {
     let mut tasks = Vec::new();
-    for width in [WIDTH, 1, 2, 4, 8] {
+    for width in [1, 2, WIDTH, 4, 8] {
         let len = MB / width * width;
         for way in [PLANES, SAMPLES] {
             let name = format!("{}, width {width}, {len} bytes", way.name);
