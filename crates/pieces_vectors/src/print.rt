@@ -3,6 +3,9 @@ use crate::call::Answer;
 use crate::call::Call;
 use libc::STDOUT_FILENO;
 
+// A line shows so many bytes of a slice.
+const FEW: usize = 20;
+
 fn name(c: Call, what: u8) {
     if what == 10 {
         vectors::word(b"split");
@@ -28,30 +31,13 @@ fn arguments(c: Call) {
     vectors::word(b":");
 }
 
-fn byte(b: u8) {
-    io::print_hex(STDOUT_FILENO, b as u64, 2);
-}
-
-// Few bytes, after a space.
-fn few(s: &[u8]) {
-    if 20 < s.len() {
-        return;
-    }
-    vectors::word(b" ");
-    let mut i = 0;
-    while i < s.len() {
-        byte(s[i]);
-        i += 1;
-    }
-}
-
 pub fn line(c: Call, what: u8, a: Answer, given: &[u8], written: &[u8]) {
     name(c, what);
     arguments(c);
     vectors::number(a.number);
     vectors::number(a.len);
-    few(given);
-    few(written);
+    vectors::few(given, FEW);
+    vectors::few(written, FEW);
     vectors::word(b" sum");
     vectors::number(c.sum);
     vectors::word(b"\n");

@@ -12,9 +12,13 @@ pub record ArrangeEnd : Type 0 where
   pub outcome : Outcome
   pub out : List ℕ
 
+-- the widest sample, in bytes
+abbrev pub widest : ℕ
+widest = 8
+
 -- a width of 1 to 8, and a length that is a multiple of it
 abbrev pub proper : ℕ → ℕ → Bool
-proper w len = leb 1 w && leb w 8 && eqb (len % w) 0
+proper w len = leb 1 w && leb w widest && eqb (len % w) 0
 
 -- the data in another order stands at the front of the output, and what lies beyond it is as it was
 unfoldable pub arrange : (ℕ → List ℕ → List ℕ) → ℕ → List ℕ → List ℕ → ArrangeEnd

@@ -14,6 +14,8 @@ ghost use Rattle.recordings.specs.Planes.{amongSamples, amongPlanes};
 ghost use Rattle.recordings.specs.Answer.{outcome};
 ghost use Rattle.recordings.specs.Arrange.{proper as properFor, planes as planesEnd, samples as samplesEnd};
 
+const WIDEST: usize = 8;
+
 // Samples of 24 bits, which recordings have: their blocks are moved many bytes at a time.
 const TRIPLE: usize = 3;
 
@@ -23,7 +25,7 @@ fn proper(width: usize, len: usize) -> bool
     if width < 1 {
         return false;
     }
-    if 8 < width {
+    if WIDEST < width {
         return false;
     }
     len % width == 0

@@ -1,6 +1,8 @@
 // Lines on standard output.
 use crate::input::Call;
-use libc::STDOUT_FILENO;
+
+// A line shows so many bytes of a slice.
+const FEW: usize = 24;
 
 fn name(which: u8) {
     match which {
@@ -18,23 +20,6 @@ fn width(c: Call) {
     }
 }
 
-fn byte(b: u8) {
-    io::print_hex(STDOUT_FILENO, b as u64, 2);
-}
-
-// Few bytes, after a space.
-fn few(s: &[u8]) {
-    if 24 < s.len() {
-        return;
-    }
-    vectors::word(b" ");
-    let mut i = 0;
-    while i < s.len() {
-        byte(s[i]);
-        i += 1;
-    }
-}
-
 // The sum goes on from the data to the output.
 fn sum(data: &[u8], out: &[u8]) -> usize {
     (vectors::checksum(data) % 4294967296 * 31 + vectors::checksum(out) % 4294967296) % 4294967296
@@ -47,8 +32,8 @@ pub fn line(c: Call, number: usize, data: &[u8], out: &[u8]) {
     vectors::number(out.len());
     vectors::word(b":");
     vectors::number(number);
-    few(data);
-    few(out);
+    vectors::few(data, FEW);
+    vectors::few(out, FEW);
     vectors::word(b" sum");
     vectors::number(sum(data, out));
     vectors::word(b"\n");

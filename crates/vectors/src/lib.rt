@@ -34,7 +34,7 @@ pub fn checksum(s: &[u8]) -> usize
     h
 }
 
-// These three answer nothing, and what reaches standard output is free: `libc` promises of a write no more than how many bytes it may take.
+// These answer nothing, and what reaches standard output is free: `libc` promises of a write no more than how many bytes it may take.
 pub fn word(s: &[u8]) {
     io::write_all(STDOUT_FILENO, s);
 }
@@ -47,4 +47,21 @@ pub fn digit(x: usize) {
 pub fn number(x: usize) {
     word(b" ");
     digit(x);
+}
+
+fn byte(b: u8) {
+    io::print_hex(STDOUT_FILENO, b as u64, 2);
+}
+
+// The bytes after a space, if there are no more than that.
+pub fn few(s: &[u8], most: usize) {
+    if most < s.len() {
+        return;
+    }
+    word(b" ");
+    let mut i = 0;
+    while i < s.len() {
+        byte(s[i]);
+        i += 1;
+    }
 }

@@ -2,14 +2,14 @@
 use Prim.Native.Nat.{_≤_, _-_}
 use lib.ListN.{length}
 use borrow.Author.Needs.{needs}
-use Rattle.pieces_vectors.proofs.print.few.Statement.{statement}
-use Rattle.pieces_vectors.proofs.print.few.Tie as tie
+use Rattle.vectors.proofs.few.Statement.{statement}
+use Rattle.vectors.proofs.few.Tie as tie
 
 abbrev Inv-loop : tie.InvT-loop
-Inv-loop s i₀ i = i ≤ length s
+Inv-loop s most i₀ i = i ≤ length s
 
 abbrev μ-loop : tie.MeasureT-loop
-μ-loop s i₀ i = length s - i
+μ-loop s most i₀ i = length s - i
 
 returns : tie.Need-returns Inv-loop μ-loop
 returns c = search needs
