@@ -73,9 +73,9 @@ unfolding headerLine
 header-length m n k t f a b c d e =
     simp length-append (omega (arith, spaced-length 0 m a, spaced-length 1 n b, spaced-length 1 k c, spaced-length 1 t d, spaced-length 1 f e))
 
-pub refused-length : (x : ℕ) → x < 10 → length (refusedLine x) ≤ 10
+pub refused-length : (x : ℕ) → x < 100 → length (refusedLine x) ≤ 11
 unfolding refusedLine
-refused-length x h = simp length-append (omega (arith, spaced-length 0 x h))
+refused-length x h = simp length-append (omega (arith, spaced-length 1 x h))
 
 module _ (c : ℕ) (small : c < 4294967296) where
   client-length : length (spacedNumber c) ≤ 11

@@ -18,6 +18,8 @@ fn refused(r: Refusal) -> u64
         Refusal::Short => 4294967298,
         Refusal::Number => 4294967299,
         Refusal::Form => 4294967300,
+        Refusal::Length => 4294967307,
+        Refusal::Rule => 4294967308,
         Refusal::OutOfTurn => 4294967301,
         Refusal::TooLong => 4294967302,
         Refusal::Spent => 4294967303,

@@ -7,6 +7,8 @@ use crate::records::bytes::copy;
 use crate::records::form::Ends;
 use crate::records::form::Parts;
 use crate::records::form::ROW_MAP;
+use crate::records::form::Record;
+use crate::records::form::Verdict;
 use crate::records::form::directory;
 use crate::records::form::field_ends;
 use crate::records::form::row_size;
@@ -155,11 +157,11 @@ fn rebuild(fields: &[u8], e: Ends, table: &[u8], at: usize, f: Ends, room: &mut 
 
 // The fields of a sound record over those of a sound row. Pointers may grow or shrink, so the row is put together beside the table.
 fn renew(s: Measures, size: usize, at: usize, e: Ends, fields: &[u8], table: &mut [u8])
-    requires { ⌜ (passes s ≡ true) × (size ≡ rowSize s) × (at + rowSize s ≤ length (now table)) × Recorded s (now fields) (Parts.Sound e)
+    requires { ⌜ (passes s ≡ true) × (size ≡ rowSize s) × (at + rowSize s ≤ length (now table)) × Recorded s (now fields) (Record.Sound e)
         × (rest (readRow s (drop at (now table))) ≡ some (drop (at + rowSize s) (now table))) ⌝ }
     ensures { λ _. ⌜ Renewed s at (now (fields .entry)) (now (table .entry)) (now (table .exit)) ⌝ }
 {
-    let Parts::Sound(f) = field_ends(s, ROW_MAP, table, at + 1) else {
+    let Parts::Sound(f) = field_ends(s, true, ROW_MAP, table, at + 1) else {
         // Not reached: the row is sound.
         return;
     };
@@ -183,14 +185,16 @@ pub fn update(s: Measures, own: usize, table: &mut [u8], fields: &[u8]) -> Servi
     if s.m <= own {
         return Service::Refused(Refusal::Number);
     }
-    if !directory(s, size, table) {
-        return Service::Refused(Refusal::Form);
+    if let Verdict::Broken(r) = directory(s, size, table) {
+        return Service::Refused(r);
     }
-    let Parts::Sound(e) = whole_record(s, fields) else {
-        return Service::Refused(Refusal::Form);
-    };
-    renew(s, size, own * size, e, fields, table);
-    Service::Served(0)
+    match whole_record(s, fields) {
+        Record::Broken(r) => Service::Refused(r),
+        Record::Sound(e) => {
+            renew(s, size, own * size, e, fields, table);
+            Service::Served(0)
+        }
+    }
 }
 
 // The rows, in the answer's room.
@@ -209,8 +213,8 @@ pub fn scan(s: Measures, table: &[u8], room: &mut [u8]) -> Service
     if room.len() < all {
         return Service::Refused(Refusal::Short);
     }
-    if !directory(s, size, table) {
-        return Service::Refused(Refusal::Form);
+    if let Verdict::Broken(r) = directory(s, size, table) {
+        return Service::Refused(r);
     }
     copy(room, 0, table, 0, all);
     Service::Served(all)

@@ -46,8 +46,12 @@ pub enum Refusal {
     Short,
     // 3: client or node number out of bounds
     Number,
-    // 4: a record, table, message or joined frame breaks its form
+    // 4: a record, table, message or joined frame breaks its form; of an update's record, its bit map alone
     Form,
+    // 11: an update's record is empty, or its length differs from what its fields need
+    Length,
+    // 12: a pointer in an update's record breaks its rule
+    Rule,
     // 5: a start while an operation is open, or a directory answer not awaited
     OutOfTurn,
     // 6: page too long

@@ -39,11 +39,13 @@ text-enough s l e =
     let d = and-right (ltb (s .k * s .f - 4) (l .page)) _ c in
     leb-true (2 * (s .k * s .f) + 32) (l .text) (and-left (leb (2 * (s .k * s .f) + 32) (l .text)) _ d)
 
-number-small : (r : Refusal) → number r < 10
+number-small : (r : Refusal) → number r < 100
 number-small Refusal.Measures = omega arith
 number-small Refusal.Short = omega arith
 number-small Refusal.Number = omega arith
 number-small Refusal.Form = omega arith
+number-small Refusal.Length = omega arith
+number-small Refusal.Rule = omega arith
 number-small Refusal.OutOfTurn = omega arith
 number-small Refusal.TooLong = omega arith
 number-small Refusal.Spent = omega arith
@@ -64,7 +66,7 @@ no-line l n e =
     let z : _≡_ {A = ℕ} 0 1 = cc in omega arith
 
 module _ (s : Measures) (ok : passes s ≡ true) where
-  pub refused-fits : (x : ℕ) → x < 10 → length (refusedLine x) ≤ 2 * (s .k * s .f) + 32
+  pub refused-fits : (x : ℕ) → x < 100 → length (refusedLine x) ≤ 2 * (s .k * s .f) + 32
   refused-fits x h = omega (arith, refused-length x h)
 
   pub header-fits : small s ≡ true → length (headerLine (s .m) (s .n) (s .k) (s .t) (s .f)) ≤ 2 * (s .k * s .f) + 32
@@ -140,7 +142,7 @@ header-whole s l memory text memory′ text′ y len e g w =
 
 -- of an answer, in a text that has room
 module _ (s : Measures) (ok : passes s ≡ true) (text after : List ℕ) (r : ℕ) (room : 2 * (s .k * s .f) + 32 ≤ length text) where
-  pub refused-whole : (x : ℕ) → x < 10 → written after r ≡ putLine text (refusedLine x) → Whole (refusedLine x) text after r
+  pub refused-whole : (x : ℕ) → x < 100 → written after r ≡ putLine text (refusedLine x) → Whole (refusedLine x) text after r
   refused-whole x h i = whole _ text after r i (omega (arith, refused-fits s ok x h))
 
   pub told-whole : (c : ℕ) → c < 4294967296 → (what : Happened) → ((a : ClientAnswer) → what ≡ Happened.ByClient a → Bounded s a) → (out l : List ℕ)

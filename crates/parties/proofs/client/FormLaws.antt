@@ -27,7 +27,7 @@ use Rattle.parties.specs.protocol.Directory.{readIndex}
 use Rattle.parties.specs.protocol.Message.{properVersion}
 use Rattle.parties.specs.protocol.Client.{Phase as Work, Fetches, readPage, readSome, readStores, readPieces, readFetches, readWork, writeWork, workSize}
 use Rattle.parties.specs.protocol.Client.{properReserved, readReserved, pointerArea, readRetained, readClient}
-use Rattle.parties.proofs.protocol.formats.FormatLaws.{Format, format-bytes, format-number}
+use Rattle.parties.proofs.protocol.formats.FormatLaws.{Format, number-one, format-bytes, format-number}
 use Rattle.parties.proofs.protocol.formats.MeasureLaws.{passed}
 use Rattle.parties.proofs.protocol.formats.PointerLaws.{format-pointer, none-pointer}
 use Rattle.parties.proofs.protocol.formats.RowLaws.{pointer-fits}
@@ -38,7 +38,7 @@ use Rattle.parties.specs.records.Places.{versionAt}
 use Rattle.parties.specs.client.Record.{recordOf, workAt, isSome}
 use Rattle.parties.proofs.records.FormLaws.{Goes, left-read, none-read, rest-make, rest-mapped, rest-both, rest-many, rest-zeros, rest-area, none-area, rest-check, none-either}
 use Rattle.parties.proofs.records.FormLaws.{fixed-fits, fixed-number, fixed-many, fixed-bytes}
-use Rattle.parties.proofs.records.RecordLaws.{bytes-drop, number-one, not-none, chain-some, chain-none, indices-fixed}
+use Rattle.parties.proofs.records.RecordLaws.{bytes-drop, not-none, chain-some, chain-none, indices-fixed}
 use Rattle.parties.proofs.records.SizeLaws.{pointer-bound, pointers-bound}
 use Rattle.parties.proofs.records.PlaceLaws.{version-read}
 

@@ -2,7 +2,7 @@
 use mathlib.Core.Path.{_≡_, refl, sym, ap, _∙_}
 use mathlib.Core.Bool.{Bool, true, false, cond, _&&_}
 use mathlib.Core.List.{List, []}
-use mathlib.Core.Option.{Option, some, none}
+use mathlib.Core.Option.{Option, some}
 use Prim.Native.Nat.{ℕ, _+_, _-_, _*_, _≤_}
 use native.Mathlib.Omega.{arith}
 use lib.Dec.{leb, ltb}
@@ -15,6 +15,7 @@ use Rattle.parties.specs.protocol.Format.{Read}
 use Rattle.parties.specs.protocol.Measures.{rowSize}
 use Rattle.parties.specs.protocol.Version.{nextSequence}
 use Rattle.parties.specs.protocol.Directory.{Row, readDirectory}
+use Rattle.parties.specs.protocol.Verdict.{Verdict, broken, judged, rowsVerdict}
 use Rattle.parties.specs.protocol.Reading.{pick}
 use Rattle.parties.specs.protocol.Deposit.{highest}
 use Rattle.parties.specs.protocol.Answer.{ClientAnswer, refused, spent}
@@ -27,7 +28,7 @@ use Rattle.parties.specs.client.Draw.{rowsOf, pageOf, drawEnd}
 use Rattle.parties.specs.client.Choose.{fetchEnd}
 use Rattle.parties.specs.client.Freeze.{newPointer, freezeEnd}
 use Rattle.parties.specs.client.Scan.{scannedEnd, spentEnd}
-use Rattle.parties.proofs.records.FormLaws.{left-read, none-read}
+use Rattle.parties.proofs.records.FormLaws.{left-read}
 use Rattle.parties.proofs.client.AreaLaws.{idle-work, ShownClient, turned-written}
 use Rattle.parties.proofs.client.GateLaws.{long-record, through, Opened, found, found-reads, found-shows}
 use Rattle.parties.proofs.client.StepLaws.{scanning-step, freezing-step, picking-step}
@@ -145,7 +146,7 @@ module _ (s : Measures) (own : ℕ) (p : Phase) (area rows room : List ℕ) wher
   refuses a = unchanged a bytes room []
 
   abbrev does-it : Client → Step
-  does-it c = onRows (readDirectory s rows) (λ l. scannedAt s own c room l (c .phase))
+  does-it c = onRows (rowsVerdict s rows) (λ l. scannedAt s own c room l (c .phase))
 
   -- long enough, as the code and as the definitions test it
   abbrev enough : Bool
@@ -166,12 +167,11 @@ module _ (s : Measures) (own : ℕ) (p : Phase) (area rows room : List ℕ) wher
         scan-shut (after s bytes room [] (found s p area opened .rest) (does-it (found s p area opened .value)))
         (through s enough (ltb own (s .m)) bytes room [] does-it refuses (found s p area opened) (opened .measures) t within (found-reads s p area opened))
 
-    pub scan-broken : rest (readDirectory s rows) ≡ none → scanAnswer s own bytes rows room ≡ unchanged (refused 4) bytes room []
-    scan-broken f =
+    pub scan-broken : (n : ℕ) → rowsVerdict s rows ≡ broken n → scanAnswer s own bytes rows room ≡ unchanged (refused n) bytes room []
+    scan-broken n f =
         scan-through
-        ∙ ap (λ (x : Option (Read (List Row))). after s bytes room [] (found s p area opened .rest)
-        (onRows x (λ l. scannedAt s own (found s p area opened .value) room l (found s p area opened .value .phase))))
-        (none-read (readDirectory s rows) f)
+        ∙ ap (λ (x : Verdict (Read (List Row))). after s bytes room [] (found s p area opened .rest)
+        (onRows x (λ l. scannedAt s own (found s p area opened .value) room l (found s p area opened .value .phase)))) f
 
     -- the rows read
     module _ (v : List ℕ) (f : rest (readDirectory s rows) ≡ some v) where
@@ -184,7 +184,7 @@ module _ (s : Measures) (own : ℕ) (p : Phase) (area rows room : List ℕ) wher
           let c = found s p area opened in
           let d = left-read (readDirectory s rows) v f .1 in
           scan-through
-          ∙ ap (λ (x : Option (Read (List Row))). after s bytes room [] (c .rest) (onRows x (λ l. scannedAt s own (c .value) room l (c .value .phase)))) d
+          ∙ ap (λ (x : Option (Read (List Row))). after s bytes room [] (c .rest) (onRows (judged 4 x) (λ l. scannedAt s own (c .value) room l (c .value .phase)))) d
           ∙ ap (λ (x : Option (Read (List Row))). after s bytes room [] (c .rest) (scannedAt s own (c .value) room (rowsOf x) (c .value .phase))) (sym d)
           ∙ ap (λ (x : Option (Read Client)). onClient s bytes room [] x (λ c. scannedAt s own c room (rowsOf (readDirectory s rows)) (c .phase)))
           (sym (found-reads s p area opened))

@@ -2,7 +2,7 @@
 use mathlib.Core.Path.{_≡_, sym, ap, _∙_}
 use mathlib.Core.Bool.{true, false}
 use mathlib.Core.List.{List, _++_}
-use mathlib.Core.Option.{some, none}
+use mathlib.Core.Option.{some}
 use Prim.Native.Nat.{ℕ, _<_, _≤_}
 use borrow.Author.Tests.{le-leb, lt-leb}
 use lib.ListN.{length, take, drop}
@@ -10,9 +10,10 @@ use Rattle.parties.specs.declared.Measures.{Measures}
 use Rattle.parties.specs.protocol.Measures.{passes}
 use Rattle.parties.specs.protocol.Answer.{refuses, serves}
 use Rattle.parties.specs.protocol.Directory.{readDirectory}
+use Rattle.parties.specs.protocol.Verdict.{broken, judged, rowsVerdict}
 use Rattle.parties.specs.protocol.DirectoryEvents.{DirectoryEnd, directorySize, scanned, directoryScan}
 use Rattle.parties.specs.records.Form.{rest}
-use Rattle.parties.proofs.records.FormLaws.{left-read, none-read}
+use Rattle.parties.proofs.records.FormLaws.{left-read}
 
 -- the answer and the bytes of an end
 pub ends-room : (x e : DirectoryEnd) → x ≡ e → (e .answer ≡ x .answer) × (e .room ≡ x .room)
@@ -39,14 +40,14 @@ module _ (s : Measures) (table room : List ℕ) where
     scan-short-room g h = simp (p, le-leb (directorySize s) (length table) g, lt-leb (directorySize s) (length room) h)
 
     module _ (g : directorySize s ≤ length table) (h : directorySize s ≤ length room) where
-      scan-reads : directoryScan s table room ≡ scanned s table room (readDirectory s table)
+      scan-reads : directoryScan s table room ≡ scanned s table room (rowsVerdict s table)
       unfolding directoryScan
       scan-reads = simp (p, le-leb (directorySize s) (length table) g, le-leb (directorySize s) (length room) h)
 
-      pub scan-broken : rest (readDirectory s table) ≡ none → directoryScan s table room ≡ record { answer = refuses 4; table = table; room = room }
-      scan-broken e = scan-reads ∙ ap (scanned s table room) (none-read (readDirectory s table) e)
+      pub scan-broken : (n : ℕ) → rowsVerdict s table ≡ broken n → directoryScan s table room ≡ record { answer = refuses n; table = table; room = room }
+      scan-broken n e = scan-reads ∙ ap (scanned s table room) e
 
       pub scan-rows : (v : List ℕ) → rest (readDirectory s table) ≡ some v
           → directoryScan s table room
           ≡ record { answer = serves (directorySize s); table = table; room = take (directorySize s) table ++ drop (directorySize s) room }
-      scan-rows v e = scan-reads ∙ ap (scanned s table room) (left-read (readDirectory s table) v e .1)
+      scan-rows v e = scan-reads ∙ ap (scanned s table room) (ap (judged 4) (left-read (readDirectory s table) v e .1))

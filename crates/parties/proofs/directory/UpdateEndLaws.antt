@@ -14,19 +14,24 @@ use Rattle.parties.specs.declared.Measures.{Measures}
 use Rattle.parties.specs.protocol.Format.{Read, whole, writeArea}
 use Rattle.parties.specs.protocol.Measures.{passes, rowSize}
 use Rattle.parties.specs.protocol.Answer.{refuses, serves}
+use Rattle.parties.specs.protocol.Pointer.{readPointer}
 use Rattle.parties.specs.protocol.Directory.{Content, fields, readFields, writeFields, mapOf, readRecord}
 use Rattle.parties.specs.protocol.Directory.{Row, noRow, rowFields, writeRow, readRow, readDirectory, writeDirectory, updateRow}
+use Rattle.parties.specs.protocol.Verdict.{Verdict, broken, judged, rowsVerdict, recordVerdict}
 use Rattle.parties.specs.protocol.DirectoryEvents.{directorySize, onTable, directoryUpdate}
-use Rattle.parties.proofs.protocol.formats.FormatLaws.{length-area}
+use Rattle.parties.proofs.protocol.formats.FormatLaws.{number-one, length-area}
 use Rattle.parties.proofs.protocol.formats.EachLaws.{each-at}
 use Rattle.parties.proofs.protocol.formats.DirectoryLaws.{GoodRecord, format-fields, format-record}
+use Rattle.parties.proofs.protocol.formats.VerdictLaws.{as-before}
 use Rattle.parties.proofs.protocol.formats.RowLaws.{GoodRow, FitsRow, format-row, format-directory, update-good, row-fits}
 use Rattle.parties.specs.declared.records.form.Ends.{Ends}
-use Rattle.parties.specs.declared.records.form.Parts.{Parts}
+use Rattle.parties.specs.declared.records.form.Record.{Record}
+use Rattle.parties.specs.declared.Refusal.{Refusal}
+use Rattle.parties.specs.records.Answer.{number}
 use Rattle.parties.specs.records.Form.{rest, Ended, Recorded}
 use Rattle.parties.specs.directory.Room.{longestRow, Built, renewed, Renewed}
-use Rattle.parties.proofs.records.FormLaws.{left-read, none-read}
-use Rattle.parties.proofs.records.RecordLaws.{bytes-drop, number-one, ended-left}
+use Rattle.parties.proofs.records.FormLaws.{left-read}
+use Rattle.parties.proofs.records.RecordLaws.{bytes-drop, ended-left}
 use Rattle.parties.proofs.records.SizeLaws.{row-bound}
 use Rattle.parties.proofs.records.SpliceLaws.{many-at, many-set}
 use Rattle.parties.proofs.directory.RoomLaws.{built-area}
@@ -34,15 +39,15 @@ use Rattle.parties.proofs.directory.UpdateLaws.{ShownRecord, shown, ren
 
 -- ---- the record
 
-module _ (s : Measures) (t : List ℕ) (r : Parts) (h : Recorded s t r) where
-  pub recorded-sound : (e : Ends) → r ≡ Parts.Sound e → Recorded s t (Parts.Sound e)
+module _ (s : Measures) (t : List ℕ) (r : Record) (h : Recorded s t r) where
+  pub recorded-sound : (e : Ends) → r ≡ Record.Sound e → Recorded s t (Record.Sound e)
   recorded-sound e q = subst (Recorded s t) q h
 
-  pub recorded-broken : r ≡ Parts.Broken → whole (readRecord s) t ≡ none
-  recorded-broken q = subst (Recorded s t) q h
+  pub recorded-broken : (n : Refusal) → r ≡ Record.Broken n → recordVerdict s t ≡ broken (number n)
+  recorded-broken n q = subst (Recorded s t) q h
 
 record-reads : (s : Measures) (t : List ℕ) (r : Read (List (Option Content))) → 0 < length t → getD t 0 0 < 16
-    → readFields s (fields s) (getD t 0 0) (drop 1 t) ≡ some r → readRecord s t ≡ some r
+    → readFields (readPointer s) (fields s) (getD t 0 0) (drop 1 t) ≡ some r → readRecord s t ≡ some r
 unfolding readRecord
 record-reads s [] r l h e = absurd (omega arith)
 record-reads s (b ∷ v) r l h e = rw (number-one b v) (simp (lt-ltb b 16 h) (rw e refl))
@@ -54,9 +59,9 @@ pub record Says (s : Measures) (t : List ℕ) (e : Ends) : Type 0 where
   pub good : GoodRecord s update
   pub shown : ShownRecord t 1 (getD t 0 0) e update
 
-pub says : (s : Measures) (t : List ℕ) (e : Ends) → Bytes t → Recorded s t (Parts.Sound e) → Says s t e
+pub says : (s : Measures) (t : List ℕ) (e : Ends) → Bytes t → Recorded s t (Record.Sound e) → Says s t e
 says s t e b h =
-    let x = left-read (readFields s (fields s) (getD t 0 0) (drop 1 t)) (drop (e .index) t) (ended-left s t 1 (getD t 0 0) e (h .2)) in
+    let x = left-read (readFields (readPointer s) (fields s) (getD t 0 0) (drop 1 t)) (drop (e .index) t) (ended-left s (readPointer s) t 1 (getD t 0 0) e (h .2)) in
     let r = x .0 in
     let y : readRecord s t ≡ some r = record-reads s t r (h .0) (h .1) (x .1) in
     let z : length (r .rest) ≡ 0 = omega (arith, ap length (x .2), length-drop (e .index) t, h .3) in
@@ -72,7 +77,7 @@ says s t e b h =
 record Row-read (s : Measures) (t : List ℕ) (at : ℕ) (v : Row) : Type 0 where
   pub good : GoodRow s v
   pub after : List ℕ
-  pub read : readFields s (fields s) 15 (drop (at + 1) t) ≡ some (record { value = rowFields v; rest = after })
+  pub read : readFields (readPointer s) (fields s) 15 (drop (at + 1) t) ≡ some (record { value = rowFields v; rest = after })
 
 row-reads : (s : Measures) (t : List ℕ) (at : ℕ) (r : Read Row) → Bytes t → readRow s (drop at t) ≡ some r → Row-read s t at (r .value)
 unfolding writeArea mapOf
@@ -86,18 +91,18 @@ row-reads s t at r b e =
     record {
       good = x .0 .0 .0;
       after = z ++ r .rest;
-      read = ap (readFields s (fields s) 15) d ∙ format-fields s (fields s) 15 .back (rowFields v) (x .0 .0 .0 .0 .1) (z ++ r .rest);
+      read = ap (readFields (readPointer s) (fields s) 15) d ∙ format-fields s (fields s) 15 .back (rowFields v) (x .0 .0 .0 .0 .1) (z ++ r .rest);
     }
 
 -- a row that reads has sound fields
 pub row-fields-sound : (s : Measures) (t : List ℕ) (at : ℕ) (r : Read Row) → Bytes t → readRow s (drop at t) ≡ some r
-    → rest (readFields s (fields s) 15 (drop (at + 1) t)) ≡ none → ⊥
+    → rest (readFields (readPointer s) (fields s) 15 (drop (at + 1) t)) ≡ none → ⊥
 row-fields-sound s t at r b e n = let x = row-reads s t at r b e in none≢some (sym n ∙ ap rest (x .read))
 
 -- ---- the row put together anew
 
 module _ (s : Measures) (p : passes s ≡ true) (record-bytes table : List ℕ) (at : ℕ) (e f : Ends) (a : Bytes record-bytes) (b : Bytes table)
-    (sound : Recorded s record-bytes (Parts.Sound e)) (ended : Ended s table (at + 1) 15 f) where
+    (sound : Recorded s record-bytes (Record.Sound e)) (ended : Ended s (readPointer s) table (at + 1) 15 f) where
   renews : (r : Read Row) → readRow s (drop at table) ≡ some r
       → let u = says s record-bytes e a sound .update in
       (renewed (getD record-bytes 0 0) record-bytes e table at f ≡ writeRow (updateRow u (r .value))) × GoodRow s (updateRow u (r .value))
@@ -181,22 +186,21 @@ module _ (s : Measures) (own : ℕ) (table record-bytes : List ℕ) where
       update-number o = simp (p, le-leb (directorySize s) (length table) h, le-ltb own (s .m) o)
 
       module _ (o : own < s .m) where
-        update-reads : directoryUpdate s own table record-bytes ≡ onTable s own table (readDirectory s table) (whole (readRecord s) record-bytes)
+        update-reads : directoryUpdate s own table record-bytes ≡ onTable s own table (rowsVerdict s table) (recordVerdict s record-bytes)
         unfolding directoryUpdate
         update-reads = simp (p, le-leb (directorySize s) (length table) h, lt-ltb own (s .m) o)
 
-        pub update-broken-table : rest (readDirectory s table) ≡ none
-            → directoryUpdate s own table record-bytes ≡ record { answer = refuses 4; table = table; room = [] }
-        update-broken-table e =
-            update-reads ∙ ap (λ (x : Option (Read (List Row))). onTable s own table x (whole (readRecord s) record-bytes)) (none-read (readDirectory s table) e)
+        pub update-broken-table : (n : ℕ) → rowsVerdict s table ≡ broken n
+            → directoryUpdate s own table record-bytes ≡ record { answer = refuses n; table = table; room = [] }
+        update-broken-table n e = update-reads ∙ ap (λ (x : Verdict (Read (List Row))). onTable s own table x (recordVerdict s record-bytes)) e
 
-        pub update-broken-record : (v : List ℕ) → rest (readDirectory s table) ≡ some v → whole (readRecord s) record-bytes ≡ none
-            → directoryUpdate s own table record-bytes ≡ record { answer = refuses 4; table = table; room = [] }
-        update-broken-record v e d =
-            update-reads ∙ ap₂ (onTable s own table) (left-read (readDirectory s table) v e .1) d
+        pub update-broken-record : (v : List ℕ) → rest (readDirectory s table) ≡ some v → (n : ℕ) → recordVerdict s record-bytes ≡ broken n
+            → directoryUpdate s own table record-bytes ≡ record { answer = refuses n; table = table; room = [] }
+        update-broken-record v e n d =
+            update-reads ∙ ap₂ (onTable s own table) (ap (judged 4) (left-read (readDirectory s table) v e .1)) d
 
         pub update-done : (v : List ℕ) → rest (readDirectory s table) ≡ some v
-            → Bytes table → Bytes record-bytes → (e : Ends) → Recorded s record-bytes (Parts.Sound e)
+            → Bytes table → Bytes record-bytes → (e : Ends) → Recorded s record-bytes (Record.Sound e)
             → (end : List ℕ) → Renewed s (own * rowSize s) record-bytes table end
             → directoryUpdate s own table record-bytes ≡ record { answer = serves 0; table = end; room = [] }
         update-done v d b a e sound end renew =
@@ -209,7 +213,7 @@ module _ (s : Measures) (own : ℕ) (table record-bytes : List ℕ) where
             let new = updateRow (u .update) row in
             let good : GoodRow s new = update-good s (u .update) row (u .good) (each-at (FitsRow s) noRow (r .value) (f .0 .0) own n .0 .0) in
             let fits : FitsRow s new = ((good, tt), le-leb (length (writeRow new)) (rowSize s) (row-fits s new good)) in
-            update-reads ∙ ap₂ (onTable s own table) (x .1) (u .read)
+            update-reads ∙ ap₂ (onTable s own table) (ap (judged 4) (x .1)) (as-before s record-bytes .conversely (u .update) (u .read))
             ∙ ap (λ (y : List ℕ). record { answer = serves 0; table = y; room = [] })
             (own-set s table b own o r (x .1) new fits ∙ sym (renew (u .update) row (u .read) (own-row s table b own o r (x .1))))
 

@@ -12,6 +12,7 @@ use Rattle.coding.specs.Bytes.{Bytes}
 use Rattle.coding.proofs.PageLaws.{none≢some, some-eq}
 use Rattle.parties.specs.declared.Measures.{Measures}
 use Rattle.parties.specs.protocol.Format.{Read, bind, both, mapped, writeNumber}
+use Rattle.parties.specs.protocol.Pointer.{readPointer}
 use Rattle.parties.specs.protocol.Directory.{Field, Content, fields, readContent, writeContent, readFields, writeFields}
 use Rattle.parties.specs.protocol.Directory.{mapOf, writeRecord, Row, rowFields, writeRow, merge, updateRow}
 use Rattle.parties.proofs.protocol.formats.DirectoryLaws.{GoodRecord, format-content}
@@ -38,7 +39,7 @@ record First (s : Measures) (fs : List Field) (map : ℕ) (u v : List ℕ) (r : 
   pub value : r .value ≡ field ∷ others
   pub stands : there field ≡ eqb (map % 2) 1
   pub bytes : u ≡ bytesOf field ++ v
-  pub more : readFields s fs (map / 2) v ≡ some (record { value = others; rest = r .rest })
+  pub more : readFields (readPointer s) fs (map / 2) v ≡ some (record { value = others; rest = r .rest })
 
 -- a reading of which another was made, with what that one leaves
 same-rest : (l r : Read (List (Option Content))) (x : Option Content) → record { value = x ∷ l .value; rest = l .rest } ≡ r
@@ -46,12 +47,12 @@ same-rest : (l r : Read (List (Option Content))) (x : Option Content) → record
 same-rest l r x e = ap (λ (q : Read (List (Option Content))). some (record { value = l .value; rest = q .rest })) e
 
 first-field : (s : Measures) (f : Field) (fs : List Field) (map : ℕ) (u v : List ℕ) (r : Read (List (Option Content))) → Bytes u
-    → after s f (map % 2) u ≡ some v → readFields s (f ∷ fs) map u ≡ some r → First s fs map u v r
+    → after (readPointer s) f (map % 2) u ≡ some v → readFields (readPointer s) (f ∷ fs) map u ≡ some r → First s fs map u v r
 unfolding readFields
 first-field s f fs map u v r b a e = go (eqb (map % 2) 1) refl a e
   where
     tail : (c : Read Content) → c .rest ≡ v → u ≡ writeContent (c .value) ++ v → eqb (map % 2) 1 ≡ true
-        → (o : Option (Read (List (Option Content)))) → readFields s fs (map / 2) (c .rest) ≡ o
+        → (o : Option (Read (List (Option Content)))) → readFields (readPointer s) fs (map / 2) (c .rest) ≡ o
         → bind (bind o (λ l t. some (record { value = (c .value, l); rest = t })))
         (λ (x : Content × List (Option Content)) t. some (record { value = some (x .0) ∷ x .1; rest = t })) ≡ some r
         → First s fs map u v r
@@ -63,10 +64,10 @@ first-field s f fs map u v r b a e = go (eqb (map % 2) 1) refl a e
           value = sym (ap (λ (x : Read (List (Option Content))). x .value) (some-eq e));
           stands = sym d;
           bytes = w;
-          more = ap (readFields s fs (map / 2)) (sym q) ∙ p ∙ same-rest l r (some (c .value)) (some-eq e);
+          more = ap (readFields (readPointer s) fs (map / 2)) (sym q) ∙ p ∙ same-rest l r (some (c .value)) (some-eq e);
         }
 
-    absent : eqb (map % 2) 1 ≡ false → u ≡ v → (o : Option (Read (List (Option Content)))) → readFields s fs (map / 2) u ≡ o
+    absent : eqb (map % 2) 1 ≡ false → u ≡ v → (o : Option (Read (List (Option Content)))) → readFields (readPointer s) fs (map / 2) u ≡ o
         → bind o (λ l t. some (record { value = none ∷ l; rest = t })) ≡ some r → First s fs map u v r
     absent d q none p e = absurd (none≢some e)
     absent d q (some l) p e =
@@ -76,19 +77,19 @@ first-field s f fs map u v r b a e = go (eqb (map % 2) 1) refl a e
           value = sym (ap (λ (x : Read (List (Option Content))). x .value) (some-eq e));
           stands = sym d;
           bytes = q;
-          more = ap (readFields s fs (map / 2)) (sym q) ∙ p ∙ same-rest l r none (some-eq e);
+          more = ap (readFields (readPointer s) fs (map / 2)) (sym q) ∙ p ∙ same-rest l r none (some-eq e);
         }
 
-    go : (t : Bool) → eqb (map % 2) 1 ≡ t → cond t (rest (readContent s f u)) (some u) ≡ some v
+    go : (t : Bool) → eqb (map % 2) 1 ≡ t → cond t (rest (readContent (readPointer s) f u)) (some u) ≡ some v
         → cond t
-        (mapped (λ (x : Content × List (Option Content)). some (x .0) ∷ x .1) (both (readContent s f) (λ c. readFields s fs (map / 2)) (λ c l. (c, l))))
-        (mapped (λ l. none ∷ l) (readFields s fs (map / 2))) u ≡ some r
+        (mapped (λ (x : Content × List (Option Content)). some (x .0) ∷ x .1) (both (readContent (readPointer s) f) (λ c. readFields (readPointer s) fs (map / 2)) (λ c l. (c, l))))
+        (mapped (λ l. none ∷ l) (readFields (readPointer s) fs (map / 2))) u ≡ some r
         → First s fs map u v r
     go true d a e =
-        let x = left-read (readContent s f u) v a in
+        let x = left-read (readContent (readPointer s) f u) v a in
         let w = format-content s f .only u (x .0) b (x .1) in
-        tail (x .0) (x .2) (w .1 ∙ ap (λ (y : List ℕ). writeContent (x .0 .value) ++ y) (x .2)) d (readFields s fs (map / 2) (x .0 .rest)) refl (rw (x .1) at e)
-    go false d a e = absent d (some-eq a) (readFields s fs (map / 2) u) refl e
+        tail (x .0) (x .2) (w .1 ∙ ap (λ (y : List ℕ). writeContent (x .0 .value) ++ y) (x .2)) d (readFields (readPointer s) fs (map / 2) (x .0 .rest)) refl (rw (x .1) at e)
+    go false d a e = absent d (some-eq a) (readFields (readPointer s) fs (map / 2) u) refl e
 
 -- bytes that go before those from a place on are the slice up to it
 sliced : (t p : List ℕ) (at a : ℕ) → at ≤ a → a ≤ length t → drop at t ≡ p ++ drop a t → range at a t ≡ p
@@ -109,12 +110,12 @@ pub record ShownRecord (t : List ℕ) (at map : ℕ) (e : Ends) (l : List (Optio
   pub bytes : (range at (e .written) t ≡ bytesOf written) × (range (e .written) (e .frozen) t ≡ bytesOf frozen)
       × (range (e .frozen) (e .indices) t ≡ bytesOf indices) × (range (e .indices) (e .index) t ≡ bytesOf index)
 
-no-fields : (s : Measures) (map : ℕ) (u : List ℕ) (r : Read (List (Option Content))) → readFields s [] map u ≡ some r → r .value ≡ []
+no-fields : (s : Measures) (map : ℕ) (u : List ℕ) (r : Read (List (Option Content))) → readFields (readPointer s) [] map u ≡ some r → r .value ≡ []
 unfolding readFields
 no-fields s map u r e = sym (ap (λ (x : Read (List (Option Content))). x .value) (some-eq e))
 
-pub shown : (s : Measures) (t : List ℕ) (at map : ℕ) (e : Ends) (r : Read (List (Option Content))) → Bytes t → Ended s t at map e
-    → readFields s (fields s) map (drop at t) ≡ some r → ShownRecord t at map e (r .value)
+pub shown : (s : Measures) (t : List ℕ) (at map : ℕ) (e : Ends) (r : Read (List (Option Content))) → Bytes t → Ended s (readPointer s) t at map e
+    → readFields (readPointer s) (fields s) map (drop at t) ≡ some r → ShownRecord t at map e (r .value)
 shown s t at map e r b h q =
     let o = h .ordered in
     let w = first-field s (Field.pointers 1) (Field.pointers (s .m) ∷ Field.indices (s .m) ∷ Field.indices 1 ∷ []) map

@@ -4,6 +4,7 @@ pub mod MeasureLaws
 pub mod VersionLaws
 pub mod PointerLaws
 pub mod DirectoryLaws
+pub mod VerdictLaws
 pub mod RowLaws
 pub mod NodeTableLaws
 pub mod NodeMapLaws

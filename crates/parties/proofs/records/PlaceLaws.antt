@@ -19,10 +19,9 @@ use Rattle.parties.specs.protocol.Measures.{placeSize}
 use Rattle.parties.specs.protocol.Pointer.{readVersion, writeVersion}
 use Rattle.parties.specs.protocol.Message.{properVersion}
 use Rattle.parties.specs.protocol.NodeTable.{Held, properHeld, readPiece, writePiece, readHeld, writeHeld}
-use Rattle.parties.proofs.protocol.formats.FormatLaws.{format-number}
+use Rattle.parties.proofs.protocol.formats.FormatLaws.{number-one, format-number}
 use Rattle.parties.proofs.protocol.formats.PointerLaws.{GoodVersion, format-version, length-number, length-version}
 use Rattle.parties.proofs.records.BytesLaws.{number-two, number-four, two-read, four-read}
-use Rattle.parties.proofs.records.RecordLaws.{number-one}
 use Rattle.parties.specs.records.Places.{numberAt, versionAt, properAt, versionAlone, lengthAt, pieceAt, heldAt, zeroRun, soundAt}
 
 -- ---- numbers and versions

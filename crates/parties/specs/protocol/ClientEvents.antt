@@ -18,7 +18,8 @@ use Rattle.parties.specs.protocol.Measures.{passes, rowSize}
 use Rattle.parties.specs.protocol.Version.{nextSequence, nextIndex}
 use Rattle.parties.specs.protocol.Nodes.{count, stands, withNode}
 use Rattle.parties.specs.protocol.Pointer.{Pointer, isNone}
-use Rattle.parties.specs.protocol.Directory.{Row, readDirectory, writeRecord}
+use Rattle.parties.specs.protocol.Directory.{Row, writeRecord}
+use Rattle.parties.specs.protocol.Verdict.{Verdict, sound, broken, rowsVerdict}
 use Rattle.parties.specs.protocol.Message.{ToNode, ToClient, readToClient, writeToNode}
 use Rattle.parties.specs.protocol.Client.{Phase, idle, scanning, storing, updating, freezing, raising, picking, fetching, Client, readClient, writeClient, clientSize, freshClient, lengths, areas}
 use Rattle.parties.specs.protocol.Deposit.{highest, digestsOf, pointerOf, depositFields, frozenAfter, freed}
@@ -251,15 +252,15 @@ updateAnswer s own client room =
     (onClient s client room [] (readClient s client) (λ c. acknowledgedAt c room (c .phase)))
     (λ a. unchanged a client room [])
 
-abbrev pub onRows : Option (Read (List Row)) → (List Row → Step) → Step
-onRows none f = stays (refused 4)
-onRows (some r) f = f (r .value)
+abbrev pub onRows : Verdict (Read (List Row)) → (List Row → Step) → Step
+onRows (broken n) f = stays (refused n)
+onRows (sound r) f = f (r .value)
 
 -- the rows of a scan
 unfoldable pub scanAnswer : Measures → ℕ → List ℕ → List ℕ → List ℕ → ClientEnd
 scanAnswer s own client rows room =
     guarded s (leb (clientSize s) (length client) && (leb (s .m * rowSize s) (length rows) && leb (roomSize s) (length room))) (ltb own (s .m))
-    (onClient s client room [] (readClient s client) (λ c. onRows (readDirectory s rows) (λ l. scannedAt s own c room l (c .phase))))
+    (onClient s client room [] (readClient s client) (λ c. onRows (rowsVerdict s rows) (λ l. scannedAt s own c room l (c .phase))))
     (λ a. unchanged a client room [])
 
 abbrev pub onMessage : {A : Type 0} → Option A → (A → Step) → Step

@@ -1,5 +1,5 @@
 -- The directory: its record, its rows and its table.
-use mathlib.Core.Bool.{cond}
+use mathlib.Core.Bool.{Bool, cond}
 use mathlib.Core.List.{List, [], _∷_, _++_}
 use mathlib.Core.Option.{Option, some, none}
 use Prim.Native.Nat.{ℕ, _+_, _*_, _/_, _%_, _^_}
@@ -31,21 +31,22 @@ readIndex = mapped (λ n. record { 0 = n }) (readNumber 4)
 unfoldable pub writeIndex : ReadingIndex → List ℕ
 writeIndex i = writeNumber 4 (i .0)
 
-unfoldable pub readContent : Measures → Field → Reader Content
-readContent s (pointers n) = mapped pointersOf (readMany (readPointer s) n)
-readContent s (indices n) = mapped indicesOf (readMany readIndex n)
+-- a field, given how a pointer is read
+unfoldable pub readContent : Reader Pointer → Field → Reader Content
+readContent r (pointers n) = mapped pointersOf (readMany r n)
+readContent r (indices n) = mapped indicesOf (readMany readIndex n)
 
 unfoldable pub writeContent : Content → List ℕ
 writeContent (pointersOf l) = writeMany writePointer l
 writeContent (indicesOf l) = writeMany writeIndex l
 
 -- the fields whose bit stands, in order
-unfoldable pub readFields : Measures → List Field → ℕ → Reader (List (Option Content))
-readFields s [] map = mapped (λ u. []) readNothing
-readFields s (f ∷ fs) map =
+unfoldable pub readFields : Reader Pointer → List Field → ℕ → Reader (List (Option Content))
+readFields r [] map = mapped (λ u. []) readNothing
+readFields r (f ∷ fs) map =
     cond (eqb (map % 2) 1)
-    (mapped (λ (x : Content × List (Option Content)). some (x .0) ∷ x .1) (both (readContent s f) (λ c. readFields s fs (map / 2)) (λ c l. (c, l))))
-    (mapped (λ l. none ∷ l) (readFields s fs (map / 2)))
+    (mapped (λ (x : Content × List (Option Content)). some (x .0) ∷ x .1) (both (readContent r f) (λ c. readFields r fs (map / 2)) (λ c l. (c, l))))
+    (mapped (λ l. none ∷ l) (readFields r fs (map / 2)))
 
 unfoldable pub writeFields : List (Option Content) → List ℕ
 writeFields [] = []
@@ -58,9 +59,13 @@ mapOf [] = 0
 mapOf (none ∷ l) = 2 * mapOf l
 mapOf (some c ∷ l) = 1 + 2 * mapOf l
 
--- a directory record: a bit map byte, upper bits zero, then the fields whose bit stands
+-- a bit map whose upper bits are zero
+abbrev pub properMap : Measures → ℕ → Bool
+properMap s map = ltb map (2 ^ length (fields s))
+
+-- a directory record: a bit map byte, then the fields whose bit stands
 unfoldable pub readRecord : Measures → Reader (List (Option Content))
-readRecord s = both (given (λ map. ltb map (2 ^ length (fields s))) (readNumber 1)) (λ map. readFields s (fields s) map) (λ map l. l)
+readRecord s = both (given (properMap s) (readNumber 1)) (λ map. readFields (readPointer s) (fields s) map) (λ map l. l)
 
 unfoldable pub writeRecord : List (Option Content) → List ℕ
 writeRecord l = writeNumber 1 (mapOf l) ++ writeFields l

@@ -1,14 +1,15 @@
 -- Events at the directory: an atomic snapshot object with an update and a scan.
 use mathlib.Core.Bool.{cond, _&&_}
 use mathlib.Core.List.{List, [], _++_}
-use mathlib.Core.Option.{Option, some, none}
+use mathlib.Core.Option.{Option}
 use Prim.Native.Nat.{ℕ, _*_}
 use lib.Dec.{leb, ltb}
 use lib.ListN.{length, take, drop, getD, set}
 use Rattle.parties.specs.declared.Measures.{Measures}
-use Rattle.parties.specs.protocol.Format.{Read, whole}
+use Rattle.parties.specs.protocol.Format.{Read}
 use Rattle.parties.specs.protocol.Measures.{passes, rowSize}
-use Rattle.parties.specs.protocol.Directory.{Content, Row, noRow, readRecord, readDirectory, writeDirectory, freshDirectory, updateRow}
+use Rattle.parties.specs.protocol.Directory.{Content, Row, noRow, writeDirectory, freshDirectory, updateRow}
+use Rattle.parties.specs.protocol.Verdict.{Verdict, sound, broken, recordVerdict, rowsVerdict}
 use Rattle.parties.specs.protocol.Answer.{Served, refuses, serves}
 
 pub record DirectoryEnd : Type 0 where
@@ -29,10 +30,10 @@ directoryFresh s table =
     (record { answer = refuses 2; table = table; room = [] }))
     (record { answer = refuses 1; table = table; room = [] })
 
-abbrev pub onTable : Measures → ℕ → List ℕ → Option (Read (List Row)) → Option (List (Option Content)) → DirectoryEnd
-onTable s own table none u = record { answer = refuses 4; table = table; room = [] }
-onTable s own table (some r) none = record { answer = refuses 4; table = table; room = [] }
-onTable s own table (some r) (some u) =
+abbrev pub onTable : Measures → ℕ → List ℕ → Verdict (Read (List Row)) → Verdict (List (Option Content)) → DirectoryEnd
+onTable s own table (broken n) u = record { answer = refuses n; table = table; room = [] }
+onTable s own table (sound r) (broken n) = record { answer = refuses n; table = table; room = [] }
+onTable s own table (sound r) (sound u) =
     record {
       answer = serves 0;
       table = writeDirectory s (set (r .value) own (updateRow u (getD (r .value) own noRow))) ++ r .rest;
@@ -44,20 +45,20 @@ unfoldable pub directoryUpdate : Measures → ℕ → List ℕ → List ℕ → 
 directoryUpdate s own table fields =
     cond (passes s)
     (cond (leb (directorySize s) (length table))
-    (cond (ltb own (s .m)) (onTable s own table (readDirectory s table) (whole (readRecord s) fields))
+    (cond (ltb own (s .m)) (onTable s own table (rowsVerdict s table) (recordVerdict s fields))
     (record { answer = refuses 3; table = table; room = [] }))
     (record { answer = refuses 2; table = table; room = [] }))
     (record { answer = refuses 1; table = table; room = [] })
 
-abbrev pub scanned : Measures → List ℕ → List ℕ → Option (Read (List Row)) → DirectoryEnd
-scanned s table room none = record { answer = refuses 4; table = table; room = room }
-scanned s table room (some r) =
+abbrev pub scanned : Measures → List ℕ → List ℕ → Verdict (Read (List Row)) → DirectoryEnd
+scanned s table room (broken n) = record { answer = refuses n; table = table; room = room }
+scanned s table room (sound r) =
     record { answer = serves (directorySize s); table = table; room = take (directorySize s) table ++ drop (directorySize s) room }
 
 -- dir-Scan: the rows, in the answer's room
 unfoldable pub directoryScan : Measures → List ℕ → List ℕ → DirectoryEnd
 directoryScan s table room =
     cond (passes s)
-    (cond (leb (directorySize s) (length table) && leb (directorySize s) (length room)) (scanned s table room (readDirectory s table))
+    (cond (leb (directorySize s) (length table) && leb (directorySize s) (length room)) (scanned s table room (rowsVerdict s table))
     (record { answer = refuses 2; table = table; room = room }))
     (record { answer = refuses 1; table = table; room = room })

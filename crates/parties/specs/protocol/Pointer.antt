@@ -46,8 +46,12 @@ readNamed = both (readNumber 2) (λ map. readMany (readBytes 32) (length (nodesI
 unfoldable pub writeNamed : Named → List ℕ
 writeNamed x = writeNumber 2 (x .nodes) ++ writeMany (λ d. d) (x .digests)
 
+-- a pointer by its length alone: 7 bytes, and 32 for each standing bit of its node map
+abbrev pub readAnyPointer : Reader Pointer
+readAnyPointer = both readVersion (λ v. readNamed) (λ v x. record { version = v; named = x })
+
 unfoldable pub readPointer : Measures → Reader Pointer
-readPointer s = given (properPointer s) (both readVersion (λ v. readNamed) (λ v x. record { version = v; named = x }))
+readPointer s = given (properPointer s) readAnyPointer
 
 unfoldable pub writePointer : Pointer → List ℕ
 writePointer p = writeVersion (p .version) ++ writeNamed (p .named)

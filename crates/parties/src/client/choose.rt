@@ -49,7 +49,7 @@ pub fn past(s: Measures, n: usize, t: &[u8], at: usize) -> usize
     requires { ⌜ (passes s ≡ true) × (at ≤ length (now t)) × (isSome (readMany (readPointer s) n (drop at (now t))) ≡ true) ⌝ }
     ensures { λ r. ⌜ (rest (readMany (readPointer s) n (drop at (now (t .entry)))) ≡ some (drop r (now (t .entry)))) × (r ≤ length (now (t .entry))) ⌝ }
 {
-    let Form::Sound(next) = pointers(s, n, t, at) else {
+    let Form::Sound(next) = pointers(s, true, n, t, at) else {
         return at;
     };
     next

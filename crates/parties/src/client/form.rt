@@ -62,7 +62,7 @@ fn pointer_area(s: Measures, size: usize, t: &[u8], at: usize) -> bool
     requires { ⌜ (passes s ≡ true) × (size ≡ pointerSize s) × (at + pointerSize s ≤ length (now t)) ⌝ }
     ensures { λ r. ⌜ rest (pointerArea s (drop at (now (t .entry)))) ≡ cond r (some (drop (at + pointerSize s) (now (t .entry)))) none ⌝ }
 {
-    let Form::Sound(next) = pointer(s, t, at) else {
+    let Form::Sound(next) = pointer(s, true, t, at) else {
         return false;
     };
     zero_run(t, next, at + size)
@@ -173,7 +173,7 @@ fn some_form(s: Measures, t: &[u8], at: usize) -> Form
     if version_at(t, at).is_none() {
         return Form::Broken;
     }
-    pointer(s, t, at)
+    pointer(s, true, t, at)
 }
 
 // A piece of l bytes in its area.

@@ -29,6 +29,7 @@ use crate::records::bytes::clear;
 use crate::records::bytes::copy;
 use crate::records::bytes::put_u32;
 use crate::records::form::READING_MAP;
+use crate::records::form::Verdict;
 use crate::records::form::directory;
 use crate::records::form::pointer_size;
 use crate::records::form::row_size;
@@ -202,8 +203,8 @@ pub fn scan_answer(
         return refuse(p, r);
     }
     let size = row_size(s);
-    if !directory(s, size, rows) {
-        return refuse(p, Refusal::Form);
+    if let Verdict::Broken(r) = directory(s, size, rows) {
+        return refuse(p, r);
     }
     let a = after_scan(s, own, p, area, rows, room);
     Turned {

@@ -1,4 +1,4 @@
-// Document 01's number of a refusal.
+// The papers' number of a refusal.
 use crate::Refusal;
 ghost use mathlib.Core.Path.{_≡_};
 ghost use Rattle.parties.specs.records.Answer.{number as numberOf};
@@ -12,6 +12,8 @@ impl Refusal {
             Refusal::Short => 2,
             Refusal::Number => 3,
             Refusal::Form => 4,
+            Refusal::Length => 11,
+            Refusal::Rule => 12,
             Refusal::OutOfTurn => 5,
             Refusal::TooLong => 6,
             Refusal::Spent => 7,

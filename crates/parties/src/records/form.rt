@@ -1,22 +1,21 @@
 // Form tests: whether a record at a place of some bytes keeps its form, and where it ends.
 use crate::Measures;
+use crate::Refusal;
 use crate::Version;
 use crate::records::bytes::u16_at;
 use crate::records::bytes::zero_run;
 use crate::records::nodes::count;
 use crate::records::version::version_at;
 ghost use mathlib.Core.Path.{_≡_};
-ghost use mathlib.Core.Bool.{true, cond};
-ghost use mathlib.Core.Option.{some, none};
+ghost use mathlib.Core.Bool.{true};
 ghost use Prim.Native.Nat.{_+_, _*_, _^_, _≤_};
 ghost use lib.Dec.{ltb};
 ghost use lib.ListN.{length, drop};
 ghost use Rattle.parties.specs.protocol.Measures.{passes, pointerSize, rowSize};
 ghost use Rattle.parties.specs.protocol.Nodes.{count};
-ghost use Rattle.parties.specs.protocol.Pointer.{readPointer};
 ghost use Rattle.parties.specs.protocol.Format.{readMany};
-ghost use Rattle.parties.specs.protocol.Directory.{Field, readRow, readDirectory};
-ghost use Rattle.parties.specs.records.Form.{rest, Formed, properFront, afterIf, Parted, Recorded};
+ghost use Rattle.parties.specs.protocol.Directory.{Field};
+ghost use Rattle.parties.specs.records.Form.{rest, Formed, pointerBy, properFront, allowedFront, afterIf, Indexed, Parted, Recorded, Rowed, Tabled};
 
 // Four bits of a directory record's map stand for its fields: the maps are below 16, and a row's has all four.
 pub(crate) const MAPS: u8 = 16;
@@ -43,10 +42,22 @@ pub struct Ends {
     pub index: usize,
 }
 
-// Of a directory record.
+// Of a directory record's fields.
 pub enum Parts {
     Sound(Ends),
     Broken,
+}
+
+// Of the record of an update: where its fields end, or why it is refused.
+pub enum Record {
+    Sound(Ends),
+    Broken(Refusal),
+}
+
+// Of a directory row or table: why it is refused, if it is.
+pub enum Verdict {
+    Sound,
+    Broken(Refusal),
 }
 
 // No bit stands for a node above n.
@@ -74,10 +85,21 @@ fn proper(s: Measures, v: Version, map: u16, nodes: usize) -> bool
     within(map, s.n)
 }
 
-// Seven bytes that are proper, and a digest for each node.
-pub(crate) fn pointer(s: Measures, t: &[u8], at: usize) -> Form
+// By its length alone a pointer may be any.
+fn allowed(s: Measures, ruled: bool, v: Version, map: u16, nodes: usize) -> bool
+    requires { ⌜ (passes s ≡ true) × (nodes ≡ count map) ⌝ }
+    ensures { λ r. ⌜ r ≡ allowedFront s ruled v map ⌝ }
+{
+    if !ruled {
+        return true;
+    }
+    proper(s, v, map, nodes)
+}
+
+// Seven bytes, and a digest for each node of the map; with the rule, or by the length alone.
+pub(crate) fn pointer(s: Measures, ruled: bool, t: &[u8], at: usize) -> Form
     requires { ⌜ (passes s ≡ true) × (at ≤ length (now t)) ⌝ }
-    ensures { λ r. ⌜ Formed (now (t .entry)) at (rest (readPointer s (drop at (now (t .entry))))) r ⌝ }
+    ensures { λ r. ⌜ Formed (now (t .entry)) at (rest (pointerBy s ruled (drop at (now (t .entry))))) r ⌝ }
 {
     let left = t.len() - at;
     if left < 7 {
@@ -87,7 +109,7 @@ pub(crate) fn pointer(s: Measures, t: &[u8], at: usize) -> Form
     let map = u16_at(t, at + 5);
     let nodes = count(map);
     let size = 7 + 32 * nodes;
-    if !proper(s, v, map, nodes) {
+    if !allowed(s, ruled, v, map, nodes) {
         return Form::Broken;
     }
     if left < size {
@@ -96,13 +118,13 @@ pub(crate) fn pointer(s: Measures, t: &[u8], at: usize) -> Form
     Form::Sound(at + size)
 }
 
-pub(crate) fn pointers(s: Measures, n: usize, t: &[u8], at: usize) -> Form
+pub(crate) fn pointers(s: Measures, ruled: bool, n: usize, t: &[u8], at: usize) -> Form
     requires { ⌜ (passes s ≡ true) × (at ≤ length (now t)) ⌝ }
-    ensures { λ r. ⌜ Formed (now (t .entry)) at (rest (readMany (readPointer s) n (drop at (now (t .entry))))) r ⌝ }
+    ensures { λ r. ⌜ Formed (now (t .entry)) at (rest (readMany (pointerBy s ruled) n (drop at (now (t .entry))))) r ⌝ }
 {
     let mut p = at;
     for i in 0..n {
-        let Form::Sound(next) = pointer(s, t, p) else {
+        let Form::Sound(next) = pointer(s, ruled, t, p) else {
             return Form::Broken;
         };
         p = next;
@@ -111,20 +133,20 @@ pub(crate) fn pointers(s: Measures, n: usize, t: &[u8], at: usize) -> Form
 }
 
 // A field of n pointers, if its bit stands.
-fn pointers_if(s: Measures, stands: bool, n: usize, t: &[u8], at: usize) -> Form
+fn pointers_if(s: Measures, ruled: bool, stands: bool, n: usize, t: &[u8], at: usize) -> Form
     requires { ⌜ (passes s ≡ true) × (at ≤ length (now t)) ⌝ }
-    ensures { λ r. ⌜ Formed (now (t .entry)) at (afterIf s (Field.pointers n) stands (drop at (now (t .entry)))) r ⌝ }
+    ensures { λ r. ⌜ Formed (now (t .entry)) at (afterIf (pointerBy s ruled) (Field.pointers n) stands (drop at (now (t .entry)))) r ⌝ }
 {
     if !stands {
         return Form::Sound(at);
     }
-    pointers(s, n, t, at)
+    pointers(s, ruled, n, t, at)
 }
 
-// A field of n indices, if its bit stands; the measures are for the contract alone.
-fn indices_if(s: Measures, stands: bool, n: usize, t: &[u8], at: usize) -> Form
+// A field of n indices, if its bit stands, whatever a pointer is.
+fn indices_if(stands: bool, n: usize, t: &[u8], at: usize) -> Form
     requires { ⌜ (n ≤ 8) × (at ≤ length (now t)) ⌝ }
-    ensures { λ r. ⌜ Formed (now (t .entry)) at (afterIf s (Field.indices n) stands (drop at (now (t .entry)))) r ⌝ }
+    ensures { λ r. ⌜ Indexed n stands (now (t .entry)) at r ⌝ }
 {
     if !stands {
         return Form::Sound(at);
@@ -135,21 +157,21 @@ fn indices_if(s: Measures, stands: bool, n: usize, t: &[u8], at: usize) -> Form
     Form::Sound(at + 4 * n)
 }
 
-// The fields whose bit stands, one after the other.
-pub(crate) fn field_ends(s: Measures, map: u8, t: &[u8], at: usize) -> Parts
+// The fields whose bit stands, one after the other: pointers with their rule, or by their lengths alone.
+pub(crate) fn field_ends(s: Measures, ruled: bool, map: u8, t: &[u8], at: usize) -> Parts
     requires { ⌜ (passes s ≡ true) × (at ≤ length (now t)) ⌝ }
-    ensures { λ r. ⌜ Parted s (now (t .entry)) at map r ⌝ }
+    ensures { λ r. ⌜ Parted s ruled (now (t .entry)) at map r ⌝ }
 {
-    let Form::Sound(written) = pointers_if(s, map % 2 == 1, 1, t, at) else {
+    let Form::Sound(written) = pointers_if(s, ruled, map % 2 == 1, 1, t, at) else {
         return Parts::Broken;
     };
-    let Form::Sound(frozen) = pointers_if(s, map / 2 % 2 == 1, s.m, t, written) else {
+    let Form::Sound(frozen) = pointers_if(s, ruled, map / 2 % 2 == 1, s.m, t, written) else {
         return Parts::Broken;
     };
-    let Form::Sound(indices) = indices_if(s, map / 2 / 2 % 2 == 1, s.m, t, frozen) else {
+    let Form::Sound(indices) = indices_if(map / 2 / 2 % 2 == 1, s.m, t, frozen) else {
         return Parts::Broken;
     };
-    let Form::Sound(index) = indices_if(s, map / 2 / 2 / 2 % 2 == 1, 1, t, indices) else {
+    let Form::Sound(index) = indices_if(map / 2 / 2 / 2 % 2 == 1, 1, t, indices) else {
         return Parts::Broken;
     };
     Parts::Sound(Ends {
@@ -160,25 +182,28 @@ pub(crate) fn field_ends(s: Measures, map: u8, t: &[u8], at: usize) -> Parts
     })
 }
 
-// A directory record that is all of the bytes.
-pub(crate) fn whole_record(s: Measures, t: &[u8]) -> Parts
+// A directory record that is all of the bytes: its map, then its length, then the rules of its pointers.
+pub(crate) fn whole_record(s: Measures, t: &[u8]) -> Record
     requires { ⌜ passes s ≡ true ⌝ }
     ensures { λ r. ⌜ Recorded s (now (t .entry)) r ⌝ }
 {
     if t.len() < 1 {
-        return Parts::Broken;
+        return Record::Broken(Refusal::Length);
     }
     let map = t[0];
     if MAPS <= map {
-        return Parts::Broken;
+        return Record::Broken(Refusal::Form);
     }
-    let Parts::Sound(e) = field_ends(s, map, t, 1) else {
-        return Parts::Broken;
+    let Parts::Sound(l) = field_ends(s, false, map, t, 1) else {
+        return Record::Broken(Refusal::Length);
     };
-    if e.index < t.len() {
-        return Parts::Broken;
+    if l.index < t.len() {
+        return Record::Broken(Refusal::Length);
     }
-    Parts::Sound(e)
+    let Parts::Sound(e) = field_ends(s, true, map, t, 1) else {
+        return Record::Broken(Refusal::Rule);
+    };
+    Record::Sound(e)
 }
 
 // The longest pointer: a version, a map and t + k digests.
@@ -198,35 +223,38 @@ pub(crate) fn row_size(s: Measures) -> usize
     1 + (s.m + 1) * size + 4 * s.m + 4
 }
 
-// A row of so many bytes.
-fn row(s: Measures, size: usize, t: &[u8], at: usize) -> bool
+// A row of so many bytes. Whatever is wrong with it, it breaks its form.
+fn row(s: Measures, size: usize, t: &[u8], at: usize) -> Verdict
     requires { ⌜ (passes s ≡ true) × (size ≡ rowSize s) × (at + rowSize s ≤ length (now t)) ⌝ }
-    ensures { λ r. ⌜ rest (readRow s (drop at (now (t .entry)))) ≡ cond r (some (drop (at + rowSize s) (now (t .entry)))) none ⌝ }
+    ensures { λ r. ⌜ Rowed s (now (t .entry)) at r ⌝ }
 {
     if t[at] != ROW_MAP {
-        return false;
+        return Verdict::Broken(Refusal::Form);
     }
-    let Parts::Sound(e) = field_ends(s, ROW_MAP, t, at + 1) else {
-        return false;
+    let Parts::Sound(e) = field_ends(s, true, ROW_MAP, t, at + 1) else {
+        return Verdict::Broken(Refusal::Form);
     };
     let from = e.index;
-    zero_run(t, from, at + size)
+    if !zero_run(t, from, at + size) {
+        return Verdict::Broken(Refusal::Form);
+    }
+    Verdict::Sound
 }
 
 // The whole table, in one pass.
-pub(crate) fn directory(s: Measures, size: usize, t: &[u8]) -> bool
+pub(crate) fn directory(s: Measures, size: usize, t: &[u8]) -> Verdict
     requires { ⌜ (passes s ≡ true) × (size ≡ rowSize s) × (s .m * rowSize s ≤ length (now t)) ⌝ }
-    ensures { λ r. ⌜ rest (readDirectory s (now (t .entry))) ≡ cond r (some (drop (s .m * rowSize s) (now (t .entry)))) none ⌝ }
+    ensures { λ r. ⌜ Tabled s (now (t .entry)) r ⌝ }
 {
     let rows = s.m;
     let mut at = 0;
     let mut i = 0;
     while i < rows {
-        if !row(s, size, t, at) {
-            return false;
+        if let Verdict::Broken(r) = row(s, size, t, at) {
+            return Verdict::Broken(r);
         }
         at += size;
         i += 1;
     }
-    true
+    Verdict::Sound
 }

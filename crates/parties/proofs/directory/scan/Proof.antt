@@ -1,8 +1,7 @@
 use borrow.Author.Needs.{needs}
 use mathlib.Core.Path.{_≡_, sym, ap, _∙_}
-use mathlib.Core.Bool.{Bool, true, cond}
+use mathlib.Core.Bool.{true}
 use mathlib.Core.List.{_++_}
-use mathlib.Core.Option.{some, none}
 use Prim.Native.Nat.{ℕ, _+_, _*_}
 use native.Mathlib.Omega.{arith}
 use borrow.Author.Tests.{not-true, not-false}
@@ -10,6 +9,8 @@ use lib.ListN.{take, drop}
 use Rattle.parties.specs.protocol.Measures.{passes, rowSize}
 use Rattle.parties.specs.protocol.Answer.{serves}
 use Rattle.parties.specs.protocol.DirectoryEvents.{directorySize}
+use Rattle.parties.specs.records.Answer.{number}
+use Rattle.parties.proofs.records.RecordLaws.{tabled-sound, tabled-broken}
 use Rattle.parties.proofs.records.SizeLaws.{table-bound}
 use Rattle.parties.proofs.directory.EndLaws.{ends-room, scan-measures, scan-short-table, scan-short-room, scan-broken, scan-rows}
 use Rattle.parties.proofs.directory.scan.Statement.{statement}
@@ -49,12 +50,19 @@ returns-3 c =
 directory-requires : tie.Need-directory-requires
 directory-requires c κs = (good (c .before .before .before .before), c .before .before .before .row-size .ensures, omega (arith, sized (c .before .before)))
 
+enum-known-r : tie.Need-enum-known-r
+enum-known-r c = search needs
+
 returns-4 : tie.Need-returns-4
 returns-4 c =
-    let a = c .before .before .before .before .before .before .before .before .before .before .args in
-    let d = c .before .directory in
-    ends-room _ _ (scan-broken (a .s) (a .table .now) (a .room .now) (good (c .before .before .before .before .before .before)) (omega (arith, sized (c .before .before .before .before))) (omega (arith, sized (c .before .before .before .before)))
-    (d .ensures ∙ ap (λ (x : Bool). cond x (some (drop (a .s .m * rowSize (a .s)) (a .table .now))) none) (not-true (d .result) (c .if4 .taken))))
+    let a = c .before .before .before .before .before .before .before .before .before .before .before .before .args in
+    let d = c .before .before .before .directory in
+    let n = c .before .r .given .0 .0 in
+    ends-room _ _ (scan-broken (a .s) (a .table .now) (a .room .now) (good (c .before .before .before .before .before .before .before .before)) (omega (arith, sized (c .before .before .before .before .before .before))) (omega (arith, sized (c .before .before .before .before .before .before))) (number n)
+    (tabled-broken (a .s) (a .table .now) (d .result) (d .ensures) n (c .before .r .given .1)))
+
+enum-told : tie.Need-enum-told
+enum-told c = search needs
 
 copy-requires : tie.Need-copy-requires
 copy-requires c κs = search needs
@@ -64,12 +72,12 @@ same-length c = search needs
 
 returns-5 : tie.Need-returns-5
 returns-5 c =
-    let a = c .before .before .before .before .before .before .before .before .before .before .before .before .before .before .args in
-    let d = c .before .before .before .before .before .directory in
-    let e : a .s .m * c .before .before .before .before .before .before .before .before .before .row-size .result ≡ directorySize (a .s) = sized (c .before .before .before .before .before .before .before .before) in
+    let a = c .before .before .before .before .before .before .before .before .before .before .before .before .before .before .before .args in
+    let d = c .before .before .before .before .before .before .directory in
+    let e : a .s .m * c .before .before .before .before .before .before .before .before .before .before .row-size .result ≡ directorySize (a .s) = sized (c .before .before .before .before .before .before .before .before .before) in
     let z : 0 + directorySize (a .s) ≡ directorySize (a .s) = omega arith in
-    let x = ends-room _ _ (scan-rows (a .s) (a .table .now) (a .room .now) (good (c .before .before .before .before .before .before .before .before .before .before)) (omega arith) (omega arith) (drop (a .s .m * rowSize (a .s)) (a .table .now))
-    (d .ensures ∙ ap (λ (x : Bool). cond x (some (drop (a .s .m * rowSize (a .s)) (a .table .now))) none) (not-false (d .result) (c .before .before .before .before .if4 .left)))) in (
+    let x = ends-room _ _ (scan-rows (a .s) (a .table .now) (a .room .now) (good (c .before .before .before .before .before .before .before .before .before .before .before)) (omega arith) (omega arith) (drop (a .s .m * rowSize (a .s)) (a .table .now))
+    (tabled-sound (a .s) (a .table .now) (d .result) (d .ensures) (c .before .before .before .before .enum-told .given .1))) in (
       ap serves e ∙ x .0,
       c .before .before .copy .ensures ∙ ap (λ (k : ℕ). take k (a .table .now) ++ drop (0 + k) (a .room .now)) e
           ∙ ap (λ (k : ℕ). take (directorySize (a .s)) (a .table .now) ++ drop k (a .room .now)) z ∙ x .1,
@@ -86,7 +94,9 @@ scan-spec =
     returns-2
     returns-3
     directory-requires
+    enum-known-r
     returns-4
+    enum-told
     copy-requires
     same-length
     returns-5)

@@ -12,11 +12,12 @@ use Rattle.coding.proofs.EdgeCases.{edges as coding-edges}
 use Rattle.parties.specs.declared.Measures.{Measures}
 use Rattle.parties.specs.declared.ReadingIndex.{ReadingIndex}
 use Rattle.parties.specs.declared.Sequence.{Sequence}
-use Rattle.parties.specs.protocol.Format.{Read, readNumber, whole}
+use Rattle.parties.specs.protocol.Format.{Read}
 use Rattle.parties.specs.protocol.Measures.{passes}
 use Rattle.parties.specs.protocol.Version.{below, nextSequence}
 use Rattle.parties.specs.protocol.Pointer.{Pointer, nonePointer}
-use Rattle.parties.specs.protocol.Directory.{Row, readRecord, readDirectory, freshRow, freshDirectory}
+use Rattle.parties.specs.protocol.Directory.{Row, readDirectory, freshRow, freshDirectory}
+use Rattle.parties.specs.protocol.Verdict.{judged, rowsVerdict, recordVerdict}
 use Rattle.parties.specs.protocol.Client.{Phase, Client, clientSize}
 use Rattle.parties.specs.protocol.Deposit.{highest}
 use Rattle.parties.specs.protocol.Reading.{candidate, pick}
@@ -43,8 +44,8 @@ handed s own client rows room c l h =
       le-leb (roomSize s) (length room) (h .enough .2),
       lt-ltb own (s .m) (h .number),
     )
-    (ap (λ r. onClient s client room [] r (λ x. onRows (readDirectory s rows) (λ y. scannedAt s own x room y (x .phase)))) (h .record-reads)
-    ∙ ap (λ r. after s client room [] (h .record-rest) (onRows r (λ y. scannedAt s own c room y (c .phase)))) (h .rows-read))
+    (ap (λ r. onClient s client room [] r (λ x. onRows (rowsVerdict s rows) (λ y. scannedAt s own x room y (x .phase)))) (h .record-reads)
+    ∙ ap (λ r. after s client room [] (h .record-rest) (onRows (judged 4 r) (λ y. scannedAt s own c room y (c .phase)))) (h .rows-read))
 
 -- where the record reads, a deposit's start is the step on it
 asked : (s : Measures) (own : ℕ) (client bytes : List ℕ) (c : Client) (h : Starting s own client c)
@@ -120,8 +121,8 @@ drawn s own client rows room bytes c l h q e f =
     ∙ ap (λ (x : Sequence). after s client room [] (h .record-rest) (draw s own c room bytes (nextSequence x)) .answer) f
 
 wrong : (s : Measures) (own : ℕ) (table rest : List ℕ) (r : Option (Read (List Row)))
-    → onTable s own table r (whole (readRecord s) (0x10 ∷ rest)) .answer ≡ refuses 4
-unfolding readRecord readNumber
+    → onTable s own table (judged 4 r) (recordVerdict s (0x10 ∷ rest)) .answer ≡ refuses 4
+unfolding recordVerdict
 wrong s own table rest none = refl
 wrong s own table rest (some r) = refl
 

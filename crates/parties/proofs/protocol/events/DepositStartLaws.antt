@@ -16,6 +16,7 @@ use Rattle.parties.specs.protocol.Measures.{passes, rowSize}
 use Rattle.parties.specs.protocol.Format.{Read}
 use Rattle.parties.specs.protocol.Version.{nextSequence}
 use Rattle.parties.specs.protocol.Directory.{Row, readDirectory}
+use Rattle.parties.specs.protocol.Verdict.{judged}
 use Rattle.parties.specs.protocol.Client.{Phase, Client, scanning, readClient, writeClient, clientSize}
 use Rattle.parties.specs.protocol.Deposit.{highest}
 use Rattle.parties.specs.protocol.Answer.{refused, scan, spent, number}
@@ -105,7 +106,7 @@ module _ (s : Measures) (own : ℕ) where
       drawn NextSequence.Spent h = refl
 
       go : (x y z : Bool) (r : Option (Read (List Row))) → let k = withPhase (scanning page) c in
-          let e = cond x (cond y (cond z (after s b room [] rest (onRows r (λ l. scannedAt s own k room l (k .phase)))) (unchanged (refused 3) b room []))
+          let e = cond x (cond y (cond z (after s b room [] rest (onRows (judged 4 r) (λ l. scannedAt s own k room l (k .phase)))) (unchanged (refused 3) b room []))
           (unchanged (refused 2) b room [])) (unchanged (refused 1) b room [])
           in e .answer ≡ spent → e .client ≡ writeClient s (withPhase Phase.idle c) ++ rest
       go true true true none h = other 4 (omega arith) h

@@ -15,6 +15,7 @@ use Rattle.parties.specs.declared.Measures.{Measures}
 use Rattle.parties.specs.protocol.Format.{Read, whole}
 use Rattle.parties.specs.protocol.Measures.{passes, rowSize, places}
 use Rattle.parties.specs.protocol.Directory.{Content, Row, noRow, readRecord, writeRecord, readDirectory, writeDirectory, freshDirectory, writeRow, updateRow}
+use Rattle.parties.specs.protocol.Verdict.{Verdict, sound, judged, recordVerdict}
 use Rattle.parties.specs.protocol.DirectoryEvents.{DirectoryEnd, directorySize, directoryFresh, onTable, directoryUpdate, scanned, directoryScan}
 use Rattle.parties.specs.protocol.NodeTable.{Held, readTable, writeTable}
 use Rattle.parties.specs.protocol.Node.{keep, handBack}
@@ -24,6 +25,7 @@ use Rattle.parties.specs.protocol.NodeEvents.{isHeld, heldAfter, answerT
 use Rattle.parties.proofs.protocol.formats.FormatLaws.{Each}
 use Rattle.parties.proofs.protocol.formats.EachLaws.{each-at, each-set}
 use Rattle.parties.proofs.protocol.formats.DirectoryLaws.{GoodRecord, format-record}
+use Rattle.parties.proofs.protocol.formats.VerdictLaws.{as-before}
 use Rattle.parties.proofs.protocol.formats.RowLaws.{FitsRow, format-directory, length-directory, row-fits, update-good, fresh-directory}
 use Rattle.parties.proofs.protocol.formats.NodeTableLaws.{GoodTable, format-table, length-table}
 use Rattle.parties.proofs.protocol.events.NodeLaws.{keep-length, keep-good, release-good, fresh-table}
@@ -87,8 +89,9 @@ module _ (s : Measures) (ok : passes s ≡ true) where
       let long : directorySize s ≤ length t = omega (arith, length-append (writeDirectory s rows) rest, length-directory s rows g n) in
       let end : directoryUpdate s own t fields .table ≡ writeDirectory s (set rows own r) ++ rest =
       simp (ok, le-leb (directorySize s) (length t) long, lt-ltb own (s .m) l)
-      (ap (λ (x : Option (Read (List Row))). onTable s own t x (whole (readRecord s) fields) .table) (format-directory s .back rows (g, n) rest)
-      ∙ ap (λ (x : Option (List (Option Content))). onTable s own t (some (record { value = rows; rest = rest })) x .table) e)
+      (ap (λ (x : Option (Read (List Row))). onTable s own t (judged 4 x) (recordVerdict s fields) .table) (format-directory s .back rows (g, n) rest)
+      ∙ ap (λ (x : Verdict (List (Option Content))). onTable s own t (sound (record { value = rows; rest = rest })) x .table)
+      (as-before s fields .conversely u e))
       in (ap (readDirectory s) end ∙ format-directory s .back (set rows own r) (good, length-set rows own r ∙ n) rest, good)
 
   -- a scan that is answered shows in its room the rows that the table shows, and leaves the table
@@ -103,7 +106,7 @@ module _ (s : Measures) (ok : passes s ≡ true) where
       let end : directoryScan s t room
       ≡ record { answer = serves (directorySize s); table = t; room = take (directorySize s) t ++ drop (directorySize s) room } =
       simp (ok, le-leb (directorySize s) (length t) long, le-leb (directorySize s) (length room) h)
-      (ap (scanned s t room) (format-directory s .back rows (g, n) rest))
+      (ap (scanned s t room) (ap (judged 4) (format-directory s .back rows (g, n) rest)))
       in (
         ap (λ (x : DirectoryEnd). readDirectory s (x .room)) end
             ∙ ap (λ (b : List ℕ). readDirectory s (b ++ drop (directorySize s) room)) (take-at (writeDirectory s rows) rest (directorySize s) w)

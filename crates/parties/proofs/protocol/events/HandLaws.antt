@@ -8,7 +8,8 @@ use borrow.Author.Tests.{ne-eqb, le-leb, lt-leb, lt-ltb}
 use lib.ListN.{length}
 use Rattle.parties.specs.declared.Measures.{Measures}
 use Rattle.parties.specs.protocol.Measures.{passes}
-use Rattle.parties.specs.protocol.Directory.{readDirectory, writeDirectory}
+use Rattle.parties.specs.protocol.Directory.{writeDirectory}
+use Rattle.parties.specs.protocol.Verdict.{judged, rowsVerdict}
 use Rattle.parties.specs.protocol.Message.{ToNode, writeToNode}
 use Rattle.parties.specs.protocol.Answer.{refused}
 use Rattle.parties.specs.protocol.ClientEvents.{ClientEnd, acknowledgedAt, scannedAt, after, unchanged, onClient}
@@ -70,10 +71,10 @@ module _ (z : Measures) (honest : ℕ → Bool) (passed : passes z ≡ true) (st
     scan-opened a good enough =
         simp (passed, record-long z honest st s o passed c l, long-rows z a good, le-leb (roomSize z) (length room) enough, lt-ltb c (z .m) l)
         (ap (λ r. onClient z (st .clients c) room [] r
-        (λ x. onRows (readDirectory z (writeDirectory z (rowsAt z a))) (λ rows. scannedAt z c x room rows (x .phase))))
+        (λ x. onRows (rowsVerdict z (writeDirectory z (rowsAt z a))) (λ rows. scannedAt z c x room rows (x .phase))))
         (record-reads z honest st s o passed c l)
         ∙ ap (λ r. after z (st .clients c) room [] []
-        (onRows r (λ rows. scannedAt z c (clientAt z (s .c) c) room rows (phaseOf z (s .c .turn c))))) (read-rows z a good))
+        (onRows (judged 4 r) (λ rows. scannedAt z c (clientAt z (s .c) c) room rows (phaseOf z (s .c .turn c))))) (read-rows z a good))
 
     pub scan-short : (a : Rows) → GoodRows z a → length room < roomSize z
         → scanAnswer z c (st .clients c) (writeDirectory z (rowsAt z a)) room ≡ unchanged (refused 2) (st .clients c) room []

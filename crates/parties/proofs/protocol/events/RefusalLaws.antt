@@ -18,7 +18,8 @@ use Rattle.parties.specs.protocol.Format.{Read}
 use Rattle.parties.specs.protocol.Version.{nextSequence, nextIndex}
 use Rattle.parties.specs.protocol.Nodes.{count, stands, withNode}
 use Rattle.parties.specs.protocol.Pointer.{Pointer, isNone}
-use Rattle.parties.specs.protocol.Directory.{Row, readDirectory}
+use Rattle.parties.specs.protocol.Directory.{Row}
+use Rattle.parties.specs.protocol.Verdict.{Verdict, sound, broken, rowsVerdict}
 use Rattle.parties.specs.protocol.Message.{ToClient, readToClient}
 use Rattle.parties.specs.protocol.Client.{Phase, idle, scanning, storing, updating, freezing, raising, picking, fetching, Client, readClient, writeClient, freshClient, clientSize, areas, lengths}
 use Rattle.parties.specs.protocol.Deposit.{highest}
@@ -120,9 +121,9 @@ module _ (s : Measures) (i : ℕ) (c : Client) (room out : List ℕ) where
   fair-message (ToClient.reply v x) = fair-replied v (some x) (c .phase)
   fair-message (ToClient.missing v) = fair-replied v none (c .phase)
 
-fair-rows : (x : Option (Read (List Row))) (f : List Row → Step) → ((l : List Row) → Fair (f l)) → Fair (onRows x f)
-fair-rows none f h = still _
-fair-rows (some r) f h = h (r .value)
+fair-rows : (x : Verdict (Read (List Row))) (f : List Row → Step) → ((l : List Row) → Fair (f l)) → Fair (onRows x f)
+fair-rows (broken n) f h = still _
+fair-rows (sound r) f h = h (r .value)
 
 fair-heard : {A : Type 0} (x : Option A) (f : A → Step) → ((a : A) → Fair (f a)) → Fair (onMessage x f)
 fair-heard none f h = still _
@@ -220,8 +221,8 @@ module _ (s : Measures) (c : ℕ) where
   scanned-guarded rows room =
       guarded-all s c
       (λ b. leb (clientSize s) (length b) && (leb (s .m * rowSize s) (length rows) && leb (roomSize s) (length room))) (ltb c (s .m)) room []
-      (λ x. onRows (readDirectory s rows) (λ l. scannedAt s c x room l (x .phase))) (le-ltb c (s .m))
-      (λ x. fair-rows (readDirectory s rows) _ (λ l. fair-scanned s c x room l (x .phase)))
+      (λ x. onRows (rowsVerdict s rows) (λ l. scannedAt s c x room l (x .phase))) (le-ltb c (s .m))
+      (λ x. fair-rows (rowsVerdict s rows) _ (λ l. fair-scanned s c x room l (x .phase)))
 
   pub message-guarded : (i : ℕ) (message room out : List ℕ) → Guarded s c room out (λ b. clientMessage s c i b message room out)
   unfolding clientMessage

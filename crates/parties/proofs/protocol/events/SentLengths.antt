@@ -20,11 +20,12 @@ use Rattle.parties.specs.declared.NextIndex.{NextIndex}
 use Rattle.parties.specs.declared.Version.{Version}
 use Rattle.parties.specs.Sizes.{Sized}
 use Rattle.parties.specs.protocol.Measures.{passes, pointerSize, rowSize}
-use Rattle.parties.specs.protocol.Format.{Read, whole, writeNumber, writeMany}
+use Rattle.parties.specs.protocol.Format.{Read, writeNumber, writeMany}
 use Rattle.parties.specs.protocol.Version.{nextSequence, nextIndex}
 use Rattle.parties.specs.protocol.Nodes.{count, stands, withNode}
 use Rattle.parties.specs.protocol.Pointer.{Pointer, isNone, writeVersion}
-use Rattle.parties.specs.protocol.Directory.{Content, Row, readDirectory, writeIndex, writeContent, writeFields, mapOf, readRecord, writeRecord, writeRow, rowFields, freshRow, merge, updateRow}
+use Rattle.parties.specs.protocol.Directory.{Content, Row, writeIndex, writeContent, writeFields, mapOf, writeRecord, writeRow, rowFields, freshRow, merge, updateRow}
+use Rattle.parties.specs.protocol.Verdict.{Verdict, sound, broken, recordVerdict, rowsVerdict}
 use Rattle.parties.specs.protocol.Message.{ToNode, ToClient, answer, readToClient, readToNode, writeToNode, writeToClient}
 use Rattle.parties.specs.protocol.NodeTable.{Held, readTable}
 use Rattle.parties.specs.protocol.Node.{handBack}
@@ -263,13 +264,13 @@ module _ (s : Measures) (own : ℕ) (b : List ℕ) (bytes : Bytes b) where
   pub scanned-bounded : (rows room : List ℕ) → Sized s (scanAnswer s own b rows room .answer)
   unfolding scanAnswer
   scanned-bounded rows room =
-      bounded-tested s b room [] bytes (λ c. onRows (readDirectory s rows) (λ l. scannedAt s own c room l (c .phase))) (passes s)
+      bounded-tested s b room [] bytes (λ c. onRows (rowsVerdict s rows) (λ l. scannedAt s own c room l (c .phase))) (passes s)
       (leb (clientSize s) (length b) && (leb (s .m * rowSize s) (length rows) && leb (roomSize s) (length room))) (ltb own (s .m))
-      (λ p z c g. go p c g (readDirectory s rows)) refl
+      (λ p z c g. go p c g (rowsVerdict s rows)) refl
     where
-      go : passes s ≡ true → (c : Client) → GoodClient s c → (r : Option (Read (List Row))) → SizedStep s (onRows r (λ l. scannedAt s own c room l (c .phase)))
-      go p c g nothing = tt
-      go p c g (some r) = bounded-scanned s (passed s p) own c room (r .value) (c .phase) (g .phase)
+      go : passes s ≡ true → (c : Client) → GoodClient s c → (r : Verdict (Read (List Row))) → SizedStep s (onRows r (λ l. scannedAt s own c room l (c .phase)))
+      go p c g (broken n) = tt
+      go p c g (sound r) = bounded-scanned s (passed s p) own c room (r .value) (c .phase) (g .phase)
 
   pub message-bounded : (i : ℕ) (message room out : List ℕ) → Sized s (clientMessage s own i b message room out .answer)
   unfolding clientMessage
@@ -293,27 +294,27 @@ ServedIn n (serves len) = len ≤ n
 
 pub scan-bounded : (s : Measures) (table room : List ℕ) → ServedIn (directorySize s) (directoryScan s table room .answer)
 unfolding directoryScan
-scan-bounded s table room = go (passes s) (leb (directorySize s) (length table) && leb (directorySize s) (length room)) (readDirectory s table)
+scan-bounded s table room = go (passes s) (leb (directorySize s) (length table) && leb (directorySize s) (length room)) (rowsVerdict s table)
   where
-    go : (x y : Bool) (r : Option (Read (List Row)))
+    go : (x y : Bool) (r : Verdict (Read (List Row)))
         → ServedIn (directorySize s) (cond x (cond y (rowsIn s table room r) (record { answer = refuses 2; table = table; room = room }))
         (record { answer = refuses 1; table = table; room = room }) .answer)
-    go true true nothing = tt
-    go true true (some r) = omega arith
+    go true true (broken n) = tt
+    go true true (sound r) = omega arith
     go true false r = tt
     go false y r = tt
 
 -- an update is answered with no bytes
 pub update-bounded : (s : Measures) (c : ℕ) (table fields : List ℕ) → ServedIn 0 (directoryUpdate s c table fields .answer)
 unfolding directoryUpdate
-update-bounded s c table fields = go (passes s) (leb (directorySize s) (length table)) (ltb c (s .m)) (readDirectory s table) (whole (readRecord s) fields)
+update-bounded s c table fields = go (passes s) (leb (directorySize s) (length table)) (ltb c (s .m)) (rowsVerdict s table) (recordVerdict s fields)
   where
-    go : (x y z : Bool) (r : Option (Read (List Row))) (u : Option (List (Option Content)))
+    go : (x y z : Bool) (r : Verdict (Read (List Row))) (u : Verdict (List (Option Content)))
         → ServedIn 0 (cond x (cond y (cond z (onTable s c table r u) (record { answer = refuses 3; table = table; room = [] }))
         (record { answer = refuses 2; table = table; room = [] })) (record { answer = refuses 1; table = table; room = [] }) .answer)
-    go true true true nothing u = tt
-    go true true true (some r) nothing = tt
-    go true true true (some r) (some u) = omega arith
+    go true true true (broken n) u = tt
+    go true true true (sound r) (broken n) = tt
+    go true true true (sound r) (sound u) = omega arith
     go true true false r u = tt
     go true false z r u = tt
     go false y z r u = tt

@@ -8,8 +8,9 @@ use lib.Dec.{leb, ltb}
 use lib.ListN.{length}
 use Rattle.parties.specs.declared.Measures.{Measures}
 use Rattle.parties.specs.protocol.Measures.{passes}
-use Rattle.parties.specs.protocol.Format.{Read, whole}
-use Rattle.parties.specs.protocol.Directory.{Content, Row, readDirectory, readRecord}
+use Rattle.parties.specs.protocol.Format.{Read}
+use Rattle.parties.specs.protocol.Directory.{Content, Row}
+use Rattle.parties.specs.protocol.Verdict.{Verdict, sound, broken, recordVerdict, rowsVerdict}
 use Rattle.parties.specs.protocol.NodeTable.{Held, readTable}
 use Rattle.parties.specs.protocol.Message.{ToNode, readToNode, writeToClient}
 use Rattle.parties.specs.protocol.Answer.{Served, refuses, serves}
@@ -63,14 +64,14 @@ module _ (s : Measures) (table : List ℕ) where
   tested-left true false d room e h = as-came (refuses 2) table room
   tested-left false b d room e h = as-came (refuses 1) table room
 
-  updated-left : (c : ℕ) (r : Option (Read (List Row))) (u : Option (List (Option Content))) → Leaving [] (onTable s c table r u)
-  updated-left c none u = as-came (refuses 4) table []
-  updated-left c (some r) none = as-came (refuses 4) table []
-  updated-left c (some r) (some u) = served 0 table [] _ []
+  updated-left : (c : ℕ) (r : Verdict (Read (List Row))) (u : Verdict (List (Option Content))) → Leaving [] (onTable s c table r u)
+  updated-left c (broken n) u = as-came (refuses n) table []
+  updated-left c (sound r) (broken n) = as-came (refuses n) table []
+  updated-left c (sound r) (sound u) = served 0 table [] _ []
 
-  scanned-left : (room : List ℕ) (r : Option (Read (List Row))) → Leaving room (scanned s table room r)
-  scanned-left room none = as-came (refuses 4) table room
-  scanned-left room (some r) = served (directorySize s) table room table _
+  scanned-left : (room : List ℕ) (r : Verdict (Read (List Row))) → Leaving room (scanned s table room r)
+  scanned-left room (broken n) = as-came (refuses n) table room
+  scanned-left room (sound r) = served (directorySize s) table room table _
 
   -- Document 01: memory stays unchanged at every number.
   pub record DirectoryLeaves (own : ℕ) (fields room : List ℕ) : Type 0 where
@@ -85,10 +86,10 @@ module _ (s : Measures) (table : List ℕ) where
         fresh = tested-left (passes s) (leb (directorySize s) (length table)) true [] _ (served 0 table [] _ []);
         update =
             tested-left (passes s) (leb (directorySize s) (length table)) (ltb own (s .m)) [] _
-            (updated-left own (readDirectory s table) (whole (readRecord s) fields));
+            (updated-left own (rowsVerdict s table) (recordVerdict s fields));
         scan =
             tested-left (passes s) (leb (directorySize s) (length table) && leb (directorySize s) (length room)) true room _
-            (scanned-left room (readDirectory s table));
+            (scanned-left room (rowsVerdict s table));
       }
 
   pub update-keeps : (c : ℕ) (fields : List ℕ) → Keeps table (directoryUpdate s c table fields .answer) (directoryUpdate s c table fields .table)
@@ -98,13 +99,13 @@ module _ (s : Measures) (table : List ℕ) where
   -- a scan changes nothing
   pub scan-keeps : (room : List ℕ) → directoryScan s table room .table ≡ table
   unfolding directoryScan
-  scan-keeps room = go (passes s) (leb (directorySize s) (length table) && leb (directorySize s) (length room)) (readDirectory s table)
+  scan-keeps room = go (passes s) (leb (directorySize s) (length table) && leb (directorySize s) (length room)) (rowsVerdict s table)
     where
-      go : (a b : Bool) (r : Option (Read (List Row))) → cond a (cond b (scanned s table room r)
+      go : (a b : Bool) (r : Verdict (Read (List Row))) → cond a (cond b (scanned s table room r)
           (record { answer = refuses 2; table = table; room = room }))
           (record { answer = refuses 1; table = table; room = room }) .table ≡ table
-      go true true none = refl
-      go true true (some r) = refl
+      go true true (broken n) = refl
+      go true true (sound r) = refl
       go true false r = refl
       go false b r = refl
 

@@ -39,7 +39,7 @@ GoodContent s (pointers n) (indicesOf l) = ⊥
 GoodContent s (indices n) (pointersOf l) = ⊥
 GoodContent s (indices n) (indicesOf l) = Each GoodIndex l × (length l ≡ n)
 
-pub format-content : (s : Measures) (f : Field) → Format Content (readContent s f) writeContent (GoodContent s f)
+pub format-content : (s : Measures) (f : Field) → Format Content (readContent (readPointer s) f) writeContent (GoodContent s f)
 unfolding readContent writeContent
 format-content s (pointers n) =
     format-as (readMany (readPointer s) n) (writeMany writePointer) (λ l. Each (GoodPointer s) l × (length l ≡ n))
@@ -83,15 +83,15 @@ rest (x ∷ l) = l
 
 -- the first field's bit stands
 module _ (s : Measures) (f : Field) (fs : List Field) (map : ℕ) (odd : map % 2 ≡ 1)
-    (ih : Format (List (Option Content)) (readFields s fs (map / 2)) writeFields (GoodFields s fs (map / 2))) where
+    (ih : Format (List (Option Content)) (readFields (readPointer s) fs (map / 2)) writeFields (GoodFields s fs (map / 2))) where
   field-there : Format (List (Option Content))
-      (mapped asList (both (readContent s f) (λ c. readFields s fs (map / 2)) (λ c l. (c, l)))) writeFields (GoodFields s (f ∷ fs) map)
+      (mapped asList (both (readContent (readPointer s) f) (λ c. readFields (readPointer s) fs (map / 2)) (λ c l. (c, l)))) writeFields (GoodFields s (f ∷ fs) map)
   unfolding writeFields
   field-there =
-      format-as (both (readContent s f) (λ c. readFields s fs (map / 2)) (λ c l. (c, l))) (λ x. writeContent (x .0) ++ writeFields (x .1))
+      format-as (both (readContent (readPointer s) f) (λ c. readFields (readPointer s) fs (map / 2)) (λ c l. (c, l))) (λ x. writeContent (x .0) ++ writeFields (x .1))
       (λ x. GoodContent s f (x .0) × GoodFields s fs (map / 2) (x .1)) asList asPair writeFields (GoodFields s (f ∷ fs) map)
       (λ x h. ((odd, h), refl)) back
-      (format-then (readContent s f) writeContent (GoodContent s f) (λ c. readFields s fs (map / 2)) (λ c. writeFields) (λ c. GoodFields s fs (map / 2))
+      (format-then (readContent (readPointer s) f) writeContent (GoodContent s f) (λ c. readFields (readPointer s) fs (map / 2)) (λ c. writeFields) (λ c. GoodFields s fs (map / 2))
       (λ c l. (c, l)) (λ x. x .0) (λ x. x .1) (λ x. refl) (λ c l g h. refl) (λ c l. refl) (format-content s f) (λ c. ih))
     where
       back : (l : List (Option Content)) → GoodFields s (f ∷ fs) map l
@@ -103,11 +103,11 @@ module _ (s : Measures) (f : Field) (fs : List Field) (map : ℕ) (odd : map % 2
 
 -- it does not stand
 module _ (s : Measures) (f : Field) (fs : List Field) (map : ℕ) (even : map % 2 ≡ 0)
-    (ih : Format (List (Option Content)) (readFields s fs (map / 2)) writeFields (GoodFields s fs (map / 2))) where
-  field-absent : Format (List (Option Content)) (mapped (λ l. none ∷ l) (readFields s fs (map / 2))) writeFields (GoodFields s (f ∷ fs) map)
+    (ih : Format (List (Option Content)) (readFields (readPointer s) fs (map / 2)) writeFields (GoodFields s fs (map / 2))) where
+  field-absent : Format (List (Option Content)) (mapped (λ l. none ∷ l) (readFields (readPointer s) fs (map / 2))) writeFields (GoodFields s (f ∷ fs) map)
   unfolding writeFields
   field-absent =
-      format-as (readFields s fs (map / 2)) writeFields (GoodFields s fs (map / 2)) (λ l. none ∷ l) rest writeFields (GoodFields s (f ∷ fs) map)
+      format-as (readFields (readPointer s) fs (map / 2)) writeFields (GoodFields s fs (map / 2)) (λ l. none ∷ l) rest writeFields (GoodFields s (f ∷ fs) map)
       (λ l h. ((even, h), refl)) back ih
     where
       back : (l : List (Option Content)) → GoodFields s (f ∷ fs) map l
@@ -116,7 +116,7 @@ module _ (s : Measures) (f : Field) (fs : List Field) (map : ℕ) (even : map % 
       back (none ∷ l) h = (h .1, refl, refl)
       back (some c ∷ l) h = absurd (omega (arith, h .0))
 
-pub format-fields : (s : Measures) (fs : List Field) (map : ℕ) → Format (List (Option Content)) (readFields s fs map) writeFields (GoodFields s fs map)
+pub format-fields : (s : Measures) (fs : List Field) (map : ℕ) → Format (List (Option Content)) (readFields (readPointer s) fs map) writeFields (GoodFields s fs map)
 unfolding readFields writeFields
 format-fields s [] map =
     format-as readNothing (λ u. []) (λ u. Unit {0}) (λ u. []) (λ l. tt) writeFields (GoodFields s [] map) (λ u h. (tt, refl)) back format-nothing
@@ -126,10 +126,10 @@ format-fields s [] map =
     back (x ∷ l) h = absurd h
 format-fields s (f ∷ fs) map = go (format-fields s fs (map / 2)) (ℕ-discrete (map % 2) 1)
   where
-    go : Format (List (Option Content)) (readFields s fs (map / 2)) writeFields (GoodFields s fs (map / 2)) → Dec (map % 2 ≡ 1)
+    go : Format (List (Option Content)) (readFields (readPointer s) fs (map / 2)) writeFields (GoodFields s fs (map / 2)) → Dec (map % 2 ≡ 1)
         → Format (List (Option Content))
-        (cond (eqb (map % 2) 1) (mapped asList (both (readContent s f) (λ c. readFields s fs (map / 2)) (λ c l. (c, l))))
-        (mapped (λ l. none ∷ l) (readFields s fs (map / 2)))) writeFields (GoodFields s (f ∷ fs) map)
+        (cond (eqb (map % 2) 1) (mapped asList (both (readContent (readPointer s) f) (λ c. readFields (readPointer s) fs (map / 2)) (λ c l. (c, l))))
+        (mapped (λ l. none ∷ l) (readFields (readPointer s) fs (map / 2)))) writeFields (GoodFields s (f ∷ fs) map)
     go ih (yes h) = rw (eq-eqb (map % 2) 1 h) (field-there s f fs map h ih)
     go ih (no h) = rw (ne-eqb (map % 2) 1 h) (field-absent s f fs map (omega arith) ih)
 
@@ -154,7 +154,7 @@ unfolding readRecord writeRecord
 format-record s =
     format-then (given (λ map. ltb map (2 ^ length (fields s))) (readNumber 1)) (writeNumber 1)
     (λ map. (map < 256 ^ 1) × (ltb map (2 ^ length (fields s)) ≡ true))
-    (λ map. readFields s (fields s) map) (λ map. writeFields) (λ map. GoodFields s (fields s) map)
+    (λ map. readFields (readPointer s) (fields s) map) (λ map. writeFields) (λ map. GoodFields s (fields s) map)
     (λ map l. l) mapOf (λ l. l) (λ l. refl) (λ map l g h. map-of s (fields s) map l h (ltb-true map (2 ^ length (fields s)) (g .1))) (λ map l. refl)
     (format-check (readNumber 1) (writeNumber 1) (λ map. map < 256 ^ 1) (λ map. ltb map (2 ^ length (fields s))) (format-number 1))
     (λ map. format-fields s (fields s) map)

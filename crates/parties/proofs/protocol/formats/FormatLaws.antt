@@ -29,6 +29,11 @@ pub bytes-rest : (p s : List ℕ) → Bytes (p ++ s) → Bytes s
 bytes-rest [] s b = b
 bytes-rest (x ∷ p) s b = bytes-rest p s (λ i. b (suc i))
 
+-- one byte
+pub number-one : (b : ℕ) (u : List ℕ) → readNumber 1 (b ∷ u) ≡ some (record { value = b; rest = u })
+unfolding readNumber
+number-one b u = let e : 0 * 256 + b ≡ b = omega arith in ap (λ (x : ℕ). some (record { value = x; rest = u })) e
+
 -- two formats, one after the other, where the second may go by the first one's value
 module _ {A B C : Type 0} (ra : Reader A) (wa : A → List ℕ) (ga : A → Type 0) (rb : A → Reader B) (wb : A → B → List ℕ) (gb : A → B → Type 0)
     (make : A → B → C) (first : C → A) (second : C → B)

@@ -18,6 +18,7 @@ use Rattle.parties.specs.protocol.Format.{whole}
 use Rattle.parties.specs.protocol.Measures.{passes}
 use Rattle.parties.specs.protocol.Pointer.{Pointer}
 use Rattle.parties.specs.protocol.Directory.{Content, Row, noRow, readRecord, writeRecord, readDirectory, writeDirectory, updateRow, merge, mapOf}
+use Rattle.parties.specs.protocol.Verdict.{sound, judged, recordVerdict}
 use Rattle.parties.specs.protocol.Client.{Phase, Client, writeClient}
 use Rattle.parties.specs.protocol.Deposit.{depositFields}
 use Rattle.parties.specs.protocol.Reading.{readingFields}
@@ -29,6 +30,7 @@ use Rattle.parties.specs.protocol.Run.{tick, putBy as putsOf, putIn, sta
 use Rattle.parties.proofs.protocol.model.Cells.{by-eq}
 use Rattle.parties.proofs.protocol.formats.PointerLaws.{GoodPointer}
 use Rattle.parties.proofs.protocol.formats.DirectoryLaws.{GoodIndex, GoodRecord, format-record}
+use Rattle.parties.proofs.protocol.formats.VerdictLaws.{as-before}
 use Rattle.parties.proofs.protocol.formats.RowLaws.{GoodRow, update-good}
 use Rattle.parties.proofs.protocol.formats.MessageLaws.{message-whole}
 use Rattle.parties.proofs.protocol.formats.ClientLaws.{GoodClient}
@@ -177,7 +179,7 @@ module _ (z : Measures) (honest : ℕ → Bool) (passed : passes z ≡ true) (st
 
     scan-long : directorySize z ≤ length room → directoryScan z (st .directory) room ≡ answered
     unfolding directoryScan answered
-    scan-long h = simp (passed, long, le-leb (directorySize z) (length room) h) (ap (scanned z (st .directory) room) table-read)
+    scan-long h = simp (passed, long, le-leb (directorySize z) (length room) h) (ap (scanned z (st .directory) room) (ap (judged 4) table-read))
 
     scan-short : length room < directorySize z
         → directoryScan z (st .directory) room ≡ record { answer = refuses 2; table = st .directory; room = room }
@@ -232,8 +234,9 @@ module _ (z : Measures) (honest : ℕ → Bool) (passed : passes z ≡ true) (st
     unfolding directoryUpdate put
     update-opened l =
         simp (passed, long, lt-ltb c (z .m) l)
-        (ap (λ r. onTable z c (st .directory) r (whole (readRecord z) (writeRecord u))) table-read
-        ∙ ap (onTable z c (st .directory) (some (record { value = rowsAt z (rowsOf s); rest = [] }))) (read-record z u g))
+        (ap (λ r. onTable z c (st .directory) (judged 4 r) (recordVerdict z (writeRecord u))) table-read
+        ∙ ap (onTable z c (st .directory) (sound (record { value = rowsAt z (rowsOf s); rest = [] })))
+        (as-before z (writeRecord u) .conversely u (read-record z u g)))
 
     module _ (l : c < z .m) (t : Turn) (d : Shown) where
       update-follows : (room : List ℕ) → st .calls c ≡ updateCall (writeRecord u) ∷ []

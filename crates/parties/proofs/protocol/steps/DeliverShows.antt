@@ -579,11 +579,9 @@ module _ (z : Measures) (honest : ℕ → Bool) (passed : passes z ≡ true) (fe
 
 -- ---- the events
 
-four≢eight : _≡_ {A = ℕ} 4 8 → ⊥
-four≢eight e = omega arith
-
-four≢nine : _≡_ {A = ℕ} 4 9 → ⊥
-four≢nine e = omega arith
+-- a refusal with 4 is with no other number
+four-alone : (n : ℕ) → 4 < n → _≡_ {A = Option ℕ} (some 4) (some n) → ⊥
+four-alone n l e = let q : 4 ≡ n = some-eq e in omega arith
 
 module _ (z : Measures) (honest : ℕ → Bool) (passed : passes z ≡ true) (few : dishonest honest (z .n) ≤ z .t)
     (st : State) (s : Model) (o : Shows z honest st s) (inv : Invariant z honest s) (i c : ℕ) where
@@ -655,7 +653,13 @@ module _ (z : Measures) (honest : ℕ → Bool) (passed : passes z ≡ true) (fe
         let ev = lie i c bytes room out in
         told-refused z honest passed few st s o inv ev i c bytes room out (st .toClient) (clientMessage z c i (st .clients c) bytes room out) 4
         (ap (λ (e : ClientEnd). e .answer) (opened z honest passed few st s o inv ev i c bytes room out f g none reads))
-        (record { room = λ e. four≢eight (some-eq e); matching = λ e. four≢nine (some-eq e); form = λ e. tt })
+        (record {
+          room = four-alone 8 (omega arith);
+          matching = four-alone 9 (omega arith);
+          form = λ e. tt;
+          lengths = four-alone 11 (omega arith);
+          rules = four-alone 12 (omega arith);
+        })
     lied-follows h f g (some m) reads differ =
         comes-follows z honest passed few st s o inv (lie i c bytes room out) i c bytes room out m (s .n .toClient) (st .toClient) reads (Comes.lied h)
         (λ t. absurd (true≢false (sym t ∙ h))) (o .toClient) (o .liars) f g differ

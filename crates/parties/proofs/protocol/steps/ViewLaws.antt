@@ -60,13 +60,19 @@ module _ (z : Measures) (a : Rows) (good : GoodRows z a) where
 
 -- ---- an event that changes nothing
 
--- numbers that may come: 8 and 9 never do, and 4 is for bytes of a dishonest node
+-- numbers that may come: 8, 9, 11 and 12 never do, and 4 is for bytes of a dishonest node
 abbrev pub ordinary : ℕ → Bool
-ordinary n = not (eqb n 4 || (eqb n 8 || eqb n 9))
+ordinary n = not (eqb n 4 || (eqb n 8 || (eqb n 9 || (eqb n 11 || eqb n 12))))
 
 pub sane-number : (e : Event) (a : Answered) (n : ℕ) → numberOf a ≡ some n → ordinary n ≡ true → Sane e a
 sane-number e a n q p =
-    record { room = λ h. other h refl; matching = λ h. other h refl; form = λ h. absurd (other h refl) }
+    record {
+      room = λ h. other h refl;
+      matching = λ h. other h refl;
+      form = λ h. absurd (other h refl);
+      lengths = λ h. other h refl;
+      rules = λ h. other h refl;
+    }
   where
     other : {k : ℕ} → numberOf a ≡ some k → ordinary k ≡ false → ⊥
     other h f = true≢false (sym p ∙ ap ordinary (some-eq (sym q ∙ h)) ∙ f)
@@ -77,6 +83,8 @@ sane-quiet e a q =
       room = λ h. none≢some (sym q ∙ h);
       matching = λ h. none≢some (sym q ∙ h);
       form = λ h. absurd (none≢some (sym q ∙ h));
+      lengths = λ h. none≢some (sym q ∙ h);
+      rules = λ h. none≢some (sym q ∙ h);
     }
 
 pub quiet-tick : (h : History) → Quiet h (tick h)

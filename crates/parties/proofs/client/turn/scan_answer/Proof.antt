@@ -1,23 +1,25 @@
 use borrow.Author.Needs.{needs}
 use mathlib.Core.Path.{_≡_, sym, ap, _∙_}
-use mathlib.Core.Bool.{Bool, true, cond, _&&_}
+use mathlib.Core.Bool.{true, _&&_}
 use mathlib.Core.List.{[]}
-use mathlib.Core.Option.{some, none}
+use mathlib.Core.Option.{some}
 use Prim.Native.Nat.{_*_, _≤_}
 use native.Mathlib.Omega.{arith}
-use borrow.Author.Tests.{not-true, not-false, leb-true, ltb-true}
+use borrow.Author.Tests.{leb-true, ltb-true}
 use lib.Dec.{leb, ltb}
 use lib.ListN.{length, drop}
 use Rattle.coding.proofs.Cases.{and-true}
 use Rattle.parties.specs.protocol.Measures.{passes, rowSize}
 use Rattle.parties.specs.protocol.Answer.{refused}
 use Rattle.parties.specs.protocol.Directory.{readDirectory}
+use Rattle.parties.specs.protocol.Verdict.{rowsVerdict}
 use Rattle.parties.specs.protocol.Client.{readClient}
 use Rattle.parties.specs.protocol.ClientEvents.{unchanged, onRows, scannedAt, roomSize}
 use Rattle.parties.specs.records.Answer.{number}
 use Rattle.parties.specs.records.Form.{rest}
 use Rattle.parties.specs.declared.Phase.{Phase}
 use Rattle.parties.specs.client.Record.{recordOf, areaSize, isSome}
+use Rattle.parties.proofs.records.RecordLaws.{tabled-sound, tabled-broken}
 use Rattle.parties.proofs.client.GateLaws.{gated-open, gated-shut, Opened}
 use Rattle.parties.proofs.client.StartLaws.{ends-three}
 use Rattle.parties.proofs.client.ScanLaws.{scan-shut, scan-broken, rows-read, scan-goes}
@@ -68,7 +70,7 @@ returns c =
     rw (c .refuse .ensures) (ends-three _ _ (scan-shut (a .s) (a .own) (a .p) (a .area .now) (a .rows .now) (a .room .now)
     (unchanged (refused (number n)) (recordOf (a .p) (a .area .now)) (a .room .now) [])
     (gated-shut (a .s) (a .p) (a .area .now) (leb (areaSize (a .s)) (length (a .area .now)) && (leb (a .s .m * rowSize (a .s)) (length (a .rows .now)) && leb (roomSize (a .s)) (length (a .room .now)))) (l .result) (ltb (a .own) (a .s .m)) (l .ensures) (k .result) (k .ensures) n (c .before .before .g .given .1)
-    (a .room .now) [] (λ k. onRows (readDirectory (a .s) (a .rows .now)) (λ l. scannedAt (a .s) (a .own) k (a .room .now) l (k .phase))))))
+    (a .room .now) [] (λ k. onRows (rowsVerdict (a .s) (a .rows .now)) (λ l. scannedAt (a .s) (a .own) k (a .room .now) l (k .phase))))))
 
 enum-told : tie.Need-enum-told
 enum-told c = search needs
@@ -79,6 +81,9 @@ row-size-requires c κs = enters c .0
 directory-requires : tie.Need-directory-requires
 directory-requires c κs = (enters (c .before) .0, c .row-size .ensures, long (c .before) .0)
 
+enum-known-r : tie.Need-enum-known-r
+enum-known-r c = search needs
+
 refuse-requires-2 : tie.Need-refuse-requires-2
 refuse-requires-2 c κs = search needs
 
@@ -87,20 +92,25 @@ same-length-2 c = search needs
 
 returns-2 : tie.Need-returns-2
 returns-2 c =
-    let x = c .before .before .before .before in
+    let x = c .before .before .before .before .before .before in
     let a = x .before .before .before .before .before .before .before .before .before .args in
-    rw (c .refuse2 .ensures) (ends-three _ _ (scan-broken (a .s) (a .own) (a .p) (a .area .now) (a .rows .now) (a .room .now) (opened x) (enters x .2) (enters x .1)
-    (c .before .before .directory .ensures ∙ ap (λ (b : Bool). cond b (some (drop (a .s .m * rowSize (a .s)) (a .rows .now))) none) (not-true (c .before .before .directory .result) (c .before .if1 .taken)))))
+    let d = c .before .before .before .before .directory in
+    let n = c .before .before .r .given .0 .0 in
+    rw (c .refuse2 .ensures) (ends-three _ _ (scan-broken (a .s) (a .own) (a .p) (a .area .now) (a .rows .now) (a .room .now) (opened x) (enters x .2) (enters x .1) (number n)
+    (tabled-broken (a .s) (a .rows .now) (d .result) (d .ensures) n (c .before .before .r .given .1))))
+
+enum-told-2 : tie.Need-enum-told-2
+enum-told-2 c = search needs
 
 -- the rows keep their form
-sound : (c : tie.Else1) → let a = c .before .before .before .before .before .before .before .before .before .before .before .before .args in rest (readDirectory (a .s) (a .rows .now)) ≡ some (drop (a .s .m * rowSize (a .s)) (a .rows .now))
+sound : (c : tie.After-enum-told2) → let a = c .before .before .before .before .before .before .before .before .before .before .before .before .before .args in rest (readDirectory (a .s) (a .rows .now)) ≡ some (drop (a .s .m * rowSize (a .s)) (a .rows .now))
 sound c =
-    let a = c .before .before .before .before .before .before .before .before .before .before .before .before .args in
-    c .before .directory .ensures ∙ ap (λ (b : Bool). cond b (some (drop (a .s .m * rowSize (a .s)) (a .rows .now))) none) (not-false (c .before .directory .result) (c .if1 .left))
+    let a = c .before .before .before .before .before .before .before .before .before .before .before .before .before .args in
+    let d = c .before .before .directory in tabled-sound (a .s) (a .rows .now) (d .result) (d .ensures) (c .enum-told2 .given .1)
 
 after-scan-requires : tie.Need-after-scan-requires
 after-scan-requires c κs =
-    let x = c .before .before .before .before .before in
+    let x = c .before .before .before .before .before .before in
     let a = x .before .before .before .before .before .before .before .before .before .args in
     let e = enters x in (
       e .0,
@@ -122,10 +132,10 @@ same-length-4 c = search needs
 
 returns-3 : tie.Need-returns-3
 returns-3 c =
-    let y = c .before .before .before .before .before .before .before in
+    let y = c .before .before .before .before .before .before .before .before in
     let x = y .before .before .before .before in
     let a = x .before .before .before .before .before .before .before .before .before .args in
-    let r = ends-three _ _ (scan-goes (a .s) (a .own) (a .p) (a .area .now) (a .rows .now) (a .room .now) (opened x) (enters x .2) (enters x .1) _ (sound (y .before))
+    let r = ends-three _ _ (scan-goes (a .s) (a .own) (a .p) (a .area .now) (a .rows .now) (a .room .now) (opened x) (enters x .2) (enters x .1) _ (sound y)
     ∙ sym (c .before .before .before .before .before .after-scan .ensures)) in
     (r .0, ap (λ (h : Phase). recordOf h (c .before .before .before .before .before .after-scan .last .1 .1 .1 .0)) (c .phase-after .ensures) ∙ r .1, r .2)
 
@@ -142,9 +152,11 @@ scan-answer-spec =
     enum-told
     row-size-requires
     directory-requires
+    enum-known-r
     refuse-requires-2
     same-length-2
     returns-2
+    enum-told-2
     after-scan-requires
     phase-after-requires
     same-length-3

@@ -1,17 +1,18 @@
+use borrow.Author.Needs.{needs}
 use mathlib.Core.Path.{_≡_, sym, ap, _∙_}
-use mathlib.Core.Bool.{Bool, cond}
-use mathlib.Core.Option.{some, none}
+use mathlib.Core.Option.{some}
 use Prim.Native.Nat.{ℕ, _+_, _-_, _*_, _≤_}
 use native.Mathlib.Omega.{arith}
-use borrow.Author.Tests.{not-true, not-false}
 use lib.ListN.{drop}
 use Rattle.coding.proofs.BytesLaws.{stride}
 use Rattle.parties.specs.protocol.Format.{readMany}
 use Rattle.parties.specs.protocol.Measures.{rowSize}
 use Rattle.parties.specs.protocol.Directory.{readRow, readDirectory}
+use Rattle.parties.specs.protocol.Verdict.{judged, broken}
 use Rattle.parties.specs.records.Form.{rest}
 use Rattle.parties.proofs.records.SizeLaws.{below-rows}
-use Rattle.parties.proofs.records.FormLaws.{many-turn, many-broken, many-end}
+use Rattle.parties.proofs.records.FormLaws.{none-read, many-turn, many-broken, many-end}
+use Rattle.parties.proofs.records.RecordLaws.{rowed-sound, rowed-broken}
 use Rattle.parties.proofs.records.form.directory.Statement.{statement}
 use Rattle.parties.proofs.records.form.directory.Tie as tie
 
@@ -34,21 +35,29 @@ row-requires c κs =
     let l = c .before .loop in
     (p .0, p .1, omega (arith, below-rows (l .i) (a .s .m) (rowSize (a .s)) (c .loop-test .taken)))
 
+enum-known-r : tie.Need-enum-known-r Inv-loop μ-loop
+enum-known-r c = search needs
+
 returns : tie.Need-returns Inv-loop μ-loop
 unfolding readDirectory
 returns c =
-    let a = c .before .before .before .before .before .args in
-    let l = c .before .before .before .loop in
-    let r = c .before .row in
-    l .inv .2
-    ∙ many-broken (readRow (a .s)) (a .s .m) (l .i) (drop (l .at) (a .t .now)) (c .before .before .loop-test .taken)
-    (r .ensures ∙ ap (λ (x : Bool). cond x (some (drop (l .at + rowSize (a .s)) (a .t .now))) none) (not-true (r .result) (c .if1 .taken)))
+    let a = c .before .before .before .before .before .before .before .args in
+    let l = c .before .before .before .before .before .loop in
+    let r = c .before .before .before .row in
+    let x = rowed-broken (a .s) (a .t .now) (l .at) (r .result) (r .ensures) (c .before .r .given .0 .0) (c .before .r .given .1) in
+    ap (judged 4)
+    (none-read (readDirectory (a .s) (a .t .now))
+    (l .inv .2 ∙ many-broken (readRow (a .s)) (a .s .m) (l .i) (drop (l .at) (a .t .now)) (c .before .before .before .before .loop-test .taken) (x .0)))
+    ∙ ap broken (x .1)
+
+enum-told : tie.Need-enum-told Inv-loop μ-loop
+enum-told c = search needs
 
 add-at : tie.Need-add-at Inv-loop μ-loop
 add-at c =
-    let a = c .before .before .before .before .before .args in
-    let l = c .before .before .before .loop in
-    omega (arith, below-rows (l .i) (a .s .m) (rowSize (a .s)) (c .before .before .loop-test .taken))
+    let a = c .before .before .before .before .before .before .args in
+    let l = c .before .before .before .before .loop in
+    omega (arith, below-rows (l .i) (a .s .m) (rowSize (a .s)) (c .before .before .before .loop-test .taken))
 
 add-i : tie.Need-add-i Inv-loop μ-loop
 add-i c = omega arith
@@ -58,15 +67,15 @@ loop-less c = omega arith
 
 loop-again : tie.Need-loop-again Inv-loop μ-loop
 loop-again c =
-    let a = c .before .before .before .before .before .args in
-    let l = c .before .before .before .loop in
-    let r = c .before .row in
-    let z : a .size ≡ rowSize (a .s) = c .before .before .before .before .before .pre .1 in (
+    let a = c .before .before .before .before .before .before .args in
+    let l = c .before .before .before .before .loop in
+    let r = c .before .before .row in
+    let z : a .size ≡ rowSize (a .s) = c .before .before .before .before .before .before .pre .1 in (
       omega arith,
       omega (arith, stride (l .i) (rowSize (a .s))),
       l .inv .2
-          ∙ many-turn (readRow (a .s)) (a .s .m) (l .i) (drop (l .at) (a .t .now)) (c .before .before .loop-test .taken) (drop (l .at + rowSize (a .s)) (a .t .now))
-          (r .ensures ∙ ap (λ (x : Bool). cond x (some (drop (l .at + rowSize (a .s)) (a .t .now))) none) (not-false (r .result) (c .if1 .left)))
+          ∙ many-turn (readRow (a .s)) (a .s .m) (l .i) (drop (l .at) (a .t .now)) (c .before .before .before .loop-test .taken) (drop (l .at + rowSize (a .s)) (a .t .now))
+          (rowed-sound (a .s) (a .t .now) (l .at) (r .result) (r .ensures) (c .enum-told .given .1))
           ∙ ap (λ (k : ℕ). rest (readMany (readRow (a .s)) (a .s .m - (l .i + 1)) (drop (l .at + k) (a .t .now)))) (sym z),
     )
 
@@ -87,7 +96,9 @@ directory-spec =
     μ-loop
     loop-holds
     row-requires
+    enum-known-r
     returns
+    enum-told
     add-at
     add-i
     loop-less

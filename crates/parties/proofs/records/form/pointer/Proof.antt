@@ -7,7 +7,7 @@ use borrow.Author.Tests.{not-true, not-false}
 use lib.ListN.{drop, length-drop}
 use Rattle.coding.proofs.NodesLaws.{nodes-few}
 use Rattle.parties.specs.protocol.Nodes.{count}
-use Rattle.parties.proofs.records.RecordLaws.{bytes-drop, pointer-short, pointer-improper, pointer-long, pointer-sound}
+use Rattle.parties.proofs.records.RecordLaws.{pointer-short, pointer-improper, pointer-long, pointer-sound}
 use Rattle.parties.proofs.records.PlaceLaws.{version-read}
 use Rattle.parties.proofs.records.form.pointer.Statement.{statement}
 use Rattle.parties.proofs.records.form.pointer.Tie as tie
@@ -19,7 +19,7 @@ returns : tie.Need-returns
 returns c =
     let a = c .before .before .args in
     record {
-      told = sym (pointer-short (a .s) (drop (a .at) (a .t .now)) (bytes-drop (a .at) (a .t .now) (λ i. c .before .shared-slice-known .given i .fits)) (omega (arith, length-drop (a .at) (a .t .now))));
+      told = sym (pointer-short (a .s) (a .ruled) (drop (a .at) (a .t .now)) (omega (arith, length-drop (a .at) (a .t .now))));
       within = tt;
     }
 
@@ -44,18 +44,18 @@ mul-size c = omega (arith, few c)
 add-size : tie.Need-add-size
 add-size c = omega (arith, few c)
 
-proper-requires : tie.Need-proper-requires
-proper-requires c κs = search needs
+allowed-requires : tie.Need-allowed-requires
+allowed-requires c κs = search needs
 
 returns-2 : tie.Need-returns-2
 returns-2 c =
     let a = c .before .before .before .before .before .before .before .args in
     let v = c .before .before .before .before .version-at in
     let m = c .before .before .before .u16-at in
-    let p = c .before .proper in
+    let p = c .before .allowed in
     let r = c .before .before .before .before .before .if1 .left in
     record {
-      told = sym (pointer-improper (a .s) (a .t .now) (a .at) (v .result) (m .result) r (version-read (a .t .now) (a .at) (v .result) (v .ensures) (omega arith)) (m .ensures)
+      told = sym (pointer-improper (a .s) (a .ruled) (a .t .now) (a .at) (v .result) (m .result) r (version-read (a .t .now) (a .at) (v .result) (v .ensures) (omega arith)) (m .ensures)
           (sym (p .ensures) ∙ not-true (p .result) (c .if2 .taken)));
       within = tt;
     }
@@ -65,29 +65,29 @@ returns-3 c =
     let a = c .before .before .before .before .before .before .before .before .args in
     let v = c .before .before .before .before .before .version-at in
     let m = c .before .before .before .before .u16-at in
-    let p = c .before .before .proper in
+    let p = c .before .before .allowed in
     let r = c .before .before .before .before .before .before .if1 .left in
     let e : c .before .before .before .count .result ≡ count (m .result) = c .before .before .before .count .ensures in
     record {
-      told = sym (pointer-long (a .s) (a .t .now) (a .at) (v .result) (m .result) r (version-read (a .t .now) (a .at) (v .result) (v .ensures) (omega arith)) (m .ensures)
+      told = sym (pointer-long (a .s) (a .ruled) (a .t .now) (a .at) (v .result) (m .result) r (version-read (a .t .now) (a .at) (v .result) (v .ensures) (omega arith)) (m .ensures)
           (sym (p .ensures) ∙ not-false (p .result) (c .before .if2 .left)) (omega arith));
       within = tt;
     }
 
-add-t9 : tie.Need-add-t9
-add-t9 c = search needs
+add-t10 : tie.Need-add-t10
+add-t10 c = search needs
 
 returns-4 : tie.Need-returns-4
 returns-4 c =
     let a = c .before .before .before .before .before .before .before .before .args in
     let v = c .before .before .before .before .before .version-at in
     let m = c .before .before .before .before .u16-at in
-    let p = c .before .before .proper in
+    let p = c .before .before .allowed in
     let r = c .before .before .before .before .before .before .if1 .left in
     let e : c .before .before .before .count .result ≡ count (m .result) = c .before .before .before .count .ensures in
     record {
       told = ap (λ (k : ℕ). some (drop (a .at + (7 + 32 * k)) (a .t .now))) e
-          ∙ sym (pointer-sound (a .s) (a .t .now) (a .at) (v .result) (m .result) r (version-read (a .t .now) (a .at) (v .result) (v .ensures) (omega arith)) (m .ensures)
+          ∙ sym (pointer-sound (a .s) (a .ruled) (a .t .now) (a .at) (v .result) (m .result) r (version-read (a .t .now) (a .at) (v .result) (v .ensures) (omega arith)) (m .ensures)
           (sym (p .ensures) ∙ not-false (p .result) (c .before .if2 .left)) (omega arith));
       within = (omega arith, omega arith);
     }
@@ -104,8 +104,8 @@ pointer-spec =
     count-requires
     mul-size
     add-size
-    proper-requires
+    allowed-requires
     returns-2
     returns-3
-    add-t9
+    add-t10
     returns-4)

@@ -1,14 +1,19 @@
 use borrow.Author.Needs.{needs}
 use mathlib.Core.Path.{_≡_, sym, ap, _∙_}
-use mathlib.Core.Bool.{Bool, cond}
+use mathlib.Core.Bool.{Bool, true, cond}
 use mathlib.Core.Option.{some, none}
 use Prim.Native.Nat.{ℕ, _+_, _-_}
 use native.Mathlib.Omega.{arith}
+use borrow.Author.Tests.{not-true, not-false}
 use lib.Dec.{eqb}
 use lib.ListN.{take, drop}
 use Rattle.coding.specs.Nodes.{all}
 use Rattle.parties.specs.protocol.Measures.{rowSize}
-use Rattle.parties.specs.records.Form.{Ended}
+use Rattle.parties.specs.protocol.Pointer.{readPointer}
+use Rattle.parties.specs.protocol.Directory.{readRow}
+use Rattle.parties.specs.protocol.Verdict.{judged}
+use Rattle.parties.specs.records.Form.{rest, Ended}
+use Rattle.parties.proofs.records.FormLaws.{none-read}
 use Rattle.parties.proofs.records.RecordLaws.{row-other, row-broken, row-ends, row-left, parted-sound, parted-broken}
 use Rattle.parties.proofs.records.form.row.Statement.{statement}
 use Rattle.parties.proofs.records.form.row.Tie as tie
@@ -19,7 +24,9 @@ shared-slice-read-if1 c = search needs
 returns : tie.Need-returns
 returns c =
     let a = c .before .before .before .args in
-    row-other (a .s) (a .t .now) (λ i. c .before .before .shared-slice-known .given i .fits) (a .at) (c .before .before .before .pre .2) (c .if1 .taken)
+    ap (judged 4)
+    (none-read (readRow (a .s) (drop (a .at) (a .t .now)))
+    (row-other (a .s) (a .t .now) (λ i. c .before .before .shared-slice-known .given i .fits) (a .at) (c .before .before .before .pre .2) (c .if1 .taken)))
 
 add-field-ends : tie.Need-add-field-ends
 add-field-ends c = search needs
@@ -36,15 +43,17 @@ enum-told c = search needs
 returns-2 : tie.Need-returns-2
 returns-2 c =
     let a = c .before .before .before .before .before .before .args in
-    row-broken (a .s) (a .t .now) (λ i. c .before .before .before .before .before .shared-slice-known .given i .fits) (a .at) (c .before .before .before .before .before .before .pre .2) (c .before .before .before .if1 .left)
-    (parted-broken (a .s) (a .t .now) (a .at + 1) 15 (c .before .before .field-ends .result) (c .before .before .field-ends .ensures) (c .enum-told .given .1))
+    ap (judged 4)
+    (none-read (readRow (a .s) (drop (a .at) (a .t .now)))
+    (row-broken (a .s) (a .t .now) (λ i. c .before .before .before .before .before .shared-slice-known .given i .fits) (a .at) (c .before .before .before .before .before .before .pre .2) (c .before .before .before .if1 .left)
+    (parted-broken (a .s) true (a .t .now) (a .at + 1) 15 (c .before .before .field-ends .result) (c .before .before .field-ends .ensures) (c .enum-told .given .1))))
 
 add-zero-run : tie.Need-add-zero-run
 add-zero-run c = search needs
 
-ended : (c : tie.After-known-told) → let a = c .before .before .before .before .before .before .before .args in Ended (a .s) (a .t .now) (a .at + 1) 15 (c .before .e .given .0 .0)
+ended : (c : tie.After-known-told) → let a = c .before .before .before .before .before .before .before .args in Ended (a .s) (readPointer (a .s)) (a .t .now) (a .at + 1) 15 (c .before .e .given .0 .0)
 ended c =
-    let a = c .before .before .before .before .before .before .before .args in parted-sound (a .s) (a .t .now) (a .at + 1) 15 (c .before .before .before .field-ends .result) (c .before .before .before .field-ends .ensures) (c .before .e .given .0 .0) (c .before .e .given .1)
+    let a = c .before .before .before .before .before .before .before .args in parted-sound (a .s) true (a .t .now) (a .at + 1) 15 (c .before .before .before .field-ends .result) (c .before .before .before .field-ends .ensures) (c .before .e .given .0 .0) (c .before .e .given .1)
 
 zero-run-requires : tie.Need-zero-run-requires
 zero-run-requires c κs =
@@ -53,8 +62,9 @@ zero-run-requires c κs =
     let w = row-ends (a .s) (a .t .now) (λ i. c .before .before .before .before .before .before .shared-slice-known .given i .fits) (a .at) (c .before .before .before .before .before .before .before .pre .2) (c .before .e .given .0 .0) (c .before .before .before .before .if1 .left) (ended c) in
     (omega (arith, w), omega arith)
 
-returns-3 : tie.Need-returns-3
-returns-3 c =
+-- what is left goes by the spare bytes
+left : (c : tie.After-zero-run) → let a = c .before .before .before .before .before .before .before .before .args in rest (readRow (a .s) (drop (a .at) (a .t .now))) ≡ cond (c .zero-run .result) (some (drop (a .at + rowSize (a .s)) (a .t .now))) none
+left c =
     let a = c .before .before .before .before .before .before .before .before .args in
     let t = a .t .now in
     let from = c .before .before .e .given .0 .0 .index in
@@ -62,6 +72,18 @@ returns-3 c =
     row-left (a .s) t (λ i. c .before .before .before .before .before .before .before .shared-slice-known .given i .fits) (a .at) (c .before .before .before .before .before .before .before .before .pre .2) (c .before .before .e .given .0 .0) (c .before .before .before .before .before .if1 .left) (ended (c .before))
     ∙ ap (λ (x : Bool). cond x (some (drop (a .at + rowSize (a .s)) t)) none)
     (ap (λ (k : ℕ). all (λ b. eqb b 0) (take (a .at + k - from) (drop from t))) z ∙ sym (c .zero-run .ensures))
+
+returns-3 : tie.Need-returns-3
+returns-3 c =
+    let a = c .before .before .before .before .before .before .before .before .before .args in
+    ap (judged 4)
+    (none-read (readRow (a .s) (drop (a .at) (a .t .now)))
+    (left (c .before) ∙ ap (λ (x : Bool). cond x (some (drop (a .at + rowSize (a .s)) (a .t .now))) none) (not-true (c .before .zero-run .result) (c .if2 .taken))))
+
+returns-4 : tie.Need-returns-4
+returns-4 c =
+    let a = c .before .before .before .before .before .before .before .before .before .args in
+    left (c .before) ∙ ap (λ (x : Bool). cond x (some (drop (a .at + rowSize (a .s)) (a .t .now))) none) (not-false (c .before .zero-run .result) (c .if2 .left))
 
 pub row-spec : {M : Type 1} → statement M
 row-spec =
@@ -76,4 +98,5 @@ row-spec =
     returns-2
     add-zero-run
     zero-run-requires
-    returns-3)
+    returns-3
+    returns-4)

@@ -1,9 +1,9 @@
 use borrow.Author.Needs.{needs}
-use native.Mathlib.Omega.{arith}
-use mathlib.Core.Path.{_≡_}
-use lib.ListN.{length, getD}
+use mathlib.Core.Bool.{true, false}
+use lib.ListN.{getD}
+use Rattle.parties.specs.protocol.Pointer.{readAnyPointer, readPointer}
 use Rattle.parties.specs.records.Form.{Ended}
-use Rattle.parties.proofs.records.RecordLaws.{record-none, record-high, record-broken, record-long, parted-sound, parted-broken}
+use Rattle.parties.proofs.records.RecordLaws.{record-none, record-high, record-short, record-long, record-rule, record-ends, parted-sound, parted-broken}
 use Rattle.parties.proofs.records.form.whole_record.Statement.{statement}
 use Rattle.parties.proofs.records.form.whole_record.Tie as tie
 
@@ -19,8 +19,8 @@ returns-2 c = record-high (c .before .before .before .before .args .s) (c .befor
 field-ends-requires : tie.Need-field-ends-requires
 field-ends-requires c κs = search needs
 
-enum-known-e : tie.Need-enum-known-e
-enum-known-e c = search needs
+enum-known-l : tie.Need-enum-known-l
+enum-known-l c = search needs
 
 enum-told : tie.Need-enum-told
 enum-told c = search needs
@@ -28,23 +28,48 @@ enum-told c = search needs
 returns-3 : tie.Need-returns-3
 returns-3 c =
     let a = c .before .before .before .before .before .before .before .args in
-    record-broken (a .s) (a .t .now) (c .before .before .before .before .before .if1 .left) (c .before .before .before .if2 .left)
-    (parted-broken (a .s) (a .t .now) 1 (getD (a .t .now) 0 0) (c .before .before .field-ends .result) (c .before .before .field-ends .ensures) (c .enum-told .given .1))
+    let f = c .before .before .field-ends in
+    record-short (a .s) (a .t .now) (c .before .before .before .before .before .if1 .left) (c .before .before .before .if2 .left)
+    (parted-broken (a .s) false (a .t .now) 1 (getD (a .t .now) 0 0) (f .result) (f .ensures) (c .enum-told .given .1))
 
-ended : (c : tie.After-known-told) → let a = c .before .before .before .before .before .before .before .before .args in Ended (a .s) (a .t .now) 1 (getD (a .t .now) 0 0) (c .before .e .given .0 .0)
-ended c =
+-- where the fields end by their lengths
+walked : (c : tie.After-known-told) → let a = c .before .before .before .before .before .before .before .before .args in Ended (a .s) readAnyPointer (a .t .now) 1 (getD (a .t .now) 0 0) (c .before .l .given .0 .0)
+walked c =
     let a = c .before .before .before .before .before .before .before .before .args in
-    parted-sound (a .s) (a .t .now) 1 (getD (a .t .now) 0 0) (c .before .before .before .field-ends .result) (c .before .before .before .field-ends .ensures) (c .before .e .given .0 .0) (c .before .e .given .1)
+    let f = c .before .before .before .field-ends in parted-sound (a .s) false (a .t .now) 1 (getD (a .t .now) 0 0) (f .result) (f .ensures) (c .before .l .given .0 .0) (c .before .l .given .1)
 
 returns-4 : tie.Need-returns-4
 returns-4 c =
     let a = c .before .before .before .before .before .before .before .before .before .before .args in
-    record-long (a .s) (a .t .now) (c .before .before .before .before .before .before .before .before .if1 .left) (c .before .before .before .before .before .before .if2 .left) (c .before .before .before .e .given .0 .0) (ended (c .before .before)) (c .if3 .taken)
+    record-long (a .s) (a .t .now) (c .before .before .before .before .before .before .before .before .if1 .left) (c .before .before .before .before .before .before .if2 .left) (c .before .before .before .l .given .0 .0) (walked (c .before .before)) (c .if3 .taken)
+
+field-ends-requires-2 : tie.Need-field-ends-requires-2
+field-ends-requires-2 c κs = search needs
+
+enum-known-e : tie.Need-enum-known-e
+enum-known-e c = search needs
+
+enum-told-2 : tie.Need-enum-told-2
+enum-told-2 c = search needs
 
 returns-5 : tie.Need-returns-5
 returns-5 c =
-    let p = ended (c .before .before) in
-    let e : c .before .before .before .e .given .0 .0 .index ≡ length (c .before .before .before .before .before .before .before .before .before .before .args .t .now) = omega (arith, p .ordered) in (c .before .before .before .before .before .before .before .before .if1 .left, c .before .before .before .before .before .before .if2 .left, p, e)
+    let a = c .before .before .before .before .before .before .before .before .before .before .before .before .before .args in
+    let f = c .before .before .field-ends2 in
+    record-rule (a .s) (a .t .now) (c .before .before .before .before .before .before .before .before .before .before .before .if1 .left) (c .before .before .before .before .before .before .before .before .before .if2 .left) (c .before .before .before .before .before .before .l .given .0 .0) (walked (c .before .before .before .before .before)) (c .before .before .before .if3 .left)
+    (parted-broken (a .s) true (a .t .now) 1 (getD (a .t .now) 0 0) (f .result) (f .ensures) (c .enum-told2 .given .1))
+
+returns-6 : tie.Need-returns-6
+returns-6 c =
+    let a = c .before .before .before .before .before .before .before .before .before .before .before .before .before .before .args in
+    let f = c .before .before .before .field-ends2 in
+    let e = c .before .e .given .0 .0 in
+    let p : Ended (a .s) (readPointer (a .s)) (a .t .now) 1 (getD (a .t .now) 0 0) e = parted-sound (a .s) true (a .t .now) 1 (getD (a .t .now) 0 0) (f .result) (f .ensures) e (c .before .e .given .1) in (
+      c .before .before .before .before .before .before .before .before .before .before .before .before .if1 .left,
+      c .before .before .before .before .before .before .before .before .before .before .if2 .left,
+      p,
+      record-ends (a .s) (a .t .now) (c .before .before .before .before .before .before .before .before .before .before .before .before .if1 .left) (c .before .before .before .before .before .before .before .before .before .before .if2 .left) (c .before .before .before .before .before .before .before .l .given .0 .0) (walked (c .before .before .before .before .before .before)) (c .before .before .before .before .if3 .left) e p,
+    )
 
 pub whole-record-spec : {M : Type 1} → statement M
 whole-record-spec =
@@ -54,8 +79,12 @@ whole-record-spec =
     shared-slice-read-map
     returns-2
     field-ends-requires
-    enum-known-e
+    enum-known-l
     enum-told
     returns-3
     returns-4
-    returns-5)
+    field-ends-requires-2
+    enum-known-e
+    enum-told-2
+    returns-5
+    returns-6)
