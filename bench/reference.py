@@ -1,13 +1,14 @@
 #!/usr/bin/env python3
-"""An independent account of document 01's directory and data node, and the vectors that the proved ones are held to.
+"""An independent account of the directory and data node of documents 01 and 02 (g), and the vectors that the proved ones are held to.
 
     reference.py FOLDER    writes FOLDER/stdin (calls, in binary) and FOLDER/stdout (what each must print)
 
 Written from document 01, with the tags of messages and the node's room from docs/DECISIONS.md (21, 31), by the hand that wrote the definitions;
-it shares no code or text with them. A table of 65,536 bytes, at first `poison`, is kept from call to call. A call in stdin, high bytes first: kind
-(1 byte), whether the table after it is kept (1), m n k t F and a number (2 each), the length lent of the table and of a room filled with `poison`
-(4 each), a place of the table (4) and what its byte is changed by (1; exclusive or), the message's length (2) and bytes. A line of stdout: the
-kind, the refusal's number or the bytes answered, and the sums of table and room after the call."""
+the numbers of an update's damaged record, 4, 11 and 12, are from document 02 (g) alone. It shares no code or text with the definitions. A table of
+65,536 bytes, at first `poison`, is kept from call to call. A call in stdin, high bytes first: kind (1 byte), whether the table after it is kept (1),
+m n k t F and a number (2 each), the length lent of the table and of a room filled with `poison` (4 each), a place of the table (4) and what its byte
+is changed by (1; exclusive or), the message's length (2) and bytes. A line of stdout: the kind, the refusal's number or the bytes answered, and the
+sums of table and room after the call."""
 import random
 import struct
 import sys
@@ -66,26 +67,38 @@ class Input:
             raise Broken
 
 
-def read_pointer(s, i):
+NONE = (0, 255, 0, [])
+
+
+def take_pointer(i):
+    """By its length alone: the node map says how many digests there are, whatever else is wrong with it."""
     sequence, client, nodes = i.number(4), i.number(1), i.number(2)
-    digests = [i.take(32) for _ in range(bin(nodes).count('1'))]
-    if (sequence, client, nodes) == (0, 255, 0):
-        return (0, 255, 0, [])
-    if sequence == 0 or client >= s.m or len(digests) != s.t + s.k or nodes >> s.n:
+    return (sequence, client, nodes, [i.take(32) for _ in range(bin(nodes).count('1'))])
+
+
+def keeps_rule(s, p):
+    sequence, client, nodes, digests = p
+    return p == NONE or (sequence >= 1 and client < s.m and len(digests) == s.t + s.k and nodes >> s.n == 0)
+
+
+def read_pointer(s, i):
+    p = take_pointer(i)
+    if not keeps_rule(s, p):
         raise Broken
-    return (sequence, client, nodes, digests)
+    return p
 
 
 def write_pointer(p):
     return struct.pack('>IBH', p[0], p[1], p[2]) + b''.join(p[3])
 
 
-def read_fields(s, i, bits):
+def take_fields(s, i, bits):
+    """By their lengths alone."""
     fields = [None] * 4
     if bits & 1:
-        fields[0] = [read_pointer(s, i)]
+        fields[0] = [take_pointer(i)]
     if bits & 2:
-        fields[1] = [read_pointer(s, i) for _ in range(s.m)]
+        fields[1] = [take_pointer(i) for _ in range(s.m)]
     if bits & 4:
         fields[2] = [i.number(4) for _ in range(s.m)]
     if bits & 8:
@@ -93,20 +106,26 @@ def read_fields(s, i, bits):
     return fields
 
 
+def keep_rules(s, fields):
+    return all(keeps_rule(s, p) for pointers in fields[:2] for p in pointers or [])
+
+
+def parts_of(fields):
+    """A record's map, pointers and indices, one after the other."""
+    bits = sum(1 << b for b in range(4) if fields[b] is not None)
+    return [bytes([bits])] + [write_pointer(x) if b < 2 else struct.pack('>I', x) for b in range(4) for x in fields[b] or []]
+
+
 def write_fields(fields):
-    out = bytes([sum(1 << b for b in range(4) if fields[b] is not None)])
-    for b in range(4):
-        for x in fields[b] or []:
-            out += write_pointer(x) if b < 2 else struct.pack('>I', x)
-    return out
+    return b''.join(parts_of(fields))
 
 
 def read_row(s, data):
     i = Input(data)
     if i.number(1) != 15:
         raise Broken
-    fields = read_fields(s, i, 15)
-    if any(data[i.at:]):
+    fields = take_fields(s, i, 15)
+    if not keep_rules(s, fields) or any(data[i.at:]):
         raise Broken
     return fields
 
@@ -117,9 +136,6 @@ def write_row(s, fields):
 
 def read_rows(s, table):
     return [read_row(s, table[p * s.row():(p + 1) * s.row()]) for p in range(s.m)]
-
-
-NONE = (0, 255, 0, [])
 
 
 def fresh_row(s):
@@ -134,6 +150,21 @@ def fresh_directory(s, own, table, message, room):
     return 0, write_row(s, fresh_row(s)) * s.m + table[s.directory():], room
 
 
+def read_record(s, record):
+    """The fields of an update: first its map is looked at, then all lengths, and the rules of pointers only when these fit."""
+    if record and record[0] > 15:
+        raise Refused(4)
+    try:
+        i = Input(record)
+        fields = take_fields(s, i, i.number(1))
+        i.end()
+    except Broken:
+        raise Refused(11)
+    if not keep_rules(s, fields):
+        raise Refused(12)
+    return fields
+
+
 def update(s, own, table, message, room):
     if not s.proper():
         raise Refused(1)
@@ -143,14 +174,9 @@ def update(s, own, table, message, room):
         raise Refused(3)
     try:
         rows = read_rows(s, table)
-        i = Input(message)
-        bits = i.number(1)
-        if bits > 15:
-            raise Broken
-        new = read_fields(s, i, bits)
-        i.end()
     except Broken:
         raise Refused(4)
+    new = read_record(s, message)
     rows[own] = [new[b] if new[b] is not None else rows[own][b] for b in range(4)]
     return 0, b''.join(write_row(s, r) for r in rows) + table[s.directory():], room
 
@@ -269,18 +295,20 @@ class Vectors:
         self.calls, self.lines, self.table = [], [], poison(65536)
 
     def add(self, kind, s, own, length, message=b'', room=0, damage=(0, 0), keep=False):
+        """Gives the refusal's number, or 0."""
         self.calls.append(struct.pack('>BB6HIIIBH', kind, keep, s.m, s.n, s.k, s.t, s.f, own, length, room, damage[0], damage[1], len(message)) + message)
         at, change = damage
         whole = self.table[:at] + bytes([self.table[at] ^ change]) + self.table[at + 1:]
         table, room = whole[:length], poison(room)
         try:
             answer, table, room = CALLS[kind](s, own, table, message, room)
-            what = 'served %d' % answer
+            what, number = 'served %d' % answer, 0
         except Refused as r:
-            what = 'refused %d' % r.number
+            what, number = 'refused %d' % r.number, r.number
         self.lines.append('%d %s %d %d' % (kind, what, checksum(table), checksum(room)))
         if keep:
             self.table = table + whole[length:]
+        return number
 
 
 def some_pointer(s, r, none=0.3):
@@ -407,25 +435,26 @@ def node_vectors(v, r):
         v.add(5, Measures(m, n, k, t, f), 99, 0)
 
 
+def pointer(r, sequence, client, nodes):
+    return (sequence, client, sum(1 << (i - 1) for i in nodes), [r.randbytes(32) for _ in nodes])
+
+
 def pointer_vectors(v, r):
     """Each clause of a pointer's form is broken alone: in an update's record, then in the rows."""
     for s in [Measures(3, 4, 2, 1, 8), Measures(2, 12, 3, 2, 4), Measures(1, 15, 1, 0, 4)]:
         size, bits = s.directory(), s.t + s.k
 
-        def pointer(sequence, client, nodes):
-            return (sequence, client, sum(1 << (i - 1) for i in nodes), [r.randbytes(32) for _ in nodes])
-
         # all pointers of all rows name the highest nodes
         named = range(s.n - bits + 1, s.n + 1)
-        good = [[pointer(q + 1, q % s.m, named)] + [pointer(q + 2, 0, named) for _ in range(s.m)] for q in range(s.m)]
+        good = [[pointer(r, q + 1, q % s.m, named)] + [pointer(r, q + 2, 0, named) for _ in range(s.m)] for q in range(s.m)]
         v.add(1, s, 0, size, keep=True)
         for own in range(s.m):
             v.add(2, s, own, size, write_fields([good[own][:1], good[own][1:], [0] * s.m, [0]]), keep=True)
         lowest = list(range(1, bits))
-        tried = [pointer(7, 0, lowest + [i]) for i in range(bits, 17)]
-        tried += [pointer(0, 0, named), pointer(0, 255, named), pointer(7, s.m, named), pointer(7, 255, named), pointer(7, 0, lowest),
-                  pointer(7, 0, lowest + [s.n - 1, s.n]), pointer(7, 0, []), pointer(0, 0, []), pointer(7, 255, []), pointer(0, 255, [])]
-        for p in tried:
+        heads = [(7, 0, lowest + [i]) for i in range(bits, 17)]
+        heads += [(0, 0, named), (0, 255, named), (7, s.m, named), (7, 255, named), (7, 0, lowest), (7, 0, lowest + [s.n - 1, s.n]), (7, 0, []),
+                  (0, 0, []), (7, 255, []), (0, 255, [])]
+        for p in [pointer(r, *head) for head in heads]:
             for at in range(s.m + 1):
                 pointers = [p if i == at else x for i, x in enumerate(good[0])]
                 v.add(2, s, 0, size, write_fields([pointers[:1], pointers[1:], None, None]))
@@ -441,11 +470,257 @@ def pointer_vectors(v, r):
                         v.add(3, s, 0, size, room=size, damage=(place, change))
 
 
+# Damaged records of updates
+
+
+ANY, SERVED, MAP, LENGTH, RULE = (0, 4, 11, 12), (0,), (4,), (11,), (12,)
+
+
+def tried(v, s, own, record, numbers, **more):
+    """An update with this record gives one of these numbers; 0 is served."""
+    assert v.add(2, s, own, more.pop('length', s.directory()), record, **more) in numbers
+
+
+def some_parts(s, r, bits, none=0.2):
+    """Those of a sound record."""
+    pointers, indices = [some_pointer(s, r, none) for _ in range(s.m + 1)], [r.randrange(2 ** 32) for _ in range(s.m + 1)]
+    fields = [pointers[:1], pointers[1:], indices[:-1], indices[-1:]]
+    return parts_of([fields[b] if bits >> b & 1 else None for b in range(4)])
+
+
+def pointer_places(s, bits):
+    """Where the pointers stand among the parts."""
+    return range(1, 1 + (bits & 1) + (bits >> 1 & 1) * s.m)
+
+
+def with_part(parts, at, part):
+    return b''.join(parts[:at] + [part] + parts[at + 1:])
+
+
+def improper(s, r):
+    """Pointers that break their rule, each with a digest for each of its bits and then with fewer or more."""
+    due = s.t + s.k
+    named = list(range(1, due + 1))
+    counts = [count for count in sorted({0, 1, due - 1, due + 1, 16}) if count <= 16 and count != due]
+    tries = [(7, 0, range(1, count + 1), due) for count in counts] + [(7, 0, range(17 - count, 17), due) for count in counts if 0 < count < 16]
+    tries += [(7, 0, named[:-1] + [i], due - 1) for i in range(s.n + 1, 17)] + [(7, 0, named + [i], due) for i in range(s.n + 1, 17)[:1]]
+    tries += [(0, 255, [i], 0) for i in range(1, 17)] + [(0, 255, named, 0)]
+    tries += [(q, c, named, due - 1) for q, c in ((0, 0), (0, s.m - 1), (0, s.m), (1, s.m), (1, 254), (1, 255), (2 ** 32 - 1, 255))]
+    tries += [(q, c, [], due) for q, c in ((0, 0), (0, 254), (0, s.m), (1, 255), (256, 255), (65536, 255), (2 ** 24, 255), (2 ** 32 - 1, s.m - 1))]
+    fitting = [write_pointer(pointer(r, *three)) for *three, _ in tries]
+    return [(p, p[:7] + r.randbytes(32 * count)) for p, (_, _, _, count) in zip(fitting, tries)]
+
+
+def bad_maps(v, r, s):
+    """With any length, and with improper pointers."""
+    wrong = improper(s, r)
+    for bad in [0x20, 0x40, 0x80, 0xFF] + list(range(0x10, 0x20)):
+        bits = bad & 15 or 15
+        parts, own = some_parts(s, r, bits), r.randrange(s.m)
+        whole = b''.join(parts)
+        records = [whole[:1], whole, whole[:-1], whole + b'\0', whole + bytes(32)]
+        for at in pointer_places(s, bits):
+            records += [with_part(parts, at, p) for p in r.choice(wrong)]
+        for record in records:
+            tried(v, s, own, bytes([bad]) + record[1:], MAP)
+
+
+def wrong_lengths(v, r, s, maps=range(16)):
+    """A byte less and a byte more at the end of each part, cuts there and in its middle, bytes after the last; then the record itself."""
+    for bits in maps:
+        parts, own = some_parts(s, r, bits), r.randrange(s.m)
+        whole = b''.join(parts)
+        for at, part in enumerate(parts):
+            # under one map lengths differ by multiples of 32: one byte less or more can only fit where it changes the map
+            tried(v, s, own, with_part(parts, at, part[:-1]), LENGTH if at else ANY)
+            tried(v, s, own, with_part(parts, at, part + r.randbytes(1)), LENGTH)
+            tried(v, s, own, b''.join(parts[:at]) + part[:len(part) // 2], LENGTH)
+            if at + 1 < len(parts):
+                tried(v, s, own, b''.join(parts[:at + 1]), LENGTH)
+        for more in (1, 2, 31, 32, 33):
+            tried(v, s, own, whole + r.choice([bytes(more), r.randbytes(more)]), LENGTH)
+        tried(v, s, own, whole, SERVED, keep=bits % 3 == 0)
+
+
+def every_length(v, r, s):
+    """A cut at every byte, every byte left out, and a byte put in before it."""
+    for bits in (3, 5, 10, 12, 15):
+        whole, own = b''.join(some_parts(s, r, bits)), r.randrange(s.m)
+        for at in range(len(whole)):
+            tried(v, s, own, whole[:at], LENGTH)
+            tried(v, s, own, whole[:at] + whole[at + 1:], LENGTH if at else ANY)
+            tried(v, s, own, whole[:at] + r.randbytes(1) + whole[at:], LENGTH if at else ANY)
+
+
+def other_maps(v, r, s):
+    """Each map in the place of each, and in front of it."""
+    for bits in range(16):
+        for other in range(16):
+            whole = b''.join(some_parts(s, r, bits, none=0.5))
+            tried(v, s, r.randrange(s.m), bytes([other]) + whole[1:], SERVED if other == bits else ANY)
+            tried(v, s, r.randrange(s.m), bytes([other]) + whole, ANY)
+
+
+def wrong_pointers(v, r, s, places, wrong):
+    """Each at each of these places, where 0 is the written pointer's; the others are sound."""
+    for at in places:
+        for fitting, other in wrong:
+            bits = r.choice([b for b in range(16) if b >> (at > 0) & 1])
+            parts, own, among = some_parts(s, r, bits), r.randrange(s.m), pointer_places(s, bits)
+            place = among[at if bits & 1 else at - 1]
+            tried(v, s, own, with_part(parts, place, fitting), RULE)
+            # bytes that are then taken for the next pointer may fit by chance
+            tried(v, s, own, with_part(parts, place, other), LENGTH if place == among[-1] else LENGTH + RULE)
+
+
+def wrong_counts(v, r, s):
+    """Pointers with all 16 bits; one bit too few beside one too many, which have the length of two sound pointers."""
+    due = s.t + s.k
+    less, more, every = (write_pointer(pointer(r, 7, 0, range(1, count + 1))) for count in (due - 1, due + 1, 16))
+    for bits in (1, 2, 3, 15):
+        parts, places = some_parts(s, r, bits), pointer_places(s, bits)
+        tried(v, s, 0, b''.join(parts[:1] + [every] * len(places) + parts[1 + len(places):]), RULE)
+        firsts = places[:-1]
+        for at in sorted({*firsts[:1], *firsts[-1:]}):
+            tried(v, s, 0, b''.join(parts[:at] + [less, more] + parts[at + 2:]), RULE)
+            tried(v, s, 0, b''.join(parts[:at] + [more, less] + parts[at + 2:]), RULE)
+
+
+def two_damages(v, r, s):
+    """A pointer breaks its rule; beside it the map, a length before or after it, or another pointer is wrong."""
+    wrong = improper(s, r)
+    for bits in (1, 2, 3, 5, 10, 15):
+        sound, places, own = some_parts(s, r, bits), pointer_places(s, bits), r.randrange(s.m)
+        for at in places:
+            parts = sound[:at] + [r.choice(wrong)[0]] + sound[at + 1:]
+            whole = b''.join(parts)
+            for place, part in enumerate(parts):
+                if place:
+                    tried(v, s, own, with_part(parts, place, part[:-1]), LENGTH)
+                tried(v, s, own, with_part(parts, place, part + b'\0'), LENGTH)
+            for record in (whole[:1], whole[:7], whole[:-4], whole + bytes(32)):
+                tried(v, s, own, record, LENGTH)
+            for record in (whole, whole[:-1], whole + b'\0'):
+                tried(v, s, own, bytes([16 | bits]) + record[1:], MAP)
+            for second in places:
+                if second != at:
+                    fitting, other = r.choice(wrong)
+                    tried(v, s, own, with_part(parts, second, fitting), RULE)
+                    tried(v, s, own, with_part(parts, second, other), LENGTH if second == places[-1] else LENGTH + RULE)
+
+
+def head(sequence, client, count):
+    """A pointer's first seven bytes, with the lowest nodes."""
+    return struct.pack('>IBH', sequence, client, (1 << count) - 1)
+
+
+def shifted(v, r, s, bits):
+    """The last pointer but one lacks digests or has more, and the bytes that are then taken for the last one have its form, or nearly."""
+    due, at = s.t + s.k, pointer_places(s, bits)[-2]
+    sound, none = head(7, 0, due), head(0, 255, 0)
+
+    def gives(numbers, first, last):
+        parts = some_parts(s, r, bits)
+        tried(v, s, r.randrange(s.m), b''.join(parts[:at] + [first, last] + parts[at + 2:]), numbers, keep=numbers == SERVED)
+
+    # it lacks all: the last pointer is taken for them, up to the end of its digests
+    for end, numbers in ((none, SERVED), (head(0, 0, 0), RULE), (head(1, 255, 0), RULE), (head(1, 0, 0), RULE), (head(1, 0, 1), LENGTH)):
+        gives(numbers, sound, sound + r.randbytes(32 * due - 7) + end)
+    # it lacks one: the last pointer is taken for it, up to the end of its first digest
+    for end, numbers in ((sound, LENGTH), (head(7, 0, due - 1), RULE), (head(0, 255, due - 1), SERVED if due == 1 else RULE)):
+        gives(numbers, sound + r.randbytes(32 * (due - 1)), sound + r.randbytes(25) + end + r.randbytes(32 * (due - 1)))
+    # it has more, and the last one is none
+    for count in sorted({1, due}):
+        for start, numbers in ((head(7, 0, count), SERVED if count == due else RULE), (head(7, s.m, count), RULE), (head(0, 0, count), RULE),
+                               (none, LENGTH)):
+            gives(numbers, sound + r.randbytes(32 * due) + start + r.randbytes(32 * count - 7), none)
+
+
+def map_left_out(v):
+    """Of one client's two indices: the bytes that are left are a record of one pointer that is none, or nearly."""
+    end = 255 * 2 ** 16
+    for index, reading, numbers in ((2 ** 24, end, SERVED), (2 ** 25, end, SERVED), (2 ** 24, 0, RULE), (2 ** 24 + 1, end, RULE),
+                                    (2 ** 24, end + 1, LENGTH), (3 * 2 ** 24, end, LENGTH), (2 ** 28, end, MAP)):
+        tried(v, Measures(1, 1, 1, 0, 4), 0, write_fields([None, None, [index], [reading]])[1:], numbers)
+
+
+def some_records(s, r):
+    """Sound ones and a few of each kind of damage, with their numbers."""
+    wrong, parts = improper(s, r), some_parts(s, r, 15)
+    whole, written, frozen = b''.join(parts), with_part(parts, 1, r.choice(wrong)[0]), with_part(parts, s.m + 1, r.choice(wrong)[0])
+    return [(b'\0', SERVED), (whole, SERVED), (b'\x10', MAP), (b'\x1f' + whole[1:-1], MAP), (b'', LENGTH), (b'\0\0', LENGTH), (whole[:-1], LENGTH),
+            (whole + b'\0', LENGTH), (written[:-1], LENGTH), (written, RULE), (frozen, RULE), (b'\1' + r.choice(wrong)[0], RULE)]
+
+
+def before_records(v, r, s):
+    """What is refused before a record is looked at, with each kind of record."""
+    size, records = s.directory(), some_records(s, r)
+    # each row has spare bytes, as its first frozen pointer is none
+    for own in range(s.m):
+        fields = [[some_pointer(s, r, 0)], [NONE] + [some_pointer(s, r, 0) for _ in range(s.m - 1)], [0] * s.m, [own]]
+        tried(v, s, own, write_fields(fields), SERVED, keep=True)
+    written, frozen = 1, 8 + 32 * (s.t + s.k)
+    damage = [(0, 1), (0, 16), (written + 4, 128), (written + 5, 255), (frozen + 4, 1), (s.row() - 1, 1)]
+    for record, numbers in records:
+        own = r.randrange(s.m)
+        tried(v, s, own, record, numbers)
+        # what is lent beyond the rows is not looked at
+        tried(v, s, own, record, numbers, length=size + 1, damage=(size, 255))
+        for row in sorted({0, own, s.m - 1}):
+            for place, change in damage:
+                tried(v, s, own, record, (4,), damage=(row * s.row() + place, change))
+        for number in (s.m, 65535):
+            tried(v, s, number, record, (3,))
+            tried(v, s, number, record, (3,), damage=(0, 1))
+            tried(v, s, number, record, (2,), length=size - 1)
+        tried(v, s, own, record, (2,), length=size - 1)
+        for m, n, k, t, f in ((0, s.n, s.k, s.t, s.f), (9, s.n, s.k, s.t, s.f), (s.m, 17, s.k, s.t, s.f), (s.m, s.n, 0, s.t, s.f),
+                              (s.m, s.n, s.k, s.n, s.f), (s.m, s.n, s.k, s.t, 0), (s.m, s.n, s.k, s.t, 4097)):
+            tried(v, Measures(m, n, k, t, f), own, record, (1,))
+
+
+def damage_vectors(v, r):
+    """The numbers of an update's record, document 02 (g): 4 for its map, 11 for its length, 12 for a pointer."""
+    small = [Measures(1, 1, 1, 0, 4), Measures(3, 4, 2, 1, 8), Measures(2, 12, 3, 2, 4), Measures(1, 15, 1, 0, 4)]
+    for s in small:
+        v.add(1, s, 0, s.directory(), keep=True)
+        tried(v, s, 0, b'', LENGTH)
+        wrong_lengths(v, r, s)
+        wrong_pointers(v, r, s, range(s.m + 1), improper(s, r))
+        wrong_counts(v, r, s)
+        two_damages(v, r, s)
+        for bits in (3, 15) if s.m == 1 else (2, 3, 15):
+            shifted(v, r, s, bits)
+        v.add(3, s, 0, s.directory(), room=s.directory())
+    for s in small[:3]:
+        v.add(1, s, 0, s.directory(), keep=True)
+        before_records(v, r, s)
+        bad_maps(v, r, s)
+    v.add(1, small[0], 0, small[0].directory(), keep=True)
+    map_left_out(v)
+    every_length(v, r, small[0])
+    other_maps(v, r, small[0])
+    # the largest table, and the largest pointers
+    for s in [Measures(8, 16, 8, 4, 4096), Measures(2, 16, 16, 0, 1)]:
+        v.add(1, s, 0, s.directory(), keep=True)
+        for bits in range(16):
+            tried(v, s, r.randrange(s.m), b''.join(some_parts(s, r, bits)), SERVED, keep=True)
+        wrong_lengths(v, r, s, (5, 12))
+        wrong_pointers(v, r, s, (0, 1, s.m), r.sample(improper(s, r), 6))
+        if s.t + s.k < 16:
+            wrong_counts(v, r, s)
+        shifted(v, r, s, 3)
+        v.add(3, s, 0, s.directory(), room=s.directory())
+    # the longest that a call can have
+    tried(v, s, 0, b'\1' + bytes(65534), LENGTH)
+
+
 def main(folder):
     v, r = Vectors(), random.Random(1)
     directory_vectors(v, r)
     node_vectors(v, r)
     pointer_vectors(v, random.Random(2))
+    damage_vectors(v, random.Random(3))
     open(folder + '/stdin', 'wb').write(b''.join(v.calls))
     open(folder + '/stdout', 'w').write('\n'.join(v.lines) + '\n')
     kinds = {}
@@ -454,6 +729,9 @@ def main(folder):
         kinds[key] = kinds.get(key, 0) + 1
     for key in sorted(kinds):
         print(kinds[key], key)
+    # an update is met with each of its numbers; a damaged record is none of a scan's
+    assert {key for key in kinds if key[0] == '2'} == {'2 served'} | {'2 refused %d' % number for number in (1, 2, 3, 4, 11, 12)}
+    assert {key for key in kinds if key[0] == '3'} == {'3 served'} | {'3 refused %d' % number for number in (1, 2, 4)}
 
 
 if __name__ == '__main__':
