@@ -2,7 +2,7 @@
 
 use crate::measures::Version;
 
-/// A length, or the number of the refusal.
+/// A length, or the number of the refusal: document 01's, or document 02's 11, 12 and 15.
 pub type Answer = Result<usize, u32>;
 
 /// What an event at a client says, with the version and the bytes that it speaks of.

@@ -153,7 +153,8 @@ pub fn directory_fresh(s: Measures, table: &mut [u8]) -> Answer {
     })
 }
 
-/// A record of changed fields is put into the row of client `own`.
+/// A record of changed fields is put into the row of client `own`. A record with a bad bit map is refused 4, one of a wrong length 11, and
+/// one with a pointer that breaks its rule 12.
 pub fn directory_update(s: Measures, own: usize, table: &mut [u8], fields: &[u8]) -> Answer {
     // SAFETY: as above, for the table.
     of_code(unsafe {

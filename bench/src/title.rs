@@ -255,7 +255,8 @@ pub fn to_client(
     })
 }
 
-/// Client c's update is carried out at the directory.
+/// Client c's update is carried out at the directory. A record with a bad bit map is refused 4, one of a wrong length 11, and one with a
+/// pointer that breaks its rule 12.
 pub fn update(s: Measures, c: usize, memory: &mut [u8], fields: &[u8]) -> Answer {
     // SAFETY: as above, for the memory.
     of_code(unsafe {

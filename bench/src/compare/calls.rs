@@ -1,10 +1,12 @@
-//! Calls without order to the directory and a node, valid and damaged: two implementations must answer and leave the same.
+//! Calls without order to the directory and a node, valid and damaged: two implementations must answer and leave the same, and each
+//! refusal of an update must be met by each of its causes.
 
-use crate::parties::{put_version, Pointer, Record};
+use crate::causes::{judge, Cause};
+use crate::parties::{pass, put_version};
 use crate::random::{
-    measures, number, other_measures, rare, spoil, spoil_byte, spoil_directory, version, who,
-    Numbers,
+    measures, other_measures, rare, spoil, spoil_byte, spoil_directory, version, who, Numbers, RARE,
 };
+use crate::records;
 use crate::sides::Parties;
 use crate::tally::Tally;
 use jolbizna::{Answer, Measures, Version};
@@ -92,35 +94,6 @@ impl Pair<'_> {
     }
 }
 
-fn pointer(numbers: &mut Numbers, s: Measures, step: u32) -> Pointer {
-    if numbers.below(4) == 0 {
-        return Pointer::none();
-    }
-    // A damaged one has a bit more or less, or one for no node.
-    let count = s.t + s.k + rare(numbers) as usize - rare(numbers) as usize;
-    let top = s.n + (rare(numbers) && s.n < 16) as usize;
-    let mut nodes = 0u16;
-    while (nodes.count_ones() as usize) < count.min(top) {
-        nodes |= 1 << numbers.below(top);
-    }
-    Pointer {
-        version: version(numbers, s, step),
-        nodes,
-        digests: numbers.bytes(32 * nodes.count_ones() as usize),
-    }
-}
-
-fn record(numbers: &mut Numbers, s: Measures, step: u32) -> Vec<u8> {
-    let map = numbers.below(16);
-    Record {
-        written: (map & 1 != 0).then(|| pointer(numbers, s, step)),
-        frozen: (map & 2 != 0).then(|| (0..s.m).map(|_| pointer(numbers, s, step)).collect()),
-        frozen_indices: (map & 4 != 0).then(|| (0..s.m).map(|_| number(numbers)).collect()),
-        reading: (map & 8 != 0).then(|| number(numbers)),
-    }
-    .write()
-}
-
 fn message(numbers: &mut Numbers, s: Measures, step: u32) -> Vec<u8> {
     let kind = numbers.below(20);
     let mut out = match kind {
@@ -195,10 +168,73 @@ fn cut(numbers: &mut Numbers, bytes: &[u8], need: usize) -> Vec<u8> {
     bytes
 }
 
+/// Which calls were made, and by what updates were refused.
+#[derive(Default)]
+struct Account {
+    calls: Tally,
+    updates: Tally,
+    /// The causes of an update's refusal, where there were two.
+    pairs: BTreeSet<[Cause; 2]>,
+}
+
+const MEASURES: Cause = (1, "measures out of bounds");
+const SHORT: Cause = (2, "table short");
+const OUTSIDE: Cause = (3, "client out of bounds");
+
+/// What refuses an update for what its caller says.
+const CALLER: [Cause; 3] = [MEASURES, SHORT, OUTSIDE];
+
+/// Which number of an update is told, where there are two.
+const ORDERS: [Cause; 10] = [
+    (2, "2 before 3"),
+    (2, "2 before 4"),
+    (2, "2 before 11"),
+    (2, "2 before 12"),
+    (3, "3 before 4"),
+    (3, "3 before 11"),
+    (3, "3 before 12"),
+    (4, "4 before 11"),
+    (4, "4 before 12"),
+    (11, "11 before 12"),
+];
+
+/// What refuses an update. Of measures that do not pass nothing else is worked out.
+fn update_causes(s: Measures, own: usize, table: &[u8], fields: &[u8]) -> Vec<Cause> {
+    if !pass(s) {
+        return vec![MEASURES];
+    }
+    let short = (table.len() < s.directory()).then_some(SHORT);
+    let outside = (own >= s.m).then_some(OUTSIDE);
+    let caller = short.into_iter().chain(outside);
+    caller.chain(records::causes(s, table, fields)).collect()
+}
+
+impl Account {
+    fn note_update(&mut self, causes: &[Cause], answer: Answer, detail: impl Fn() -> String) {
+        self.calls.note("directory, update", refused(answer));
+        judge(&mut self.updates, causes, answer, detail);
+        if let [first, then] = causes {
+            self.pairs.insert([*first, *then]);
+        }
+    }
+
+    /// Each cause alone, every two of different kinds at once, and each order of two numbers must have been met.
+    fn covered(&self) {
+        let alone = CALLER.into_iter().chain(records::CAUSES);
+        for (number, case) in alone.chain(ORDERS) {
+            let met = BTreeSet::from([number]);
+            assert_eq!(self.updates.met(case), met, "update: {case}");
+        }
+        for pair in records::pairs() {
+            assert!(self.pairs.contains(&pair), "update: {pair:?} at once");
+        }
+    }
+}
+
 /// One page's tables under one set of measures.
 struct Session<'a> {
     pair: Pair<'a>,
-    tally: &'a mut Tally,
+    account: &'a mut Account,
     s: Measures,
     step: u32,
     directory: Vec<u8>,
@@ -206,17 +242,17 @@ struct Session<'a> {
 }
 
 impl<'a> Session<'a> {
-    fn new(mut pair: Pair<'a>, tally: &'a mut Tally, numbers: &mut Numbers) -> Self {
+    fn new(mut pair: Pair<'a>, account: &'a mut Account, numbers: &mut Numbers) -> Self {
         let s = measures(numbers);
         let step = [1, 255, 65_537, 16_777_259][numbers.below(4)];
         let spare = numbers.below(4);
         let (directory, answer) = pair.directory_fresh(s, &numbers.bytes(s.directory() + spare));
-        tally.note("directory, fresh", refused(answer));
+        account.calls.note("directory, fresh", refused(answer));
         let (table, answer) = pair.node_fresh(s, &numbers.bytes(s.table() + spare));
-        tally.note("node, fresh", refused(answer));
+        account.calls.note("node, fresh", refused(answer));
         Session {
             pair,
-            tally,
+            account,
             s,
             step,
             directory,
@@ -232,24 +268,26 @@ impl<'a> Session<'a> {
         };
         let table = cut(numbers, &self.directory, self.s.directory());
         let (end, answer) = self.pair.directory_fresh(s, &table);
-        self.tally.note("directory, fresh", refused(answer));
+        self.account.calls.note("directory, fresh", refused(answer));
         assert!(answer.is_ok() || end == table);
         let table = cut(numbers, &self.table, self.s.table());
         let (end, answer) = self.pair.node_fresh(s, &table);
-        self.tally.note("node, fresh", refused(answer));
+        self.account.calls.note("node, fresh", refused(answer));
         assert!(answer.is_ok() || end == table);
     }
 
-    /// The measures, and the table that is lent: now and then other ones. Says whether they are the session's own.
+    /// The measures, and the table that is lent: now and then other ones, a damaged table once in so many times. Says whether they are
+    /// the session's own.
     fn lend(
         &self,
         numbers: &mut Numbers,
         own: &[u8],
         need: usize,
         spoil: fn(&mut Numbers, Measures, &mut [u8]),
+        odds: usize,
     ) -> (Measures, Vec<u8>, bool) {
         let mut table = own.to_vec();
-        let (other, spoilt) = (rare(numbers), rare(numbers));
+        let (other, spoilt) = (rare(numbers), numbers.below(odds) == 0);
         if spoilt {
             spoil(numbers, self.s, &mut table);
         }
@@ -262,20 +300,25 @@ impl<'a> Session<'a> {
         (s, table, !other && !spoilt)
     }
 
+    /// One of three has its bytes damaged so often that two causes are met at once.
     fn update(&mut self, numbers: &mut Numbers) {
+        let odds = [RARE, RARE, 3][numbers.below(3)];
         let (s, table, whole) = self.lend(
             numbers,
             &self.directory,
             self.s.directory(),
             spoil_directory,
+            odds,
         );
         let own = who(numbers, 0, self.s.m);
-        let mut fields = record(numbers, self.s, self.step);
+        let mut fields = records::record(numbers, self.s, self.step, odds);
         if rare(numbers) {
             spoil(numbers, &mut fields);
         }
         let (end, answer) = self.pair.update(s, own, &table, &fields);
-        self.tally.note("directory, update", refused(answer));
+        let causes = update_causes(s, own, &table, &fields);
+        let detail = || format!("update {s:?} {own} {fields:?}");
+        self.account.note_update(&causes, answer, detail);
         assert!(answer.is_ok() || end == table);
         if whole && answer.is_ok() {
             self.directory = end;
@@ -284,17 +327,17 @@ impl<'a> Session<'a> {
 
     fn scan(&mut self, numbers: &mut Numbers) {
         let need = self.s.directory();
-        let (s, table, _) = self.lend(numbers, &self.directory, need, spoil_directory);
+        let (s, table, _) = self.lend(numbers, &self.directory, need, spoil_directory, RARE);
         let spare = numbers.below(3);
         let room = numbers.bytes(need + spare);
         let room = cut(numbers, &room, need);
         let (end, answer) = self.pair.scan(s, &table, &room);
-        self.tally.note("directory, scan", refused(answer));
+        self.account.calls.note("directory, scan", refused(answer));
         assert!(answer.is_ok() || end == room);
     }
 
     fn message(&mut self, numbers: &mut Numbers) {
-        let (s, table, whole) = self.lend(numbers, &self.table, self.s.table(), spoil_table);
+        let (s, table, whole) = self.lend(numbers, &self.table, self.s.table(), spoil_table, RARE);
         let i = who(numbers, 1, self.s.n);
         let mut message = message(numbers, self.s, self.step);
         if rare(numbers) {
@@ -310,7 +353,7 @@ impl<'a> Session<'a> {
             Some(3) => "node, free",
             _ => "node, no message",
         };
-        self.tally.note(kind, refused(answer));
+        self.account.calls.note(kind, refused(answer));
         assert!(answer.is_ok() || (end == table && reply == room));
         if answer.is_ok() {
             let case = match (message[0], table[..2] == end[..2]) {
@@ -321,7 +364,7 @@ impl<'a> Session<'a> {
                 (_, true) => "node, free: none held",
                 (_, false) => "node, free: some held",
             };
-            self.tally.note(case, refused(answer));
+            self.account.calls.note(case, refused(answer));
         }
         if whole && answer.is_ok() {
             self.table = end;
@@ -337,14 +380,14 @@ pub fn calls(
     numbers: &mut Numbers,
     total: usize,
 ) {
-    let mut tally = Tally::default();
+    let mut account = Account::default();
     let mut done = 0;
     while done < total {
         let pair = Pair {
             ours: &mut *ours,
             theirs: &mut *theirs,
         };
-        let mut session = Session::new(pair, &mut tally, numbers);
+        let mut session = Session::new(pair, &mut account, numbers);
         done += 2;
         // A large table takes as long as a hundred small ones.
         let turns = 20 + numbers.below(if session.s.table() > 100_000 { 20 } else { 300 });
@@ -361,11 +404,13 @@ pub fn calls(
             }
         }
     }
-    println!("{done} calls to the directory and the node of {names}: the same answers and bytes, every refusal among them");
-    tally.print("");
+    println!("{done} calls to the directory and the node of {names}: the same answers and bytes, every refusal among them, of updates by each cause");
+    account.calls.print("");
+    account.updates.print("update");
+    account.covered();
     for (name, met) in [
         ("directory, fresh", vec![0, 1, 2]),
-        ("directory, update", vec![0, 1, 2, 3, 4]),
+        ("directory, update", vec![0, 1, 2, 3, 4, 11, 12]),
         ("directory, scan", vec![0, 1, 2, 4]),
         ("node, fresh", vec![0, 1, 2]),
         ("node, store", vec![0, 1, 2, 3, 4, 8]),
@@ -373,7 +418,7 @@ pub fn calls(
         ("node, free", vec![0, 1, 2, 3, 4]),
         ("node, no message", vec![1, 2, 3, 4]),
     ] {
-        assert_eq!(tally.met(name), BTreeSet::from_iter(met), "{name}");
+        assert_eq!(account.calls.met(name), BTreeSet::from_iter(met), "{name}");
     }
     for case in [
         "node, store: over a held one",
@@ -383,6 +428,6 @@ pub fn calls(
         "node, free: none held",
         "node, free: some held",
     ] {
-        assert!(!tally.met(case).is_empty(), "{case}");
+        assert!(!account.calls.met(case).is_empty(), "{case}");
     }
 }

@@ -1,6 +1,7 @@
 //! The proved archives beside plain Rust: first that both give the same, then how long each takes, and libraries and libc too.
 
 mod calls;
+mod causes;
 mod client;
 mod client_calls;
 mod clock;
@@ -20,6 +21,7 @@ mod random;
 mod recording_calls;
 mod recording_tasks;
 mod recordings;
+mod records;
 mod report;
 mod runs;
 mod service;

@@ -1,4 +1,4 @@
-//! The directory and the data node, as document 01 and docs/LAYOUTS.md define them.
+//! The directory and the data node, as document 01, document 02 (g) and docs/LAYOUTS.md define them.
 
 use std::collections::BTreeMap;
 
@@ -122,16 +122,24 @@ impl Pointer {
         }
     }
 
-    pub fn read(s: Measures, bytes: &mut Bytes) -> Option<Self> {
+    /// By its length alone: 7 bytes, and a digest for each bit that stands.
+    fn read_any(bytes: &mut Bytes) -> Option<Self> {
         let version = bytes.version()?;
         let nodes = bytes.u16()?;
         let digests = bytes.take(DIGEST * nodes.count_ones() as usize)?.to_vec();
-        let pointer = Pointer {
+        Some(Pointer {
             version,
             nodes,
             digests,
-        };
-        (pointer == Pointer::none() || pointer.points(s)).then_some(pointer)
+        })
+    }
+
+    pub fn read(s: Measures, bytes: &mut Bytes) -> Option<Self> {
+        Pointer::read_any(bytes).filter(|pointer| pointer.keeps_rule(s))
+    }
+
+    fn keeps_rule(&self, s: Measures) -> bool {
+        *self == Pointer::none() || self.points(s)
     }
 
     /// To t + k nodes that there are.
@@ -146,6 +154,9 @@ impl Pointer {
         out.extend(&self.digests);
     }
 }
+
+/// The bit map of all fields: a row has it, and no map is above it.
+const ALL_FIELDS: u8 = 0x0F;
 
 /// A directory record: the fields that are there.
 #[derive(Clone, Default)]
@@ -167,20 +178,16 @@ impl Record {
         }
     }
 
-    /// Leaves what stands behind the record.
-    pub fn read(s: Measures, bytes: &mut Bytes) -> Option<Self> {
-        let map = bytes.u8()?;
-        if map > 0x0F {
-            return None;
-        }
+    /// The fields of a bit map, by their lengths alone; leaves what stands behind them.
+    fn read_fields(s: Measures, map: u8, bytes: &mut Bytes) -> Option<Self> {
         let mut record = Record::default();
         if map & 1 != 0 {
-            record.written = Some(Pointer::read(s, bytes)?);
+            record.written = Some(Pointer::read_any(bytes)?);
         }
         if map & 2 != 0 {
             record.frozen = Some(
                 (0..s.m)
-                    .map(|_| Pointer::read(s, bytes))
+                    .map(|_| Pointer::read_any(bytes))
                     .collect::<Option<_>>()?,
             );
         }
@@ -191,6 +198,20 @@ impl Record {
             record.reading = Some(bytes.u32()?);
         }
         Some(record)
+    }
+
+    /// Leaves what stands behind the record.
+    pub fn read(s: Measures, bytes: &mut Bytes) -> Option<Self> {
+        let map = bytes.u8().filter(|map| *map <= ALL_FIELDS)?;
+        Record::read_fields(s, map, bytes).filter(|record| record.keeps_rules(s))
+    }
+
+    fn pointers(&self) -> impl Iterator<Item = &Pointer> {
+        self.written.iter().chain(self.frozen.iter().flatten())
+    }
+
+    fn keeps_rules(&self, s: Measures) -> bool {
+        self.pointers().all(|pointer| pointer.keeps_rule(s))
     }
 
     fn map(&self) -> u8 {
@@ -208,7 +229,7 @@ impl Record {
 
     pub fn write(&self) -> Vec<u8> {
         let mut out = vec![self.map()];
-        for pointer in self.written.iter().chain(self.frozen.iter().flatten()) {
+        for pointer in self.pointers() {
             pointer.write(&mut out);
         }
         for index in self.frozen_indices.iter().flatten().chain(&self.reading) {
@@ -237,7 +258,7 @@ pub fn read_rows(s: Measures, table: &[u8]) -> Option<Vec<Record>> {
 fn read_row(s: Measures, area: &[u8]) -> Option<Record> {
     let mut bytes = Bytes(area);
     let row = Record::read(s, &mut bytes)?;
-    (row.map() == 0x0F && bytes.zeros()).then_some(row)
+    (row.map() == ALL_FIELDS && bytes.zeros()).then_some(row)
 }
 
 pub fn write_rows(s: Measures, rows: &[Record], table: &mut [u8]) {
@@ -260,17 +281,46 @@ pub fn directory_update(s: Measures, own: usize, table: &mut [u8], fields: &[u8]
     ensure(table.len() >= directory_bytes(s), 2)?;
     ensure(own < s.m, 3)?;
     let mut rows = read_rows(s, table).ok_or(4u32)?;
-    let fields = read_fields(s, fields).ok_or(4u32)?;
+    let fields = read_update(s, fields).map_err(Damage::number)?;
     rows[own].update(fields);
     write_rows(s, &rows, table);
     Ok(0)
 }
 
-/// A record and nothing more.
-fn read_fields(s: Measures, fields: &[u8]) -> Option<Record> {
-    let mut bytes = Bytes(fields);
-    let record = Record::read(s, &mut bytes)?;
-    bytes.0.is_empty().then_some(record)
+/// What is wrong with the record of an update.
+enum Damage {
+    Map,
+    /// It is empty, or its length is not the one that its fields need.
+    Length,
+    /// A pointer breaks its rule.
+    Rule,
+}
+
+impl Damage {
+    fn number(self) -> u32 {
+        match self {
+            Damage::Map => 4,
+            Damage::Length => 11,
+            Damage::Rule => 12,
+        }
+    }
+}
+
+/// A record and nothing more: first the bit map, then all lengths, then the rules of pointers.
+fn read_update(s: Measures, record: &[u8]) -> Result<Record, Damage> {
+    let mut bytes = Bytes(record);
+    let map = bytes.u8().ok_or(Damage::Length)?;
+    if map > ALL_FIELDS {
+        return Err(Damage::Map);
+    }
+    let fields = Record::read_fields(s, map, &mut bytes).ok_or(Damage::Length)?;
+    if !bytes.0.is_empty() {
+        return Err(Damage::Length);
+    }
+    if !fields.keeps_rules(s) {
+        return Err(Damage::Rule);
+    }
+    Ok(fields)
 }
 
 pub fn directory_scan(s: Measures, table: &[u8], room: &mut [u8]) -> Answer {

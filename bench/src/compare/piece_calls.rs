@@ -1,15 +1,12 @@
 //! Calls without order to split, cut, join and digest, valid and damaged: two implementations must answer and leave the same, and each
 //! refusal must be met by each of its causes.
 
+use crate::causes::{judge, Cause};
 use crate::frames;
 use crate::pieces::{same_alone, same_cut, same_digest, same_join, same_split};
 use crate::random::Numbers;
 use crate::tally::Tally;
-use jolbizna::Answer;
 use std::collections::BTreeSet;
-
-/// What refuses a call, with its number.
-pub type Cause = (u32, &'static str);
 
 /// A slice that is too short: names for one less, none, and any other number.
 pub type Names = [&'static str; 3];
@@ -192,33 +189,6 @@ struct Account {
     pairs: BTreeSet<[&'static str; 2]>,
     /// The lengths whose digests were made.
     lengths: BTreeSet<usize>,
-}
-
-const ORDERS: [(u32, u32, &str); 9] = [
-    (1, 2, "1 before 2"),
-    (1, 3, "1 before 3"),
-    (1, 6, "1 before 6"),
-    (2, 3, "2 before 3"),
-    (2, 4, "2 before 4"),
-    (2, 6, "2 before 6"),
-    (2, 9, "2 before 9"),
-    (3, 6, "3 before 6"),
-    (4, 9, "4 before 9"),
-];
-
-/// The answer must have the lowest number of all causes. A cause is noted if it is alone, else which number came before which.
-fn judge(tally: &mut Tally, causes: &[Cause], answer: Answer, detail: impl Fn() -> String) {
-    let number = answer.err().unwrap_or(0);
-    let due = causes.iter().map(|(number, _)| *number).min().unwrap_or(0);
-    assert_eq!(number, due, "{}: {causes:?}", detail());
-    if let [(_, name)] = causes {
-        tally.note(name, number);
-    }
-    for (first, then, order) in ORDERS {
-        if first == number && causes.iter().any(|(other, _)| *other == then) {
-            tally.note(order, number);
-        }
-    }
 }
 
 /// Notes the cases that hold.
@@ -750,8 +720,9 @@ pub fn calls(numbers: &mut Numbers, total: usize) {
             assert_eq!(tally.met(case), met, "{name}: {case}");
         }
     }
-    for (first, number) in CUT_CAUSES {
-        for (then, _) in CUT_CAUSES.iter().filter(|(_, other)| *other > number) {
+    for (at, (first, number)) in CUT_CAUSES.into_iter().enumerate() {
+        let later = CUT_CAUSES.iter().skip(at);
+        for (then, _) in later.filter(|(_, other)| *other != number) {
             let met = account.pairs.contains(&[first, then]);
             assert!(met, "cut: {first} and {then} at once");
         }

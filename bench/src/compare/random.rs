@@ -55,9 +55,12 @@ pub fn other_measures(numbers: &mut Numbers, s: Measures) -> Measures {
     s
 }
 
+/// Once in so many times, most damage is done.
+pub const RARE: usize = 14;
+
 /// Now and then.
 pub fn rare(numbers: &mut Numbers) -> bool {
-    numbers.below(14) == 0
+    numbers.below(RARE) == 0
 }
 
 pub fn number(numbers: &mut Numbers) -> u32 {

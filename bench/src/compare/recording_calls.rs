@@ -1,7 +1,8 @@
 //! Calls without order to the functions of recordings, valid and damaged: two implementations must answer and leave the same, each refusal
 //! must be met by each of its causes, and the way back must give the data.
 
-use crate::piece_calls::{around, odd, short, Cause, OUTPUT};
+use crate::causes::{due, Cause};
+use crate::piece_calls::{around, odd, short, OUTPUT};
 use crate::random::Numbers;
 use crate::recordings::{Way, PLANES, REARRANGE, RESTORE, SAMPLES, WIDTH};
 use crate::tally::Tally;
@@ -102,9 +103,9 @@ struct Account {
 }
 
 impl Account {
-    /// Notes what held, and hands back the number that is due: the lowest.
+    /// Notes what held, and hands back the number that is due.
     fn note_causes(&mut self, way: &Way, causes: &[Cause], len: usize) -> u32 {
-        let due = causes.iter().map(|(number, _)| *number).min().unwrap_or(0);
+        let due = due(causes);
         let mut names: Vec<&str> = causes.iter().map(|(_, name)| *name).collect();
         match names[..] {
             [name] => self.cases.note(name, due),
