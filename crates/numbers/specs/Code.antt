@@ -8,7 +8,7 @@ use Rattle.parties.specs.protocol.Answer.{ClientAnswer, refused, waits, scan, u
 abbrev pub measured : ℕ → ℕ → ℕ → ℕ → ℕ → Measures
 measured m n k t f = record { m = m; n = n; k = k; t = t; f = f }
 
--- the bytes that are answered; or 2^32 and document 01's number of the refusal
+-- the bytes that are answered; or 2^32 and the papers' number of the refusal
 abbrev pub code : Served → ℕ
 code (serves len) = len
 code (refuses n) = 2 ^ 32 + n

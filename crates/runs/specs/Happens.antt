@@ -84,7 +84,7 @@ answerOf Happened.Taken = some nothing
 answerOf (Happened.ByClient a) = some (byClient (answered a))
 answerOf (Happened.ByServer a) = some (byServer (served a))
 
--- document 01's number of an answer, if it has one
+-- the papers' number of an answer, if it has one
 abbrev pub numberHappened : Happened → Option ℕ
 numberHappened (Happened.Refused r) = some (numberOf r)
 numberHappened Happened.Nothing = none

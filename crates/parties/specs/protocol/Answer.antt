@@ -27,7 +27,7 @@ pub data ClientAnswer : Type 0 where
   -- 9: the reading ended
   failed : ClientAnswer
 
--- document 01's number of an answer, if it has one
+-- the papers' number of an answer, if it has one
 abbrev pub number : ClientAnswer → Option ℕ
 number (refused n) = some n
 number waits = none

@@ -137,7 +137,7 @@ Differ pieces = (x y : List ℕ) → pieces x → pieces y → (v : List ℕ) (i
 
 -- ---- what keeps the claim from being empty
 
--- document 01's number of what an event answered
+-- the papers' number of what an event answered
 abbrev pub servedNumber : Served → Option ℕ
 servedNumber (refuses n) = some n
 servedNumber (serves len) = none

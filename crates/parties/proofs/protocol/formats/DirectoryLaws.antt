@@ -69,7 +69,8 @@ GoodFields s (f ∷ fs) map [] = ⊥
 GoodFields s (f ∷ fs) map (none ∷ l) = (map % 2 ≡ 0) × GoodFields s fs (map / 2) l
 GoodFields s (f ∷ fs) map (some c ∷ l) = (map % 2 ≡ 1) × (GoodContent s f c × GoodFields s fs (map / 2) l)
 
-abbrev asList : Content × List (Option Content) → List (Option Content)
+-- a field that is there, before the others
+abbrev pub asList : Content × List (Option Content) → List (Option Content)
 asList x = some (x .0) ∷ x .1
 
 abbrev asPair : List (Option Content) → Content × List (Option Content)

@@ -14,6 +14,7 @@ use Rattle.parties.specs.protocol.Directory.{Field, pointers, indices, C
 use Rattle.parties.specs.protocol.Directory.{properMap, readRecord, pointersIn}
 use Rattle.parties.specs.protocol.Verdict.{Verdict, sound, broken, judged, properPointers, properFields, byRule, byLength, recordVerdict, AsBefore}
 use Rattle.parties.proofs.protocol.formats.FormatLaws.{number-one}
+use Rattle.parties.proofs.protocol.formats.DirectoryLaws.{asList}
 
 -- ---- readers that test what they read
 
@@ -90,7 +91,7 @@ whole-given {A} test r u = go (r u)
         → chain (check (test (x .value)) (x .value) (x .rest)) (λ x. cond (eqb (length (x .rest)) 0) (some (x .value)) none)
         ≡ chain (cond c (some (x .value)) none) (λ a. cond (test a) (some a) none)
     at true x e = ends (test (x .value)) true (x .value) (x .rest) e
-    at false x e = ends (test (x .value)) false (x .value) (x .rest) e ∙ refl
+    at false x e = ends (test (x .value)) false (x .value) (x .rest) e
 
     go : (o : Option (Read A))
         → chain (bind o (λ a t. check (test a) a t)) (λ x. cond (eqb (length (x .rest)) 0) (some (x .value)) none)
@@ -99,9 +100,6 @@ whole-given {A} test r u = go (r u)
     go (some x) = at (eqb (length (x .rest)) 0) x refl
 
 -- ---- a record
-
-abbrev asList : Content × List (Option Content) → List (Option Content)
-asList x = some (x .0) ∷ x .1
 
 module _ (s : Measures) where
   many-proper : (n : ℕ) (u : List ℕ) → readMany (readPointer s) n u ≡ given (properPointers s) (readMany readAnyPointer n) u
