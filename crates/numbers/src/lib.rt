@@ -20,6 +20,7 @@ fn refused(r: Refusal) -> u64
         Refusal::Form => 4294967300,
         Refusal::Length => 4294967307,
         Refusal::Rule => 4294967308,
+        Refusal::Owner => 4294967310,
         Refusal::OutOfTurn => 4294967301,
         Refusal::TooLong => 4294967302,
         Refusal::Spent => 4294967303,

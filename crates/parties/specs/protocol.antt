@@ -4,6 +4,7 @@ pub mod Version
 pub mod Nodes
 pub mod Pointer
 pub mod Directory
+pub mod Owner
 pub mod Verdict
 pub mod NodeTable
 pub mod Node

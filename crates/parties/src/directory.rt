@@ -8,10 +8,13 @@ use crate::records::form::Ends;
 use crate::records::form::Parts;
 use crate::records::form::ROW_MAP;
 use crate::records::form::Record;
+use crate::records::form::Rule;
+use crate::records::form::Table;
 use crate::records::form::Verdict;
 use crate::records::form::directory;
 use crate::records::form::field_ends;
 use crate::records::form::row_size;
+use crate::records::form::rows;
 use crate::records::form::whole_record;
 ghost use mathlib.Core.Path.{_≡_};
 ghost use mathlib.Core.Bool.{true};
@@ -25,7 +28,7 @@ ghost use Rattle.parties.specs.protocol.Measures.{passes, rowSize};
 ghost use Rattle.parties.specs.protocol.Directory.{freshRow, writeRow, readRow};
 ghost use Rattle.parties.specs.protocol.DirectoryEvents.{directoryFresh, directoryUpdate, directoryScan};
 ghost use Rattle.parties.specs.Answer.{served};
-ghost use Rattle.parties.specs.records.Form.{rest, Recorded};
+ghost use Rattle.parties.specs.records.Form.{rest, Walked};
 ghost use Rattle.parties.specs.directory.Room.{longestRow, Built, Ordered, Renewed, part, renewed};
 
 // The bytes of a row of 8 clients and 16 digests a pointer.
@@ -157,11 +160,11 @@ fn rebuild(fields: &[u8], e: Ends, table: &[u8], at: usize, f: Ends, room: &mut 
 
 // The fields of a sound record over those of a sound row. Pointers may grow or shrink, so the row is put together beside the table.
 fn renew(s: Measures, size: usize, at: usize, e: Ends, fields: &[u8], table: &mut [u8])
-    requires { ⌜ (passes s ≡ true) × (size ≡ rowSize s) × (at + rowSize s ≤ length (now table)) × Recorded s (now fields) (Record.Sound e)
+    requires { ⌜ (passes s ≡ true) × (size ≡ rowSize s) × (at + rowSize s ≤ length (now table)) × Walked s (now fields) e
         × (rest (readRow s (drop at (now table))) ≡ some (drop (at + rowSize s) (now table))) ⌝ }
     ensures { λ _. ⌜ Renewed s at (now (fields .entry)) (now (table .entry)) (now (table .exit)) ⌝ }
 {
-    let Parts::Sound(f) = field_ends(s, true, ROW_MAP, table, at + 1) else {
+    let Parts::Sound(f) = field_ends(s, Rule::Proper, ROW_MAP, table, at + 1) else {
         // Not reached: the row is sound.
         return;
     };
@@ -185,12 +188,18 @@ pub fn update(s: Measures, own: usize, table: &mut [u8], fields: &[u8]) -> Servi
     if s.m <= own {
         return Service::Refused(Refusal::Number);
     }
-    if let Verdict::Broken(r) = directory(s, size, table) {
-        return Service::Refused(r);
-    }
-    match whole_record(s, fields) {
+    let Table::Sound(all) = rows(s, size, table) else {
+        return Service::Refused(Refusal::Form);
+    };
+    match whole_record(s, own, fields) {
         Record::Broken(r) => Service::Refused(r),
-        Record::Sound(e) => {
+        Record::Sound(e, owned) => {
+            if !all {
+                return Service::Refused(Refusal::Owner);
+            }
+            if !owned {
+                return Service::Refused(Refusal::Owner);
+            }
             renew(s, size, own * size, e, fields, table);
             Service::Served(0)
         }

@@ -52,6 +52,8 @@ pub enum Refusal {
     Length,
     // 12: a pointer in an update's record breaks its rule
     Rule,
+    // 14: a written or frozen pointer has another client than its row's
+    Owner,
     // 5: a start while an operation is open, or a directory answer not awaited
     OutOfTurn,
     // 6: page too long

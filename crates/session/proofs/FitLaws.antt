@@ -46,6 +46,7 @@ number-small Refusal.Number = omega arith
 number-small Refusal.Form = omega arith
 number-small Refusal.Length = omega arith
 number-small Refusal.Rule = omega arith
+number-small Refusal.Owner = omega arith
 number-small Refusal.OutOfTurn = omega arith
 number-small Refusal.TooLong = omega arith
 number-small Refusal.Spent = omega arith

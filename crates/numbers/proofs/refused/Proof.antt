@@ -41,6 +41,9 @@ enum-told-9 c = search needs
 enum-told-10 : tie.Need-enum-told-10
 enum-told-10 c = search needs
 
+enum-told-11 : tie.Need-enum-told-11
+enum-told-11 c = search needs
+
 returns : tie.Need-returns
 returns c = sym (ap answered (c .enum-told .given .1))
 
@@ -71,6 +74,9 @@ returns-9 c = sym (ap answered (c .enum-told9 .given .1))
 returns-10 : tie.Need-returns-10
 returns-10 c = sym (ap answered (c .enum-told10 .given .1))
 
+returns-11 : tie.Need-returns-11
+returns-11 c = sym (ap answered (c .enum-told11 .given .1))
+
 pub refused-spec : {M : Type 1} → statement M
 refused-spec =
     tie.close
@@ -85,6 +91,7 @@ refused-spec =
     enum-told-8
     enum-told-9
     enum-told-10
+    enum-told-11
     returns
     returns-2
     returns-3
@@ -94,4 +101,5 @@ refused-spec =
     returns-7
     returns-8
     returns-9
-    returns-10)
+    returns-10
+    returns-11)

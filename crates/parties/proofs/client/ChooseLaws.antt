@@ -36,13 +36,12 @@ use Rattle.parties.specs.client.Pick.{pickedPart}
 use Rattle.parties.specs.records.Places.{versionAt, splice}
 use Rattle.parties.specs.client.Draw.{rowsOf}
 use Rattle.parties.specs.client.Choose.{rowOf, offered}
-use Rattle.parties.proofs.records.RecordLaws.{bytes-drop}
+use Rattle.parties.proofs.records.RecordLaws.{bytes-drop, row-bytes}
 use Rattle.parties.proofs.records.SpliceLaws.{many-append, to-end, paste-all, area-put, many-at}
 use Rattle.parties.proofs.node.ShownLaws.{version-bytes, each-left, each-right}
 use Rattle.parties.proofs.client.PickLaws.{picked-pointer}
 use Rattle.parties.proofs.records.PlaceLaws.{number-read, version-there}
 use Rattle.parties.proofs.records.SizeLaws.{below-rows}
-use Rattle.parties.proofs.directory.UpdateLaws.{row-bytes}
 use Rattle.parties.proofs.directory.UpdateEndLaws.{own-row}
 use Rattle.parties.proofs.client.GateLaws.{some-value}
 use Rattle.parties.proofs.client.DrawLaws.{rows-count}

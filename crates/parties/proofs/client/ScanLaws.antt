@@ -15,20 +15,22 @@ use Rattle.parties.specs.protocol.Format.{Read}
 use Rattle.parties.specs.protocol.Measures.{rowSize}
 use Rattle.parties.specs.protocol.Version.{nextSequence}
 use Rattle.parties.specs.protocol.Directory.{Row, readDirectory}
-use Rattle.parties.specs.protocol.Verdict.{Verdict, broken, judged, rowsVerdict}
+use Rattle.parties.specs.protocol.Owner.{ownRows}
+use Rattle.parties.specs.protocol.Verdict.{Verdict, broken, rowsVerdict}
 use Rattle.parties.specs.protocol.Reading.{pick}
 use Rattle.parties.specs.protocol.Deposit.{highest}
 use Rattle.parties.specs.protocol.Answer.{ClientAnswer, refused, spent}
 use Rattle.parties.specs.protocol.Client.{Phase as Work, step as stepOf, Client, readClient, clientSize, workSize}
 use Rattle.parties.specs.protocol.ClientEvents.{Step, stays, does, withPhase, draw, freeze, fetch, scannedAt, onRows, ClientEnd, roomSize, unchanged, after, onClient, guarded, scanAnswer}
 use Rattle.parties.specs.declared.Phase.{Phase}
-use Rattle.parties.specs.records.Form.{rest}
+use Rattle.parties.specs.records.Form.{rest, holds}
 use Rattle.parties.specs.client.Record.{recordOf, areaSize, workAt, isSome}
 use Rattle.parties.specs.client.Draw.{rowsOf, pageOf, drawEnd}
 use Rattle.parties.specs.client.Choose.{fetchEnd}
 use Rattle.parties.specs.client.Freeze.{newPointer, freezeEnd}
 use Rattle.parties.specs.client.Scan.{scannedEnd, spentEnd}
 use Rattle.parties.proofs.records.FormLaws.{left-read}
+use Rattle.parties.proofs.records.RecordLaws.{rows-sound}
 use Rattle.parties.proofs.client.AreaLaws.{idle-work, ShownClient, turned-written}
 use Rattle.parties.proofs.client.GateLaws.{long-record, through, Opened, found, found-reads, found-shows}
 use Rattle.parties.proofs.client.StepLaws.{scanning-step, freezing-step, picking-step}
@@ -178,13 +180,13 @@ module _ (s : Measures) (own : ℕ) (p : Phase) (area rows room : List ℕ) wher
       pub rows-read : isSome (readDirectory s rows) ≡ true
       rows-read = ap isSome (left-read (readDirectory s rows) v f .1)
 
-      pub scan-goes : scanAnswer s own bytes rows room ≡ scannedEnd s own bytes rows room
+      pub scan-goes : true ≡ holds (ownRows 0) (readDirectory s rows) → scanAnswer s own bytes rows room ≡ scannedEnd s own bytes rows room
       unfolding scannedEnd
-      scan-goes =
+      scan-goes o =
           let c = found s p area opened in
-          let d = left-read (readDirectory s rows) v f .1 in
+          let d = rows-sound s rows v f o in
           scan-through
-          ∙ ap (λ (x : Option (Read (List Row))). after s bytes room [] (c .rest) (onRows (judged 4 x) (λ l. scannedAt s own (c .value) room l (c .value .phase)))) d
-          ∙ ap (λ (x : Option (Read (List Row))). after s bytes room [] (c .rest) (scannedAt s own (c .value) room (rowsOf x) (c .value .phase))) (sym d)
+          ∙ ap (λ (x : Verdict (Read (List Row))). after s bytes room [] (c .rest) (onRows x (λ l. scannedAt s own (c .value) room l (c .value .phase)))) (d .2)
+          ∙ ap (λ (x : Option (Read (List Row))). after s bytes room [] (c .rest) (scannedAt s own (c .value) room (rowsOf x) (c .value .phase))) (sym (d .1))
           ∙ ap (λ (x : Option (Read Client)). onClient s bytes room [] x (λ c. scannedAt s own c room (rowsOf (readDirectory s rows)) (c .phase)))
           (sym (found-reads s p area opened))

@@ -10,10 +10,11 @@ use Rattle.parties.specs.declared.Measures.{Measures}
 use Rattle.parties.specs.protocol.Measures.{passes}
 use Rattle.parties.specs.protocol.Answer.{refuses, serves}
 use Rattle.parties.specs.protocol.Directory.{readDirectory}
-use Rattle.parties.specs.protocol.Verdict.{broken, judged, rowsVerdict}
+use Rattle.parties.specs.protocol.Owner.{ownRows}
+use Rattle.parties.specs.protocol.Verdict.{broken, rowsVerdict}
 use Rattle.parties.specs.protocol.DirectoryEvents.{DirectoryEnd, directorySize, scanned, directoryScan}
-use Rattle.parties.specs.records.Form.{rest}
-use Rattle.parties.proofs.records.FormLaws.{left-read}
+use Rattle.parties.specs.records.Form.{rest, holds}
+use Rattle.parties.proofs.records.RecordLaws.{rows-sound}
 
 -- the answer and the bytes of an end
 pub ends-room : (x e : DirectoryEnd) → x ≡ e → (e .answer ≡ x .answer) × (e .room ≡ x .room)
@@ -47,7 +48,7 @@ module _ (s : Measures) (table room : List ℕ) where
       pub scan-broken : (n : ℕ) → rowsVerdict s table ≡ broken n → directoryScan s table room ≡ record { answer = refuses n; table = table; room = room }
       scan-broken n e = scan-reads ∙ ap (scanned s table room) e
 
-      pub scan-rows : (v : List ℕ) → rest (readDirectory s table) ≡ some v
+      pub scan-rows : (v : List ℕ) → rest (readDirectory s table) ≡ some v → true ≡ holds (ownRows 0) (readDirectory s table)
           → directoryScan s table room
           ≡ record { answer = serves (directorySize s); table = table; room = take (directorySize s) table ++ drop (directorySize s) room }
-      scan-rows v e = scan-reads ∙ ap (scanned s table room) (ap (judged 4) (left-read (readDirectory s table) v e .1))
+      scan-rows v e o = scan-reads ∙ ap (scanned s table room) (rows-sound s table v e o .2)

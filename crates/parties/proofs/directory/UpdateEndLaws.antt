@@ -1,13 +1,13 @@
 -- A sound record over a sound row of a sound table, and how the update ends.
 use mathlib.Core.Path.{_≡_, refl, sym, ap, ap₂, subst, _∙_}
-use mathlib.Core.Bool.{true, false}
-use mathlib.Core.List.{List, [], _∷_, _++_, append-assoc}
+use mathlib.Core.Bool.{Bool, true, false, cond, _&&_}
+use mathlib.Core.List.{List, [], _∷_, _++_}
 use mathlib.Core.Option.{Option, some, none}
-use Prim.Native.Nat.{ℕ, _+_, _-_, _*_, _<_, _≤_}
+use Prim.Native.Nat.{ℕ, _+_, _*_, _<_, _≤_}
 use native.Mathlib.Omega.{arith}
 use borrow.Author.Tests.{eq-eqb, leb-true, le-leb, lt-leb, lt-ltb, le-ltb}
-use lib.ListN.{length, take, drop, getD, set, replicate, length-drop}
-use lib.Seq.{take-all, drop-drop, paste}
+use lib.ListN.{length, take, drop, getD, set, length-drop}
+use lib.Seq.{take-all, paste}
 use Rattle.coding.specs.Bytes.{Bytes}
 use Rattle.coding.proofs.PageLaws.{none≢some, some-eq}
 use Rattle.parties.specs.declared.Measures.{Measures}
@@ -15,36 +15,37 @@ use Rattle.parties.specs.protocol.Format.{Read, whole, writeArea}
 use Rattle.parties.specs.protocol.Measures.{passes, rowSize}
 use Rattle.parties.specs.protocol.Answer.{refuses, serves}
 use Rattle.parties.specs.protocol.Pointer.{readPointer}
-use Rattle.parties.specs.protocol.Directory.{Content, fields, readFields, writeFields, mapOf, readRecord}
-use Rattle.parties.specs.protocol.Directory.{Row, noRow, rowFields, writeRow, readRow, readDirectory, writeDirectory, updateRow}
-use Rattle.parties.specs.protocol.Verdict.{Verdict, broken, judged, rowsVerdict, recordVerdict}
-use Rattle.parties.specs.protocol.DirectoryEvents.{directorySize, onTable, directoryUpdate}
+use Rattle.parties.specs.protocol.Directory.{Content, fields, readFields, readRecord}
+use Rattle.parties.specs.protocol.Directory.{Row, noRow, writeRow, readRow, readDirectory, writeDirectory, updateRow}
+use Rattle.parties.specs.protocol.Owner.{ownFields, ownRows}
+use Rattle.parties.specs.protocol.Verdict.{broken, recordVerdict}
+use Rattle.parties.specs.protocol.DirectoryEvents.{DirectoryEnd, directorySize, onTable, directoryUpdate}
 use Rattle.parties.proofs.protocol.formats.FormatLaws.{number-one, length-area}
 use Rattle.parties.proofs.protocol.formats.EachLaws.{each-at}
-use Rattle.parties.proofs.protocol.formats.DirectoryLaws.{GoodRecord, format-fields, format-record}
+use Rattle.parties.proofs.protocol.formats.DirectoryLaws.{GoodRecord, format-record}
 use Rattle.parties.proofs.protocol.formats.VerdictLaws.{as-before}
 use Rattle.parties.proofs.protocol.formats.RowLaws.{GoodRow, FitsRow, format-row, format-directory, update-good, row-fits}
 use Rattle.parties.specs.declared.records.form.Ends.{Ends}
 use Rattle.parties.specs.declared.records.form.Record.{Record}
 use Rattle.parties.specs.declared.Refusal.{Refusal}
 use Rattle.parties.specs.records.Answer.{number}
-use Rattle.parties.specs.records.Form.{rest, Ended, Recorded}
+use Rattle.parties.specs.records.Form.{rest, Ended, holds, Walked, Recorded}
 use Rattle.parties.specs.directory.Room.{longestRow, Built, renewed, Renewed}
 use Rattle.parties.proofs.records.FormLaws.{left-read}
-use Rattle.parties.proofs.records.RecordLaws.{bytes-drop, ended-left}
+use Rattle.parties.proofs.records.RecordLaws.{ended-left, row-reads}
 use Rattle.parties.proofs.records.SizeLaws.{row-bound}
 use Rattle.parties.proofs.records.SpliceLaws.{many-at, many-set}
 use Rattle.parties.proofs.directory.RoomLaws.{built-area}
-use Rattle.parties.proofs.directory.UpdateLaws.{ShownRecord, shown, renewed-row, row-bytes}
+use Rattle.parties.proofs.directory.UpdateLaws.{ShownRecord, shown, renewed-row}
 
 -- ---- the record
 
-module _ (s : Measures) (t : List ℕ) (r : Record) (h : Recorded s t r) where
-  pub recorded-sound : (e : Ends) → r ≡ Record.Sound e → Recorded s t (Record.Sound e)
-  recorded-sound e q = subst (Recorded s t) q h
+module _ (s : Measures) (own : ℕ) (t : List ℕ) (r : Record) (h : Recorded s own t r) where
+  pub recorded-sound : (e : Ends) (owned : Bool) → r ≡ Record.Sound e owned → Recorded s own t (Record.Sound e owned)
+  recorded-sound e owned q = subst (Recorded s own t) q h
 
   pub recorded-broken : (n : Refusal) → r ≡ Record.Broken n → recordVerdict s t ≡ broken (number n)
-  recorded-broken n q = subst (Recorded s t) q h
+  recorded-broken n q = subst (Recorded s own t) q h
 
 record-reads : (s : Measures) (t : List ℕ) (r : Read (List (Option Content))) → 0 < length t → getD t 0 0 < 16
     → readFields (readPointer s) (fields s) (getD t 0 0) (drop 1 t) ≡ some r → readRecord s t ≡ some r
@@ -58,8 +59,9 @@ pub record Says (s : Measures) (t : List ℕ) (e : Ends) : Type 0 where
   pub read : whole (readRecord s) t ≡ some update
   pub good : GoodRecord s update
   pub shown : ShownRecord t 1 (getD t 0 0) e update
+  pub held : (test : List (Option Content) → Bool) → holds test (readFields (readPointer s) (fields s) (getD t 0 0) (drop 1 t)) ≡ test update
 
-pub says : (s : Measures) (t : List ℕ) (e : Ends) → Bytes t → Recorded s t (Record.Sound e) → Says s t e
+pub says : (s : Measures) (t : List ℕ) (e : Ends) → Bytes t → Walked s t e → Says s t e
 says s t e b h =
     let x = left-read (readFields (readPointer s) (fields s) (getD t 0 0) (drop 1 t)) (drop (e .index) t) (ended-left s (readPointer s) t 1 (getD t 0 0) e (h .2)) in
     let r = x .0 in
@@ -70,29 +72,10 @@ says s t e b h =
       read = rw y (simp (eq-eqb (length (r .rest)) 0 z));
       good = format-record s .only t r b y .0;
       shown = shown s t 1 (getD t 0 0) e r b (h .2) (x .1);
+      held = λ test. ap (holds test) (x .1);
     }
 
 -- ---- the row
-
-record Row-read (s : Measures) (t : List ℕ) (at : ℕ) (v : Row) : Type 0 where
-  pub good : GoodRow s v
-  pub after : List ℕ
-  pub read : readFields (readPointer s) (fields s) 15 (drop (at + 1) t) ≡ some (record { value = rowFields v; rest = after })
-
-row-reads : (s : Measures) (t : List ℕ) (at : ℕ) (r : Read Row) → Bytes t → readRow s (drop at t) ≡ some r → Row-read s t at (r .value)
-unfolding writeArea mapOf
-row-reads s t at r b e =
-    let v = r .value in
-    let x = format-row s .only (drop at t) r (bytes-drop at t b) e in
-    let z = replicate {A = ℕ} (rowSize s - length (writeRow v)) 0 in
-    let d : drop (at + 1) t ≡ writeFields (rowFields v) ++ (z ++ r .rest) =
-    sym (drop-drop 1 at t) ∙ ap (drop 1) (x .1 ∙ append-assoc (writeRow v) z (r .rest) ∙ ap (λ (l : List ℕ). l ++ (z ++ r .rest)) (row-bytes v))
-    in
-    record {
-      good = x .0 .0 .0;
-      after = z ++ r .rest;
-      read = ap (readFields (readPointer s) (fields s) 15) d ∙ format-fields s (fields s) 15 .back (rowFields v) (x .0 .0 .0 .0 .1) (z ++ r .rest);
-    }
 
 -- a row that reads has sound fields
 pub row-fields-sound : (s : Measures) (t : List ℕ) (at : ℕ) (r : Read Row) → Bytes t → readRow s (drop at t) ≡ some r
@@ -102,7 +85,7 @@ row-fields-sound s t at r b e n = let x = row-reads s t at r b e in none≢some 
 -- ---- the row put together anew
 
 module _ (s : Measures) (p : passes s ≡ true) (record-bytes table : List ℕ) (at : ℕ) (e f : Ends) (a : Bytes record-bytes) (b : Bytes table)
-    (sound : Recorded s record-bytes (Record.Sound e)) (ended : Ended s (readPointer s) table (at + 1) 15 f) where
+    (sound : Walked s record-bytes e) (ended : Ended s (readPointer s) table (at + 1) 15 f) where
   renews : (r : Read Row) → readRow s (drop at table) ≡ some r
       → let u = says s record-bytes e a sound .update in
       (renewed (getD record-bytes 0 0) record-bytes e table at f ≡ writeRow (updateRow u (r .value))) × GoodRow s (updateRow u (r .value))
@@ -186,34 +169,64 @@ module _ (s : Measures) (own : ℕ) (table record-bytes : List ℕ) where
       update-number o = simp (p, le-leb (directorySize s) (length table) h, le-ltb own (s .m) o)
 
       module _ (o : own < s .m) where
-        update-reads : directoryUpdate s own table record-bytes ≡ onTable s own table (rowsVerdict s table) (recordVerdict s record-bytes)
+        update-reads : directoryUpdate s own table record-bytes ≡ onTable s own table (readDirectory s table) (recordVerdict s record-bytes)
         unfolding directoryUpdate
         update-reads = simp (p, le-leb (directorySize s) (length table) h, lt-ltb own (s .m) o)
 
-        pub update-broken-table : (n : ℕ) → rowsVerdict s table ≡ broken n
-            → directoryUpdate s own table record-bytes ≡ record { answer = refuses n; table = table; room = [] }
-        update-broken-table n e = update-reads ∙ ap (λ (x : Verdict (Read (List Row))). onTable s own table x (recordVerdict s record-bytes)) e
+        pub update-broken-table : readDirectory s table ≡ none
+            → directoryUpdate s own table record-bytes ≡ record { answer = refuses 4; table = table; room = [] }
+        update-broken-table e = update-reads ∙ ap (λ (x : Option (Read (List Row))). onTable s own table x (recordVerdict s record-bytes)) e
 
         pub update-broken-record : (v : List ℕ) → rest (readDirectory s table) ≡ some v → (n : ℕ) → recordVerdict s record-bytes ≡ broken n
             → directoryUpdate s own table record-bytes ≡ record { answer = refuses n; table = table; room = [] }
         update-broken-record v e n d =
-            update-reads ∙ ap₂ (onTable s own table) (ap (judged 4) (left-read (readDirectory s table) v e .1)) d
+            update-reads ∙ ap₂ (onTable s own table) (left-read (readDirectory s table) v e .1) d
 
-        pub update-done : (v : List ℕ) → rest (readDirectory s table) ≡ some v
-            → Bytes table → Bytes record-bytes → (e : Ends) → Recorded s record-bytes (Record.Sound e)
+        -- the row put in, or 14
+        abbrev puts : Read (List Row) → List (Option Content) → DirectoryEnd
+        puts r u =
+            record {
+              answer = serves 0;
+              table = writeDirectory s (set (r .value) own (updateRow u (getD (r .value) own noRow))) ++ r .rest;
+              room = [];
+            }
+
+        abbrev foreign : DirectoryEnd
+        foreign = record { answer = refuses 14; table = table; room = [] }
+
+        -- by whether all pointers of the table and of a sound record are their owners'
+        module _ (all owned : Bool) (v : List ℕ) (d : rest (readDirectory s table) ≡ some v) (q : all ≡ holds (ownRows 0) (readDirectory s table))
+            (a : Bytes record-bytes) (e : Ends) (recorded : Recorded s own record-bytes (Record.Sound e owned)) where
+          update-judged : directoryUpdate s own table record-bytes
+              ≡ cond (all && owned) (puts (left-read (readDirectory s table) v d .0) (says s record-bytes e a (recorded .0) .update)) foreign
+          update-judged =
+              let x = left-read (readDirectory s table) v d in
+              let u = says s record-bytes e a (recorded .0) in
+              update-reads ∙ ap₂ (onTable s own table) (x .1) (as-before s record-bytes .conversely (u .update) (u .read))
+              ∙ ap₂ (λ (f g : Bool). cond (f && g) (puts (x .0) (u .update)) foreign)
+              (sym (q ∙ ap (holds (ownRows 0)) (x .1))) (sym (recorded .1 ∙ u .held (ownFields own)))
+
+          pub update-foreign : (all && owned) ≡ false → directoryUpdate s own table record-bytes ≡ foreign
+          update-foreign f =
+              update-judged
+              ∙ ap (λ (b : Bool). cond b (puts (left-read (readDirectory s table) v d .0) (says s record-bytes e a (recorded .0) .update)) foreign) f
+
+        pub update-done : (all owned : Bool) (v : List ℕ) → rest (readDirectory s table) ≡ some v → all ≡ holds (ownRows 0) (readDirectory s table)
+            → Bytes table → Bytes record-bytes → (e : Ends) → Recorded s own record-bytes (Record.Sound e owned) → (all && owned) ≡ true
             → (end : List ℕ) → Renewed s (own * rowSize s) record-bytes table end
             → directoryUpdate s own table record-bytes ≡ record { answer = serves 0; table = end; room = [] }
-        update-done v d b a e sound end renew =
+        update-done all owned v d q b a e recorded both end renew =
             let x = left-read (readDirectory s table) v d in
             let r = x .0 in
-            let u = says s record-bytes e a sound in
+            let u = says s record-bytes e a (recorded .0) in
             let f = format-directory s .only table r b (x .1) in
             let n : own < length (r .value) = omega (arith, f .0 .1) in
             let row = getD (r .value) own noRow in
             let new = updateRow (u .update) row in
             let good : GoodRow s new = update-good s (u .update) row (u .good) (each-at (FitsRow s) noRow (r .value) (f .0 .0) own n .0 .0) in
             let fits : FitsRow s new = ((good, tt), le-leb (length (writeRow new)) (rowSize s) (row-fits s new good)) in
-            update-reads ∙ ap₂ (onTable s own table) (ap (judged 4) (x .1)) (as-before s record-bytes .conversely (u .update) (u .read))
+            update-judged all owned v d q a e recorded
+            ∙ ap (λ (k : Bool). cond k (puts r (u .update)) foreign) both
             ∙ ap (λ (y : List ℕ). record { answer = serves 0; table = y; room = [] })
             (own-set s table b own o r (x .1) new fits ∙ sym (renew (u .update) row (u .read) (own-row s table b own o r (x .1))))
 

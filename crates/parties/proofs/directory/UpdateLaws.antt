@@ -11,17 +11,17 @@ use lib.Seq.{take-at}
 use Rattle.coding.specs.Bytes.{Bytes}
 use Rattle.coding.proofs.PageLaws.{none≢some, some-eq}
 use Rattle.parties.specs.declared.Measures.{Measures}
-use Rattle.parties.specs.protocol.Format.{Read, bind, both, mapped, writeNumber}
+use Rattle.parties.specs.protocol.Format.{Read, bind, both, mapped}
 use Rattle.parties.specs.protocol.Pointer.{readPointer}
 use Rattle.parties.specs.protocol.Directory.{Field, Content, fields, readContent, writeContent, readFields, writeFields}
-use Rattle.parties.specs.protocol.Directory.{mapOf, writeRecord, Row, rowFields, writeRow, merge, updateRow}
+use Rattle.parties.specs.protocol.Directory.{Row, rowFields, writeRow, merge, updateRow}
 use Rattle.parties.proofs.protocol.formats.DirectoryLaws.{GoodRecord, format-content}
 use Rattle.parties.proofs.protocol.formats.RowLaws.{GoodRow, update-fields}
 use Rattle.parties.specs.declared.records.form.Ends.{Ends}
 use Rattle.parties.specs.records.Form.{rest, after, Ended}
 use Rattle.parties.specs.directory.Room.{range, renewed}
 use Rattle.parties.proofs.records.FormLaws.{left-read}
-use Rattle.parties.proofs.records.RecordLaws.{bytes-drop}
+use Rattle.parties.proofs.records.RecordLaws.{bytes-drop, row-bytes}
 
 -- a field's bytes, if it is there
 abbrev bytesOf : Option Content → List ℕ
@@ -187,10 +187,6 @@ merged-bytes x y x′ y′ x″ y″ x‴ y‴ =
     (ap writeFields (merge-cons x‴ y‴ _ _) ∙ write-cons (merge1 x‴ y‴) _
     ∙ ap (λ (l : List ℕ). bytesOf (merge1 x‴ y‴) ++ l) (ap writeFields merge-none ∙ write-none)
     ∙ append-nil (bytesOf (merge1 x‴ y‴)))))
-
-pub row-bytes : (r : Row) → writeRow r ≡ 15 ∷ writeFields (rowFields r)
-unfolding writeRecord writeNumber mapOf
-row-bytes r = refl
 
 module _ (s : Measures) (u : List (Option Content)) (r : Row) (record-bytes table : List ℕ) (at map : ℕ) (e f : Ends) where
   pub renewed-row : ShownRecord record-bytes 1 map e u → ShownRecord table (at + 1) 15 f (rowFields r) → GoodRecord s u → GoodRow s r

@@ -6,6 +6,7 @@ pub mod PointerLaws
 pub mod DirectoryLaws
 pub mod VerdictLaws
 pub mod RowLaws
+pub mod OwnerLaws
 pub mod NodeTableLaws
 pub mod NodeMapLaws
 pub mod MessageLaws

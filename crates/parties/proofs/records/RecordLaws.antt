@@ -1,14 +1,14 @@
 -- What is left after pointers, directory records and rows.
 use mathlib.Core.Path.{_≡_, refl, sym, ap, subst, _∙_}
 use mathlib.Core.Bool.{Bool, true, false, cond, _&&_, _||_}
-use mathlib.Core.List.{List, [], _∷_}
+use mathlib.Core.List.{List, [], _∷_, _++_, append-assoc}
 use mathlib.Core.Option.{Option, some, none}
 use Prim.Native.Nat.{ℕ, suc, _+_, _-_, _*_, _/_, _%_, _^_, _<_, _≤_}
 use native.Mathlib.Decide.{decLe}
 use native.Mathlib.Omega.{arith}
 use borrow.Author.Tests.{eq-eqb, ne-eqb, eqb-true, lt-leb, ltb-true, lt-ltb, le-ltb}
 use lib.Dec.{eqb, leb, ltb}
-use lib.ListN.{length, take, drop, getD, length-append, length-drop}
+use lib.ListN.{length, take, drop, getD, replicate, length-append, length-drop}
 use lib.Seq.{drop-drop, getD-drop, drop-cons}
 use Rattle.coding.specs.Nodes.{all}
 use Rattle.coding.specs.Bytes.{Bytes}
@@ -17,25 +17,30 @@ use Rattle.coding.proofs.PageLaws.{none≢some, some-eq}
 use Rattle.parties.specs.declared.Measures.{Measures}
 use Rattle.parties.specs.declared.Version.{Version}
 use Rattle.parties.specs.protocol.Format.{Read, Reader, bind, check, both, given, mapped, chain, whole}
-use Rattle.parties.specs.protocol.Format.{readNumber, writeNumber, readMany, readBytes, readZeros}
+use Rattle.parties.specs.protocol.Format.{readNumber, writeNumber, readMany, readBytes, readZeros, writeArea}
 use Rattle.parties.specs.protocol.Measures.{rowSize}
 use Rattle.parties.specs.protocol.Version.{isNoVersion}
 use Rattle.parties.specs.protocol.Nodes.{count}
 use Rattle.parties.specs.protocol.Pointer.{Named, Pointer, isNone, properPointer, readVersion, readNamed, readAnyPointer, readPointer}
 use Rattle.parties.specs.protocol.Message.{properVersion}
 use Rattle.parties.specs.protocol.Directory.{Field, pointers, indices, Content, fields, readIndex, readContent, readFields}
-use Rattle.parties.specs.protocol.Directory.{mapOf, readRecord, writeRecord, Row, asRow, writeRow, readRow, readDirectory}
-use Rattle.parties.specs.protocol.Verdict.{sound, broken, properFields, byLength, recordVerdict, rowsVerdict}
+use Rattle.parties.specs.protocol.Directory.{mapOf, readRecord, writeFields, writeRecord, Row, rowFields, allFields, asRow, writeRow, readRow, readDirectory}
+use Rattle.parties.specs.protocol.Owner.{ownPointer, ownFields, ownRow, ownRows}
+use Rattle.parties.specs.protocol.Verdict.{sound, broken, byOwner, byLength, recordVerdict, rowsVerdict}
 use Rattle.parties.proofs.protocol.formats.FormatLaws.{number-one}
-use Rattle.parties.proofs.protocol.formats.DirectoryLaws.{format-record}
-use Rattle.parties.proofs.protocol.formats.VerdictLaws.{fields-proper, judged-broken}
-use Rattle.parties.proofs.protocol.formats.RowLaws.{GoodRow, format-row-fields, row-fits}
+use Rattle.parties.proofs.protocol.formats.DirectoryLaws.{format-fields, format-record}
+use Rattle.parties.proofs.protocol.formats.VerdictLaws.{tested, content-tested, fields-tested, fields-proper}
+use Rattle.parties.proofs.protocol.formats.RowLaws.{GoodRow, format-row-fields, format-row, row-fits}
+use Rattle.parties.proofs.protocol.formats.OwnerLaws.{row-pointers}
 use Rattle.parties.specs.declared.records.form.Ends.{Ends}
 use Rattle.parties.specs.declared.Refusal.{Refusal}
+use Rattle.parties.specs.declared.records.form.Rule.{Rule}
 use Rattle.parties.specs.declared.records.form.Parts.{Parts}
+use Rattle.parties.specs.declared.records.form.OwnParts.{OwnParts}
+use Rattle.parties.specs.declared.records.form.Table.{Table}
 use Rattle.parties.specs.declared.records.form.Verdict.{Verdict}
 use Rattle.parties.specs.records.Answer.{number}
-use Rattle.parties.specs.records.Form.{rest, pointerBy, properFront, allowedFront, after, Ended, Parted, Rowed, Tabled}
+use Rattle.parties.specs.records.Form.{rest, front, pointerBy, properFront, allowedFront, after, Ended, Parted, holds, OwnParted, Rowed, Tabled, Judged}
 use Rattle.parties.proofs.records.FormLaws.{left-read, none-read, rest-check, none-either, rest-make, rest-mapped, rest-both, rest-zeros, rest-area, none-area, Fixed, fixed-fits, fixed-short, fixed-then, fixed-bytes, fixed-number, fixed-mapped, fixed-many}
 
 pub bytes-drop : (at : ℕ) (t : List ℕ) → Bytes t → Bytes (drop at t)
@@ -62,18 +67,32 @@ any-short u h = go (decLe 5 (length u))
         rw (x .1) (rw (none-read (readNumber 2 (x .0 .rest)) (fixed-short 2 (readNumber 2) (fixed-number 2) (x .0 .rest) e)) refl)
     go (no l) = rw (none-read (readVersion u) (fixed-short 5 readVersion fixed-version u (omega arith))) refl
 
-pub pointer-short : (s : Measures) (ruled : Bool) (u : List ℕ) → length u < 7 → rest (pointerBy s ruled u) ≡ none
+pub pointer-short : (s : Measures) (rule : Rule) (u : List ℕ) → length u < 7 → rest (pointerBy s rule u) ≡ none
 unfolding readPointer
-pointer-short s true u h = rw (any-short u h) refl
-pointer-short s false u h = rw (any-short u h) refl
+pointer-short s Rule.Length u h = rw (any-short u h) refl
+pointer-short s Rule.Proper u h = rw (any-short u h) refl
+pointer-short s (Rule.Owner own) u h = rw (any-short u h) refl
 
 -- one that has its seven bytes: the test goes by them, and the digests follow
 module _ (s : Measures) (u w x : List ℕ) (v : Version) (map : ℕ)
     (version : readVersion u ≡ some (record { value = v; rest = w }))
     (nodes : readNumber 2 w ≡ some (record { value = map; rest = x })) where
-  pub rest-pointer : (ruled : Bool) → rest (pointerBy s ruled u) ≡ cond (allowedFront s ruled v map) (rest (readMany (readBytes 32) (count map) x)) none
+  pub rest-pointer : (rule : Rule) → rest (pointerBy s rule u) ≡ cond (allowedFront s rule v map) (rest (readMany (readBytes 32) (count map) x)) none
   unfolding readPointer readNamed properPointer
-  rest-pointer true = rw version (rw nodes (go (readMany (readBytes 32) (count map) x)))
+  rest-pointer (Rule.Owner own) = rw version (rw nodes (go (readMany (readBytes 32) (count map) x)))
+    where
+      tested : (a : Bool) (p : Pointer) (t : List ℕ) → rest (bind (check a p t) (λ q u. check (ownPointer own q) q u)) ≡ cond (a && ownPointer own p) (some t) none
+      tested true p t = rest-check (ownPointer own p) p t
+      tested false p t = refl
+
+      go : (o : Option (Read (List (List ℕ))))
+          → rest (bind (bind (bind (bind o (λ l u. some (record { value = record { nodes = map; digests = l }; rest = u })))
+          (λ n u. some (record { value = record { version = v; named = n }; rest = u })))
+          (λ p t. check (properPointer s p) p t)) (λ p t. check (ownPointer own p) p t))
+          ≡ cond (properFront s v map && ownPointer own (front v map)) (rest o) none
+      go none = none-either (properFront s v map && ownPointer own (front v map))
+      go (some r) = tested (properFront s v map) _ (r .rest)
+  rest-pointer Rule.Proper = rw version (rw nodes (go (readMany (readBytes 32) (count map) x)))
     where
       go : (o : Option (Read (List (List ℕ))))
           → rest (bind (bind (bind o (λ l u. some (record { value = record { nodes = map; digests = l }; rest = u })))
@@ -81,7 +100,7 @@ module _ (s : Measures) (u w x : List ℕ) (v : Version) (map : ℕ)
           (λ p t. check (properPointer s p) p t)) ≡ cond (properFront s v map) (rest o) none
       go none = none-either (properFront s v map)
       go (some r) = rest-check (properFront s v map) _ (r .rest)
-  rest-pointer false = rw version (rw nodes (go (readMany (readBytes 32) (count map) x)))
+  rest-pointer Rule.Length = rw version (rw nodes (go (readMany (readBytes 32) (count map) x)))
     where
       go : (o : Option (Read (List (List ℕ))))
           → rest {A = Pointer} (bind (bind {B = Named} o (λ l u. some (record { value = record { nodes = map; digests = l }; rest = u })))
@@ -90,9 +109,17 @@ module _ (s : Measures) (u w x : List ℕ) (v : Version) (map : ℕ)
       go (some r) = refl
 
 -- a pointer whose version is not none
-grouped : (a b c : Bool) → (a && (b && c)) ≡ ((a && b) && c)
+pub grouped : (a b c : Bool) → (a && (b && c)) ≡ ((a && b) && c)
 grouped true b c = refl
 grouped false b c = refl
+
+pub and-all : (a : Bool) → (a && true) ≡ a
+and-all true = refl
+and-all false = refl
+
+pub and-none : (a : Bool) → (a && false) ≡ false
+and-none true = refl
+and-none false = refl
 
 pub not-none : (p : Pointer) → isNoVersion (p .version) ≡ false → isNone p ≡ false
 not-none p e = grouped (eqb (p .version .sequence .0) 0) (eqb (p .version .client) 255) (eqb (p .named .nodes) 0) ∙ ap (λ (b : Bool). b && eqb (p .named .nodes) 0) e
@@ -115,27 +142,44 @@ module _ (s : Measures) (v : Version) (map : ℕ) where
       (not-none (record { version = v; named = record { nodes = map; digests = [] } }) e)
       ∙ grouped (leb 1 (v .sequence .0)) (ltb (v .client) (s .m)) l)
 
+  -- of a pointer that keeps its rule: its owner's, or none by its version
+  pub front-own : (own : ℕ) → properFront s v map ≡ true → v .client ≡ own → true ≡ (properFront s v map && ownPointer own (front v map))
+  front-own own g e = rw g (go (isNone (front v map)) (eqb (v .client) own) (eq-eqb (v .client) own e))
+    where
+      go : (a b : Bool) → b ≡ true → true ≡ (a || b)
+      go true b h = refl
+      go false b h = sym h
+
+  pub front-other : (own : ℕ) → properFront s v map ≡ true → (v .client ≡ own → ⊥) → isNoVersion v ≡ (properFront s v map && ownPointer own (front v map))
+  front-other own g e = rw g (rw (ne-eqb (v .client) own e) (go (isNoVersion v) refl ∙ or-nothing (isNone (front v map))))
+    where
+      go : (b : Bool) → isNoVersion v ≡ b → isNoVersion v ≡ isNone (front v map)
+      go true h =
+          let x = and-true (eqb (v .sequence .0) 0) (eqb (v .client) 255) h in
+          h ∙ sym (simp (x .0, x .1, front-none h ∙ g))
+      go false h = h ∙ sym (not-none (front v map) h)
+
 -- at a place of t
-module _ (s : Measures) (ruled : Bool) (t : List ℕ) (at : ℕ) (v : Version) (map : ℕ) (room : 7 ≤ length t - at)
+module _ (s : Measures) (rule : Rule) (t : List ℕ) (at : ℕ) (v : Version) (map : ℕ) (room : 7 ≤ length t - at)
     (version : readVersion (drop at t) ≡ some (record { value = v; rest = drop (at + 5) t }))
     (nodes : readNumber 2 (drop (at + 5) t) ≡ some (record { value = map; rest = drop (at + 5 + 2) t })) where
-  pointer-at : rest (pointerBy s ruled (drop at t))
-      ≡ cond (allowedFront s ruled v map) (rest (readMany (readBytes 32) (count map) (drop (at + 5 + 2) t))) none
-  pointer-at = rest-pointer s (drop at t) (drop (at + 5) t) (drop (at + 5 + 2) t) v map version nodes ruled
+  pointer-at : rest (pointerBy s rule (drop at t))
+      ≡ cond (allowedFront s rule v map) (rest (readMany (readBytes 32) (count map) (drop (at + 5 + 2) t))) none
+  pointer-at = rest-pointer s (drop at t) (drop (at + 5) t) (drop (at + 5 + 2) t) v map version nodes rule
 
   digests : Fixed (count map * 32) (readMany (readBytes 32) (count map))
   digests = fixed-many 32 (readBytes 32) (fixed-bytes 32) (count map)
 
-  pub pointer-improper : allowedFront s ruled v map ≡ false → rest (pointerBy s ruled (drop at t)) ≡ none
+  pub pointer-improper : allowedFront s rule v map ≡ false → rest (pointerBy s rule (drop at t)) ≡ none
   pointer-improper p = pointer-at ∙ ap (λ (b : Bool). cond b (rest (readMany (readBytes 32) (count map) (drop (at + 5 + 2) t))) none) p
 
-  pub pointer-long : allowedFront s ruled v map ≡ true → length t - at < 7 + 32 * count map → rest (pointerBy s ruled (drop at t)) ≡ none
+  pub pointer-long : allowedFront s rule v map ≡ true → length t - at < 7 + 32 * count map → rest (pointerBy s rule (drop at t)) ≡ none
   pointer-long p h =
       pointer-at ∙ ap (λ (b : Bool). cond b (rest (readMany (readBytes 32) (count map) (drop (at + 5 + 2) t))) none) p
       ∙ fixed-short (count map * 32) (readMany (readBytes 32) (count map)) digests (drop (at + 5 + 2) t) (omega (arith, length-drop (at + 5 + 2) t))
 
-  pub pointer-sound : allowedFront s ruled v map ≡ true → 7 + 32 * count map ≤ length t - at
-      → rest (pointerBy s ruled (drop at t)) ≡ some (drop (at + (7 + 32 * count map)) t)
+  pub pointer-sound : allowedFront s rule v map ≡ true → 7 + 32 * count map ≤ length t - at
+      → rest (pointerBy s rule (drop at t)) ≡ some (drop (at + (7 + 32 * count map)) t)
   pointer-sound p h =
       let e : at + 5 + 2 + count map * 32 ≡ at + (7 + 32 * count map) = omega arith in
       pointer-at ∙ ap (λ (b : Bool). cond b (rest (readMany (readBytes 32) (count map) (drop (at + 5 + 2) t))) none) p
@@ -217,6 +261,65 @@ module _ (s : Measures) (r : Reader Pointer) (t : List ℕ) (at map : ℕ) where
       ∙ rest-fields r (indices 1) _ (map / 2 / 2 / 2) (drop (e .indices) t) ∙ chain-some _ _ _ (h .index)
       ∙ rest-no-fields r (map / 2 / 2 / 2 / 2) (drop (e .index) t)
 
+-- ---- fields whose pointers are tested
+
+module _ (test : Pointer → Bool) (r : Reader Pointer) where
+  tested-after : {A : Type 0} (p : A → Bool) (ra : Reader A) (u v : List ℕ) → rest (given p ra u) ≡ some v → rest (ra u) ≡ some v
+  tested-after {A} p ra u v e = go (ra u) e
+    where
+      passed : (b : Bool) (x : Read A) → rest (check b (x .value) (x .rest)) ≡ some v → some (x .rest) ≡ some v
+      passed true x h = h
+      passed false x h = absurd (none≢some h)
+
+      go : (o : Option (Read A)) → rest (bind o (λ a t. check (p a) a t)) ≡ some v → rest o ≡ some v
+      go none h = h
+      go (some x) h = passed (p (x .value)) x h
+
+  after-loose : (f : Field) (bit : ℕ) (u v : List ℕ) → after (given test r) f bit u ≡ some v → after r f bit u ≡ some v
+  after-loose f bit u v = go (eqb bit 1)
+    where
+      go : (b : Bool) → cond b (rest (readContent (given test r) f u)) (some u) ≡ some v → cond b (rest (readContent r f u)) (some u) ≡ some v
+      go true h = tested-after (tested test r) (readContent r f) u v (sym (ap rest (content-tested test r f u)) ∙ h)
+      go false h = h
+
+  -- they end where they end without the test
+  pub ended-loose : (s : Measures) (t : List ℕ) (at map : ℕ) (e : Ends) → Ended s (given test r) t at map e → Ended s r t at map e
+  ended-loose s t at map e h =
+      record {
+        written = after-loose (pointers 1) (map % 2) (drop at t) (drop (e .written) t) (h .written);
+        frozen = after-loose (pointers (s .m)) (map / 2 % 2) (drop (e .written) t) (drop (e .frozen) t) (h .frozen);
+        indices = after-loose (indices (s .m)) (map / 2 / 2 % 2) (drop (e .frozen) t) (drop (e .indices) t) (h .indices);
+        index = after-loose (indices 1) (map / 2 / 2 / 2 % 2) (drop (e .indices) t) (drop (e .index) t) (h .index);
+        ordered = h .ordered;
+      }
+
+  -- and the test holds of all or not
+  module _ (fs : List Field) (map : ℕ) (u : List ℕ) where
+    abbrev held : Option (Read (List (Option Content))) → Option (Read (List (Option Content)))
+    held o = bind o (λ a t. check (allFields test a) a t)
+
+    pub fields-held : (v : List ℕ) → rest (readFields (given test r) fs map u) ≡ some v → true ≡ holds (allFields test) (readFields r fs map u)
+    fields-held v e = go (readFields r fs map u) (sym (ap rest (fields-tested test r fs map u)) ∙ e)
+      where
+        passed : (b : Bool) (x : Read (List (Option Content))) → rest (check b (x .value) (x .rest)) ≡ some v → true ≡ b
+        passed true x h = refl
+        passed false x h = absurd (none≢some h)
+
+        go : (o : Option (Read (List (Option Content)))) → rest (held o) ≡ some v → true ≡ holds (allFields test) o
+        go none h = absurd (none≢some h)
+        go (some x) h = passed (allFields test (x .value)) x h
+
+    pub fields-unheld : rest (readFields (given test r) fs map u) ≡ none → false ≡ holds (allFields test) (readFields r fs map u)
+    fields-unheld e = go (readFields r fs map u) (sym (ap rest (fields-tested test r fs map u)) ∙ e)
+      where
+        failed : (b : Bool) (x : Read (List (Option Content))) → rest (check b (x .value) (x .rest)) ≡ none → false ≡ b
+        failed true x h = absurd (none≢some (sym h))
+        failed false x h = refl
+
+        go : (o : Option (Read (List (Option Content)))) → rest (held o) ≡ none → false ≡ holds (allFields test) o
+        go none h = refl
+        go (some x) h = failed (allFields test (x .value)) x h
+
 -- ---- records and rows
 
 pub rest-record : (s : Measures) (b : ℕ) (v : List ℕ) → rest (readRecord s (b ∷ v)) ≡ cond (ltb b 16) (rest (readFields (readPointer s) (fields s) b v)) none
@@ -241,15 +344,15 @@ abbrev readFront : Measures → Reader Row
 readFront s = mapped asRow (given (λ l. eqb (mapOf l) 0x0F) (readRecord s))
 
 module _ (s : Measures) (b : ℕ) (v : List ℕ) (h : Bytes (b ∷ v)) where
-  front : (c : Bool) → eqb b 15 ≡ c → (o : Option (Read (List (Option Content)))) → readRecord s (b ∷ v) ≡ o
+  by-map : (c : Bool) → eqb b 15 ≡ c → (o : Option (Read (List (Option Content)))) → readRecord s (b ∷ v) ≡ o
       → rest (bind (bind o (λ a t. check (eqb (mapOf a) 0x0F) a t)) (λ a t. some (record { value = asRow a; rest = t }))) ≡ cond c (rest o) none
-  front true d none e = refl
-  front false d none e = refl
-  front true d (some r) e = rw (record-map s b v r h e) (rw d refl)
-  front false d (some r) e = rw (record-map s b v r h e) (rw d refl)
+  by-map true d none e = refl
+  by-map false d none e = refl
+  by-map true d (some r) e = rw (record-map s b v r h e) (rw d refl)
+  by-map false d (some r) e = rw (record-map s b v r h e) (rw d refl)
 
   rest-front : rest (readFront s (b ∷ v)) ≡ cond (eqb b 15) (rest (readRecord s (b ∷ v))) none
-  rest-front = front (eqb b 15) refl (readRecord s (b ∷ v)) refl
+  rest-front = by-map (eqb b 15) refl (readRecord s (b ∷ v)) refl
 
 -- a row at a place of the table
 module _ (s : Measures) (t : List ℕ) (h : Bytes t) (at : ℕ) (room : at + rowSize s ≤ length t) where
@@ -313,12 +416,19 @@ module _ (s : Measures) (t : List ℕ) (h : Bytes t) (at : ℕ) (room : at + row
 
 -- ---- a record that is all of the bytes
 
-module _ (s : Measures) (ruled : Bool) (t : List ℕ) (at map : ℕ) (r : Parts) (p : Parted s ruled t at map r) where
-  pub parted-sound : (e : Ends) → r ≡ Parts.Sound e → Ended s (pointerBy s ruled) t at map e
-  parted-sound e q = subst (Parted s ruled t at map) q p
+module _ (s : Measures) (rule : Rule) (t : List ℕ) (at map : ℕ) (r : Parts) (p : Parted s rule t at map r) where
+  pub parted-sound : (e : Ends) → r ≡ Parts.Sound e → Ended s (pointerBy s rule) t at map e
+  parted-sound e q = subst (Parted s rule t at map) q p
 
-  pub parted-broken : r ≡ Parts.Broken → rest (readFields (pointerBy s ruled) (fields s) map (drop at t)) ≡ none
-  parted-broken q = subst (Parted s ruled t at map) q p
+  pub parted-broken : r ≡ Parts.Broken → rest (readFields (pointerBy s rule) (fields s) map (drop at t)) ≡ none
+  parted-broken q = subst (Parted s rule t at map) q p
+
+module _ (s : Measures) (own : ℕ) (t : List ℕ) (at map : ℕ) (r : OwnParts) (p : OwnParted s own t at map r) where
+  pub own-parted-sound : (e : Ends) (owned : Bool) → r ≡ OwnParts.Sound e owned → OwnParted s own t at map (OwnParts.Sound e owned)
+  own-parted-sound e owned q = subst (OwnParted s own t at map) q p
+
+  pub own-parted-broken : r ≡ OwnParts.Broken → rest (readFields (readPointer s) (fields s) map (drop at t)) ≡ none
+  own-parted-broken q = subst (OwnParted s own t at map) q p
 
 whole-none : {A : Type 0} (r : Reader A) (u : List ℕ) → rest (r u) ≡ none → whole r u ≡ none
 whole-none r u e = rw (none-read (r u) e) refl
@@ -365,23 +475,23 @@ module _ (s : Measures) where
         walked : (r : Read (List (Option Content))) × (readFields readAnyPointer (fields s) (getD t 0 0) (drop 1 t) ≡ some r) × (r .rest ≡ drop (e .index) t)
         walked = left-read (readFields readAnyPointer (fields s) (getD t 0 0) (drop 1 t)) (drop (e .index) t) (ended-left s readAnyPointer t 1 (getD t 0 0) e p)
 
-        ruled-left : rest (readFields (readPointer s) (fields s) (getD t 0 0) (drop 1 t)) ≡ cond (properFields s (walked .0 .value)) (some (walked .0 .rest)) none
+        ruled-left : rest (readFields (readPointer s) (fields s) (getD t 0 0) (drop 1 t)) ≡ cond (allFields (properPointer s) (walked .0 .value)) (some (walked .0 .rest)) none
         ruled-left =
             ap rest (fields-proper s (fields s) (getD t 0 0) (drop 1 t)
-            ∙ ap (λ (o : Option (Read (List (Option Content)))). bind o (λ a u. check (properFields s a) a u)) (walked .1))
-            ∙ rest-check (properFields s (walked .0 .value)) (walked .0 .value) (walked .0 .rest)
+            ∙ ap (λ (o : Option (Read (List (Option Content)))). bind o (λ a u. check (allFields (properPointer s) a) a u)) (walked .1))
+            ∙ rest-check (allFields (properPointer s) (walked .0 .value)) (walked .0 .value) (walked .0 .rest)
 
         pub record-rule : rest (readFields (readPointer s) (fields s) (getD t 0 0) (drop 1 t)) ≡ none → recordVerdict s t ≡ broken 12
         record-rule n =
             let z : length (walked .0 .rest) ≡ 0 = omega (arith, ap length (walked .2), length-drop (e .index) t) in
-            record-walked t l h ∙ rw (walked .1) (simp (eq-eqb (length (walked .0 .rest)) 0 z) (go (properFields s (walked .0 .value)) (sym ruled-left ∙ n)))
+            record-walked t l h ∙ rw (walked .1) (simp (eq-eqb (length (walked .0 .rest)) 0 z) (go (allFields (properPointer s) (walked .0 .value)) (sym ruled-left ∙ n)))
           where
             go : (b : Bool) → cond b (some (walked .0 .rest)) none ≡ none → cond b (sound (walked .0 .value)) (broken 12) ≡ broken 12
             go true x = absurd (none≢some (sym x))
             go false x = refl
 
         pub record-ends : (f : Ends) → Ended s (readPointer s) t 1 (getD t 0 0) f → f .index ≡ length t
-        record-ends f q = go (properFields s (walked .0 .value)) (sym ruled-left ∙ ended-left s (readPointer s) t 1 (getD t 0 0) f q)
+        record-ends f q = go (allFields (properPointer s) (walked .0 .value)) (sym ruled-left ∙ ended-left s (readPointer s) t 1 (getD t 0 0) f q)
           where
             go : (b : Bool) → cond b (some (walked .0 .rest)) none ≡ some (drop (f .index) t) → f .index ≡ length t
             go true x =
@@ -390,16 +500,95 @@ module _ (s : Measures) where
 
 -- ---- a row, and a table
 
-module _ (s : Measures) (t : List ℕ) (at : ℕ) (r : Verdict) (h : Rowed s t at r) where
-  pub rowed-sound : r ≡ Verdict.Sound → rest (readRow s (drop at t)) ≡ some (drop (at + rowSize s) t)
-  rowed-sound q = subst (Rowed s t at) q h
+-- the fields of a row that reads
+pub row-bytes : (r : Row) → writeRow r ≡ 15 ∷ writeFields (rowFields r)
+unfolding writeRecord writeNumber mapOf
+row-bytes r = refl
 
-  pub rowed-broken : (n : Refusal) → r ≡ Verdict.Broken n → (rest (readRow s (drop at t)) ≡ none) × (4 ≡ number n)
-  rowed-broken n q = let x = judged-broken 4 (number n) (readRow s (drop at t)) (subst (Rowed s t at) q h) in (ap rest (x .0), x .1)
+pub record RowRead (s : Measures) (t : List ℕ) (at : ℕ) (v : Row) : Type 0 where
+  pub good : GoodRow s v
+  pub after : List ℕ
+  pub read : readFields (readPointer s) (fields s) 15 (drop (at + 1) t) ≡ some (record { value = rowFields v; rest = after })
 
-module _ (s : Measures) (t : List ℕ) (r : Verdict) (h : Tabled s t r) where
-  pub tabled-sound : r ≡ Verdict.Sound → rest (readDirectory s t) ≡ some (drop (s .m * rowSize s) t)
-  tabled-sound q = subst (Tabled s t) q h
+pub row-reads : (s : Measures) (t : List ℕ) (at : ℕ) (r : Read Row) → Bytes t → readRow s (drop at t) ≡ some r → RowRead s t at (r .value)
+unfolding writeArea mapOf
+row-reads s t at r b e =
+    let v = r .value in
+    let x = format-row s .only (drop at t) r (bytes-drop at t b) e in
+    let z = replicate {A = ℕ} (rowSize s - length (writeRow v)) 0 in
+    let d : drop (at + 1) t ≡ writeFields (rowFields v) ++ (z ++ r .rest) =
+    sym (drop-drop 1 at t) ∙ ap (drop 1) (x .1 ∙ append-assoc (writeRow v) z (r .rest) ∙ ap (λ (l : List ℕ). l ++ (z ++ r .rest)) (row-bytes v))
+    in
+    record {
+      good = x .0 .0 .0;
+      after = z ++ r .rest;
+      read = ap (readFields (readPointer s) (fields s) 15) d ∙ format-fields s (fields s) 15 .back (rowFields v) (x .0 .0 .0 .0 .1) (z ++ r .rest);
+    }
 
-  pub tabled-broken : (n : Refusal) → r ≡ Verdict.Broken n → rowsVerdict s t ≡ broken (number n)
-  tabled-broken n q = subst (Tabled s t) q h
+-- the pointers of a row are its fields'
+pub row-holds : (s : Measures) (own : ℕ) (t : List ℕ) (at : ℕ) (v : List ℕ) → Bytes t → rest (readRow s (drop at t)) ≡ some v
+    → holds (ownFields own) (readFields (readPointer s) (fields s) 15 (drop (at + 1) t)) ≡ holds (ownRow own) (readRow s (drop at t))
+row-holds s own t at v b e =
+    let x = left-read (readRow s (drop at t)) v e in
+    ap (holds (ownFields own)) (row-reads s t at (x .0) b (x .1) .read)
+    ∙ row-pointers (ownPointer own) (x .0 .value)
+    ∙ sym (ap (holds (ownRow own)) (x .1))
+
+module _ (s : Measures) (own : ℕ) (t : List ℕ) (at : ℕ) (r : Table) (h : Rowed s own t at r) where
+  pub rowed-sound : (owned : Bool) → r ≡ Table.Sound owned → Rowed s own t at (Table.Sound owned)
+  rowed-sound owned q = subst (Rowed s own t at) q h
+
+  pub rowed-broken : r ≡ Table.Broken → rest (readRow s (drop at t)) ≡ none
+  rowed-broken q = ap rest (subst (Rowed s own t at) q h)
+
+-- one row more of a table, of which i are read; the end
+module _ (s : Measures) (i : ℕ) (u : List ℕ) where
+  pub held-turn : i < s .m → (v : List ℕ) → rest (readRow s u) ≡ some v
+      → holds (ownRows i) (readMany (readRow s) (s .m - i) u) ≡ (holds (ownRow i) (readRow s u) && holds (ownRows (i + 1)) (readMany (readRow s) (s .m - (i + 1)) v))
+  unfolding readMany ownRows
+  held-turn l v e =
+      let d : s .m - i ≡ suc (s .m - (i + 1)) = omega arith in
+      let x = left-read (readRow s u) v e in
+      rw (d, x .1, x .2) (go (x .0 .value) (readMany (readRow s) (s .m - (i + 1)) v))
+    where
+      next : suc i ≡ i + 1
+      next = omega arith
+
+      go : (r : Row) (o : Option (Read (List Row)))
+          → holds (ownRows i) (bind o (λ l w. some (record { value = r ∷ l; rest = w }))) ≡ (ownRow i r && holds (ownRows (i + 1)) o)
+      go r none = sym (and-none (ownRow i r))
+      go r (some y) = ap (λ (k : ℕ). ownRow i r && ownRows k (y .value)) next
+
+  pub held-end : s .m ≤ i → holds (ownRows i) (readMany (readRow s) (s .m - i) u) ≡ true
+  unfolding readMany ownRows
+  held-end h = let d : s .m - i ≡ 0 = omega arith in rw d refl
+
+module _ (s : Measures) (t : List ℕ) (r : Table) (h : Tabled s t r) where
+  pub tabled-sound : (all : Bool) → r ≡ Table.Sound all → Tabled s t (Table.Sound all)
+  tabled-sound all q = subst (Tabled s t) q h
+
+  pub tabled-broken : r ≡ Table.Broken → readDirectory s t ≡ none
+  tabled-broken q = subst (Tabled s t) q h
+
+module _ (s : Measures) (t : List ℕ) (r : Verdict) (h : Judged s t r) where
+  pub judged-sound : r ≡ Verdict.Sound → Judged s t Verdict.Sound
+  judged-sound q = subst (Judged s t) q h
+
+  pub judged-broken : (n : Refusal) → r ≡ Verdict.Broken n → rowsVerdict s t ≡ broken (number n)
+  judged-broken n q = subst (Judged s t) q h
+
+-- rows that read
+module _ (s : Measures) (t v : List ℕ) (e : rest (readDirectory s t) ≡ some v) where
+  -- their owners' all
+  pub rows-sound : true ≡ holds (ownRows 0) (readDirectory s t) → (r : Read (List Row)) × (readDirectory s t ≡ some r) × (rowsVerdict s t ≡ sound r)
+  rows-sound o =
+      let x = left-read (readDirectory s t) v e in
+      let q : ownRows 0 (x .0 .value) ≡ true = sym (o ∙ ap (holds (ownRows 0)) (x .1)) in
+      (x .0, x .1, ap byOwner (x .1) ∙ ap (λ (b : Bool). cond b (sound (x .0)) (broken 14)) q)
+
+  -- or not
+  pub rows-foreign : false ≡ holds (ownRows 0) (readDirectory s t) → rowsVerdict s t ≡ broken 14
+  rows-foreign o =
+      let x = left-read (readDirectory s t) v e in
+      let q : ownRows 0 (x .0 .value) ≡ false = sym (o ∙ ap (holds (ownRows 0)) (x .1)) in
+      ap byOwner (x .1) ∙ ap (λ (b : Bool). cond b (sound (x .0)) (broken 14)) q

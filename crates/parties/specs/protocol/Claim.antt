@@ -156,10 +156,11 @@ IsLie (bring c i room) = ⊥
 IsLie (deliver i c room out) = ⊥
 IsLie (lie i c bytes room out) = Unit {0}
 
--- 8, 9, 11 and 12 never come, and 4 comes only for bytes of a dishonest node
+-- 8, 9, 11, 12 and 14 never come, and 4 comes only for bytes of a dishonest node
 pub record Sane (e : Event) (a : Answered) : Type 0 where
   pub room : numberOf a ≡ some 8 → ⊥
   pub matching : numberOf a ≡ some 9 → ⊥
   pub form : numberOf a ≡ some 4 → IsLie e
   pub lengths : numberOf a ≡ some 11 → ⊥
   pub rules : numberOf a ≡ some 12 → ⊥
+  pub owners : numberOf a ≡ some 14 → ⊥

@@ -1,5 +1,5 @@
 -- The directory: its record, its rows and its table.
-use mathlib.Core.Bool.{Bool, cond}
+use mathlib.Core.Bool.{Bool, true, cond, _&&_}
 use mathlib.Core.List.{List, [], _∷_, _++_}
 use mathlib.Core.Option.{Option, some, none}
 use Prim.Native.Nat.{ℕ, _+_, _*_, _/_, _%_, _^_}
@@ -9,7 +9,7 @@ use Rattle.parties.specs.declared.Measures.{Measures}
 use Rattle.parties.specs.declared.ReadingIndex.{ReadingIndex}
 use Rattle.parties.specs.protocol.Format.{Reader, both, given, mapped, readNothing, readNumber, writeNumber, readMany, writeMany, readArea, writeArea}
 use Rattle.parties.specs.protocol.Measures.{rowSize}
-use Rattle.parties.specs.protocol.Pointer.{Pointer, nonePointer, readPointer, writePointer}
+use Rattle.parties.specs.protocol.Pointer.{Pointer, nonePointer, allPointers, readPointer, writePointer}
 
 -- a field of a directory record: so many pointers, or so many indices of 4 bytes
 pub data Field : Type 0 where
@@ -103,6 +103,11 @@ abbrev pub indicesIn : Option Content → List ReadingIndex
 indicesIn none = []
 indicesIn (some (pointersOf l)) = []
 indicesIn (some (indicesOf l)) = l
+
+-- every pointer of some fields passes a test
+unfoldable pub allFields : (Pointer → Bool) → List (Option Content) → Bool
+allFields test [] = true
+allFields test (x ∷ l) = allPointers test (pointersIn x) && allFields test l
 
 abbrev pub asRow : List (Option Content) → Row
 asRow l =

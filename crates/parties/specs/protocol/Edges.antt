@@ -11,6 +11,7 @@ use Rattle.parties.specs.declared.Measures.{Measures}
 use Rattle.parties.specs.protocol.Measures.{passes}
 use Rattle.parties.specs.protocol.Version.{below, lastNumber}
 use Rattle.parties.specs.protocol.Directory.{Row, readDirectory, freshDirectory}
+use Rattle.parties.specs.protocol.Owner.{ownRows}
 use Rattle.parties.specs.protocol.Client.{idle, scanning, picking, Client, readClient, clientSize}
 use Rattle.parties.specs.protocol.Deposit.{highest}
 use Rattle.parties.specs.protocol.Answer.{refused, scan, stores, empty, spent, number, refuses}
@@ -55,12 +56,12 @@ pub record Edges : Type 0 where
   pub first : (s : Measures) (own : ℕ) (client rows room bytes : List ℕ) (c : Client) → Handed s own client rows room c (freshDirectory s)
       → c .phase ≡ scanning bytes
       → scanAnswer s own client rows room .answer ≡ stores (record { sequence = record { 0 = 1 }; client = own }) (columns (s .k) (length bytes))
-  -- sequence 4,294,967,294 highest: drawn next is the last; after it, 7
+  -- sequence 4,294,967,294 highest: drawn next is the last; after it, 7; of rows with other owners, 14 comes before (document 02, (k))
   pub last : (s : Measures) (own : ℕ) (client rows room bytes : List ℕ) (c : Client) (l : List Row) → Handed s own client rows room c l
-      → c .phase ≡ scanning bytes → highest l .0 ≡ 4294967294
+      → ownRows 0 l ≡ true → c .phase ≡ scanning bytes → highest l .0 ≡ 4294967294
       → scanAnswer s own client rows room .answer ≡ stores (record { sequence = record { 0 = lastNumber }; client = own }) (columns (s .k) (length bytes))
   pub after : (s : Measures) (own : ℕ) (client rows room bytes : List ℕ) (c : Client) (l : List Row) → Handed s own client rows room c l
-      → c .phase ≡ scanning bytes → highest l .0 ≡ lastNumber
+      → ownRows 0 l ≡ true → c .phase ≡ scanning bytes → highest l .0 ≡ lastNumber
       → (scanAnswer s own client rows room .answer ≡ spent) × (number (scanAnswer s own client rows room .answer) ≡ some 7)
   -- update bit map hex 10: 4
   pub wrong-map : (s : Measures) (own : ℕ) (table rest : List ℕ) → passes s ≡ true → directorySize s ≤ length table → own < s .m

@@ -1,6 +1,6 @@
 -- Pointers.
-use mathlib.Core.Bool.{Bool, _&&_, _||_}
-use mathlib.Core.List.{List, [], _++_}
+use mathlib.Core.Bool.{Bool, true, _&&_, _||_}
+use mathlib.Core.List.{List, [], _∷_, _++_}
 use Prim.Native.Nat.{ℕ, _+_, _^_}
 use lib.Dec.{leb, ltb, eqb}
 use lib.ListN.{length}
@@ -39,6 +39,11 @@ properPointer s p =
     isNone p
     || (leb 1 (p .version .sequence .0) && (ltb (p .version .client) (s .m)
     && (eqb (length (nodesIn (p .named .nodes))) (s .t + s .k) && ltb (p .named .nodes) (2 ^ s .n))))
+
+-- every pointer passes a test
+unfoldable pub allPointers : (Pointer → Bool) → List Pointer → Bool
+allPointers test [] = true
+allPointers test (p ∷ l) = test p && allPointers test l
 
 unfoldable pub readNamed : Reader Named
 readNamed = both (readNumber 2) (λ map. readMany (readBytes 32) (length (nodesIn map))) (λ map ds. record { nodes = map; digests = ds })

@@ -1,7 +1,7 @@
 -- The papers' number of each refusal.
 use Prim.Native.Nat.{ℕ}
 use Rattle.parties.specs.declared.Refusal.{Refusal}
-use Rattle.parties.specs.declared.Refusal.the-variants.{Measures, Short, Number, Form, Length, Rule, OutOfTurn, TooLong, Spent, Full}
+use Rattle.parties.specs.declared.Refusal.the-variants.{Measures, Short, Number, Form, Length, Rule, Owner, OutOfTurn, TooLong, Spent, Full}
 
 abbrev pub number : Refusal → ℕ
 number Measures = 1
@@ -10,6 +10,7 @@ number Number = 3
 number Form = 4
 number Length = 11
 number Rule = 12
+number Owner = 14
 number OutOfTurn = 5
 number TooLong = 6
 number Spent = 7

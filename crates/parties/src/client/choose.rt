@@ -13,6 +13,7 @@ use crate::records::bytes::copy;
 use crate::records::bytes::u16_at;
 use crate::records::bytes::u32_at;
 use crate::records::form::Form;
+use crate::records::form::Rule;
 use crate::records::form::pointers;
 use crate::records::form::row_size;
 use crate::records::version::version_at;
@@ -49,7 +50,7 @@ pub fn past(s: Measures, n: usize, t: &[u8], at: usize) -> usize
     requires { ⌜ (passes s ≡ true) × (at ≤ length (now t)) × (isSome (readMany (readPointer s) n (drop at (now t))) ≡ true) ⌝ }
     ensures { λ r. ⌜ (rest (readMany (readPointer s) n (drop at (now (t .entry)))) ≡ some (drop r (now (t .entry)))) × (r ≤ length (now (t .entry))) ⌝ }
 {
-    let Form::Sound(next) = pointers(s, true, n, t, at) else {
+    let Form::Sound(next) = pointers(s, Rule::Proper, n, t, at) else {
         return at;
     };
     next

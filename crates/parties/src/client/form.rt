@@ -11,6 +11,7 @@ use crate::records::bytes::u16_at;
 use crate::records::bytes::u32_at;
 use crate::records::bytes::zero_run;
 use crate::records::form::Form;
+use crate::records::form::Rule;
 use crate::records::form::pointer;
 use crate::records::form::pointer_size;
 use crate::records::form::within;
@@ -62,7 +63,7 @@ fn pointer_area(s: Measures, size: usize, t: &[u8], at: usize) -> bool
     requires { ⌜ (passes s ≡ true) × (size ≡ pointerSize s) × (at + pointerSize s ≤ length (now t)) ⌝ }
     ensures { λ r. ⌜ rest (pointerArea s (drop at (now (t .entry)))) ≡ cond r (some (drop (at + pointerSize s) (now (t .entry)))) none ⌝ }
 {
-    let Form::Sound(next) = pointer(s, true, t, at) else {
+    let Form::Sound(next) = pointer(s, Rule::Proper, t, at) else {
         return false;
     };
     zero_run(t, next, at + size)
@@ -173,7 +174,7 @@ fn some_form(s: Measures, t: &[u8], at: usize) -> Form
     if version_at(t, at).is_none() {
         return Form::Broken;
     }
-    pointer(s, true, t, at)
+    pointer(s, Rule::Proper, t, at)
 }
 
 // A piece of l bytes in its area.

@@ -14,6 +14,7 @@ impl Refusal {
             Refusal::Form => 4,
             Refusal::Length => 11,
             Refusal::Rule => 12,
+            Refusal::Owner => 14,
             Refusal::OutOfTurn => 5,
             Refusal::TooLong => 6,
             Refusal::Spent => 7,

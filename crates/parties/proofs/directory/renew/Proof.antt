@@ -1,11 +1,11 @@
 use borrow.Author.Needs.{needs}
 use mathlib.Core.Path.{refl, sym, subst}
-use mathlib.Core.Bool.{true}
 use Prim.Native.Nat.{_+_}
 use native.Mathlib.Omega.{arith}
 use lib.ListN.{drop}
 use Rattle.parties.specs.protocol.Measures.{rowSize}
 use Rattle.parties.specs.protocol.Pointer.{readPointer}
+use Rattle.parties.specs.declared.records.form.Rule.{Rule}
 use Rattle.parties.specs.records.Form.{Ended}
 use Rattle.parties.specs.directory.Room.{Renewed}
 use Rattle.parties.proofs.records.SizeLaws.{row-bound}
@@ -35,12 +35,12 @@ returns c = λ u r p q.
     let a = c .before .before .before .before .before .before .args in
     let f = c .before .before .field-ends in
     absurd (row-fields-sound (a .s) (a .table .now) (a .at) (record { value = r; rest = drop (a .at + rowSize (a .s)) (a .table .now) }) (λ i. c .before .before .before .before .slice-known .given i .fits) q
-    (parted-broken (a .s) true (a .table .now) (a .at + 1) 15 (f .result) (f .ensures) (c .enum-told .given .1)))
+    (parted-broken (a .s) Rule.Proper (a .table .now) (a .at + 1) 15 (f .result) (f .ensures) (c .enum-told .given .1)))
 
 ended : (c : tie.After-known-told) → let a = c .before .before .before .before .before .before .before .args in Ended (a .s) (readPointer (a .s)) (a .table .now) (a .at + 1) 15 (c .before .f .given .0 .0)
 ended c =
     let a = c .before .before .before .before .before .before .before .args in
-    let f = c .before .before .before .field-ends in parted-sound (a .s) true (a .table .now) (a .at + 1) 15 (f .result) (f .ensures) (c .before .f .given .0 .0) (c .before .f .given .1)
+    let f = c .before .before .before .field-ends in parted-sound (a .s) Rule.Proper (a .table .now) (a .at + 1) 15 (f .result) (f .ensures) (c .before .f .given .0 .0) (c .before .f .given .1)
 
 slice-aggregate-rebuild : tie.Need-slice-aggregate-rebuild
 slice-aggregate-rebuild c = search needs

@@ -10,7 +10,7 @@ use Rattle.parties.specs.protocol.Measures.{passes, rowSize}
 use Rattle.parties.specs.protocol.Answer.{serves}
 use Rattle.parties.specs.protocol.DirectoryEvents.{directorySize}
 use Rattle.parties.specs.records.Answer.{number}
-use Rattle.parties.proofs.records.RecordLaws.{tabled-sound, tabled-broken}
+use Rattle.parties.proofs.records.RecordLaws.{judged-sound, judged-broken}
 use Rattle.parties.proofs.records.SizeLaws.{table-bound}
 use Rattle.parties.proofs.directory.EndLaws.{ends-room, scan-measures, scan-short-table, scan-short-room, scan-broken, scan-rows}
 use Rattle.parties.proofs.directory.scan.Statement.{statement}
@@ -59,7 +59,7 @@ returns-4 c =
     let d = c .before .before .before .directory in
     let n = c .before .r .given .0 .0 in
     ends-room _ _ (scan-broken (a .s) (a .table .now) (a .room .now) (good (c .before .before .before .before .before .before .before .before)) (omega (arith, sized (c .before .before .before .before .before .before))) (omega (arith, sized (c .before .before .before .before .before .before))) (number n)
-    (tabled-broken (a .s) (a .table .now) (d .result) (d .ensures) n (c .before .r .given .1)))
+    (judged-broken (a .s) (a .table .now) (d .result) (d .ensures) n (c .before .r .given .1)))
 
 enum-told : tie.Need-enum-told
 enum-told c = search needs
@@ -76,8 +76,8 @@ returns-5 c =
     let d = c .before .before .before .before .before .before .directory in
     let e : a .s .m * c .before .before .before .before .before .before .before .before .before .before .row-size .result ≡ directorySize (a .s) = sized (c .before .before .before .before .before .before .before .before .before) in
     let z : 0 + directorySize (a .s) ≡ directorySize (a .s) = omega arith in
-    let x = ends-room _ _ (scan-rows (a .s) (a .table .now) (a .room .now) (good (c .before .before .before .before .before .before .before .before .before .before .before)) (omega arith) (omega arith) (drop (a .s .m * rowSize (a .s)) (a .table .now))
-    (tabled-sound (a .s) (a .table .now) (d .result) (d .ensures) (c .before .before .before .before .enum-told .given .1))) in (
+    let j = judged-sound (a .s) (a .table .now) (d .result) (d .ensures) (c .before .before .before .before .enum-told .given .1) in
+    let x = ends-room _ _ (scan-rows (a .s) (a .table .now) (a .room .now) (good (c .before .before .before .before .before .before .before .before .before .before .before)) (omega arith) (omega arith) (drop (a .s .m * rowSize (a .s)) (a .table .now)) (j .0) (j .1)) in (
       ap serves e ∙ x .0,
       c .before .before .copy .ensures ∙ ap (λ (k : ℕ). take k (a .table .now) ++ drop (0 + k) (a .room .now)) e
           ∙ ap (λ (k : ℕ). take (directorySize (a .s)) (a .table .now) ++ drop k (a .room .now)) z ∙ x .1,

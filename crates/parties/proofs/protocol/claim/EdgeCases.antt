@@ -17,7 +17,8 @@ use Rattle.parties.specs.protocol.Measures.{passes}
 use Rattle.parties.specs.protocol.Version.{below, nextSequence}
 use Rattle.parties.specs.protocol.Pointer.{Pointer, nonePointer}
 use Rattle.parties.specs.protocol.Directory.{Row, readDirectory, freshRow, freshDirectory}
-use Rattle.parties.specs.protocol.Verdict.{judged, rowsVerdict, recordVerdict}
+use Rattle.parties.specs.protocol.Owner.{ownRows}
+use Rattle.parties.specs.protocol.Verdict.{sound, broken, byOwner, rowsVerdict, recordVerdict}
 use Rattle.parties.specs.protocol.Client.{Phase, Client, clientSize}
 use Rattle.parties.specs.protocol.Deposit.{highest}
 use Rattle.parties.specs.protocol.Reading.{candidate, pick}
@@ -25,6 +26,7 @@ use Rattle.parties.specs.protocol.Answer.{refused, scan, number, refuses
 use Rattle.parties.specs.protocol.ClientEvents.{Step, stays, does, withPhase, isIdle, ClientEnd, roomSize, beginDeposit, scannedAt, fetch, draw, onClient, onRows, after, startDeposit, scanAnswer}
 use Rattle.parties.specs.protocol.DirectoryEvents.{directorySize, onTable, directoryUpdate}
 use Rattle.parties.specs.protocol.Edges.{Handed, Starting, Edges}
+use Rattle.parties.proofs.protocol.formats.OwnerLaws.{fresh-own}
 
 four : (f : ℕ) → 2 ≤ f → f ≤ 4096 → passes (record { m = 2; n = 4; k = 2; t = 1; f = f }) ≡ true
 unfolding passes
@@ -33,10 +35,10 @@ four f h l =
     let b : 4 ≤ 2 * f = omega arith in simp (le-leb 1 f a, le-leb f 4096 l, le-leb 4 (2 * f) b)
 
 -- where the record and the rows read, the scan's answer is the step on them
-handed : (s : Measures) (own : ℕ) (client rows room : List ℕ) (c : Client) (l : List Row) (h : Handed s own client rows room c l)
+handed : (s : Measures) (own : ℕ) (client rows room : List ℕ) (c : Client) (l : List Row) (h : Handed s own client rows room c l) → ownRows 0 l ≡ true
     → scanAnswer s own client rows room ≡ after s client room [] (h .record-rest) (scannedAt s own c room l (c .phase))
 unfolding scanAnswer
-handed s own client rows room c l h =
+handed s own client rows room c l h o =
     simp (
       h .measures,
       le-leb (clientSize s) (length client) (h .enough .0),
@@ -45,7 +47,9 @@ handed s own client rows room c l h =
       lt-ltb own (s .m) (h .number),
     )
     (ap (λ r. onClient s client room [] r (λ x. onRows (rowsVerdict s rows) (λ y. scannedAt s own x room y (x .phase)))) (h .record-reads)
-    ∙ ap (λ r. after s client room [] (h .record-rest) (onRows (judged 4 r) (λ y. scannedAt s own c room y (c .phase)))) (h .rows-read))
+    ∙ ap (λ r. after s client room [] (h .record-rest) (onRows (byOwner r) (λ y. scannedAt s own c room y (c .phase)))) (h .rows-read)
+    ∙ ap (λ (b : Bool). after s client room [] (h .record-rest)
+    (onRows (cond b (sound (record { value = l; rest = h .rows-rest })) (broken 14)) (λ y. scannedAt s own c room y (c .phase)))) o)
 
 -- where the record reads, a deposit's start is the step on it
 asked : (s : Measures) (own : ℕ) (client bytes : List ℕ) (c : Client) (h : Starting s own client c)
@@ -100,28 +104,29 @@ fresh-highest s zero = refl
 fresh-highest s (suc n) = ap (λ (q : Sequence). cond (ltb (q .0) 0) (record { 0 = 0 }) q) (fresh-highest s n)
 
 -- the answer in the phase that the record shows
-answered : (s : Measures) (own : ℕ) (client rows room : List ℕ) (c : Client) (l : List Row) (h : Handed s own client rows room c l) (p : Phase) → c .phase ≡ p
+answered : (s : Measures) (own : ℕ) (client rows room : List ℕ) (c : Client) (l : List Row) (h : Handed s own client rows room c l) → ownRows 0 l ≡ true
+    → (p : Phase) → c .phase ≡ p
     → scanAnswer s own client rows room .answer ≡ after s client room [] (h .record-rest) (scannedAt s own c room l p) .answer
-answered s own client rows room c l h p e =
+answered s own client rows room c l h o p e =
     ap (λ (x : ClientEnd). x .answer)
-    (handed s own client rows room c l h ∙ ap (λ (y : Phase). after s client room [] (h .record-rest) (scannedAt s own c room l y)) e)
+    (handed s own client rows room c l h o ∙ ap (λ (y : Phase). after s client room [] (h .record-rest) (scannedAt s own c room l y)) e)
 
 nothing : (s : Measures) (own : ℕ) (client rows room : List ℕ) (c : Client) → Handed s own client rows room c (freshDirectory s)
     → c .phase ≡ Phase.picking → scanAnswer s own client rows room .answer ≡ empty
 nothing s own client rows room c h e =
-    answered s own client rows room c (freshDirectory s) h Phase.picking e
+    answered s own client rows room c (freshDirectory s) h (fresh-own s) Phase.picking e
     ∙ ap (λ (p : Pointer). after s client room [] (h .record-rest) (fetch s c room p) .answer) (fresh-pick s own (c .readingIndex) (s .m))
 
 -- what is drawn after a highest sequence
-drawn : (s : Measures) (own : ℕ) (client rows room bytes : List ℕ) (c : Client) (l : List Row) (h : Handed s own client rows room c l) (q : Sequence)
-    → c .phase ≡ Phase.scanning bytes → highest l ≡ q
+drawn : (s : Measures) (own : ℕ) (client rows room bytes : List ℕ) (c : Client) (l : List Row) (h : Handed s own client rows room c l) → ownRows 0 l ≡ true
+    → (q : Sequence) → c .phase ≡ Phase.scanning bytes → highest l ≡ q
     → scanAnswer s own client rows room .answer ≡ after s client room [] (h .record-rest) (draw s own c room bytes (nextSequence q)) .answer
-drawn s own client rows room bytes c l h q e f =
-    answered s own client rows room c l h (Phase.scanning bytes) e
+drawn s own client rows room bytes c l h o q e f =
+    answered s own client rows room c l h o (Phase.scanning bytes) e
     ∙ ap (λ (x : Sequence). after s client room [] (h .record-rest) (draw s own c room bytes (nextSequence x)) .answer) f
 
 wrong : (s : Measures) (own : ℕ) (table rest : List ℕ) (r : Option (Read (List Row)))
-    → onTable s own table (judged 4 r) (recordVerdict s (0x10 ∷ rest)) .answer ≡ refuses 4
+    → onTable s own table r (recordVerdict s (0x10 ∷ rest)) .answer ≡ refuses 4
 unfolding recordVerdict
 wrong s own table rest none = refl
 wrong s own table rest (some r) = refl
@@ -146,11 +151,11 @@ edges =
       later = refl;
       nothing = nothing;
       first = λ s own client rows room bytes c h e.
-          drawn s own client rows room bytes c (freshDirectory s) h (record { 0 = 0 }) e (fresh-highest s (s .m));
-      last = λ s own client rows room bytes c l h e q.
-          drawn s own client rows room bytes c l h (record { 0 = 4294967294 }) e (λ i. record { 0 = q i });
-      after = λ s own client rows room bytes c l h e q.
-          let a = drawn s own client rows room bytes c l h (record { 0 = 4294967295 }) e (λ i. record { 0 = q i }) in (a, ap number a);
+          drawn s own client rows room bytes c (freshDirectory s) h (fresh-own s) (record { 0 = 0 }) e (fresh-highest s (s .m));
+      last = λ s own client rows room bytes c l h o e q.
+          drawn s own client rows room bytes c l h o (record { 0 = 4294967294 }) e (λ i. record { 0 = q i });
+      after = λ s own client rows room bytes c l h o e q.
+          let a = drawn s own client rows room bytes c l h o (record { 0 = 4294967295 }) e (λ i. record { 0 = q i }) in (a, ap number a);
       wrong-map = wrong-map;
       coding = coding-edges;
     }

@@ -22,9 +22,10 @@ use Rattle.parties.specs.protocol.Format.{readNumber, writeNumber, readM
 use Rattle.parties.specs.protocol.Measures.{passes}
 use Rattle.parties.specs.protocol.Version.{ascending}
 use Rattle.parties.specs.protocol.Nodes.{stands, withNode}
-use Rattle.parties.specs.protocol.Pointer.{readVersion, writeVersion, properPointer, readNamed, writeNamed, readPointer, writePointer}
-use Rattle.parties.specs.protocol.Directory.{readIndex, writeIndex, readContent, writeContent, readFields, writeFields, mapOf, readRecord, writeRecord, readRow, readDirectory, writeDirectory, merge, updateRow}
-use Rattle.parties.specs.protocol.Verdict.{properPointers, properFields, recordVerdict}
+use Rattle.parties.specs.protocol.Pointer.{readVersion, writeVersion, properPointer, allPointers, readNamed, writeNamed, readPointer, writePointer}
+use Rattle.parties.specs.protocol.Directory.{readIndex, writeIndex, readContent, writeContent, readFields, writeFields, mapOf, readRecord, writeRecord, readRow, readDirectory, writeDirectory, merge, updateRow, allFields}
+use Rattle.parties.specs.protocol.Owner.{ownRows}
+use Rattle.parties.specs.protocol.Verdict.{recordVerdict}
 use Rattle.parties.specs.protocol.NodeTable.{readPiece, writePiece, readHeld, writeHeld, readPlaces, writePlaces, readTable, writeTable}
 use Rattle.parties.specs.protocol.Node.{keep, handBack, listed, release}
 use Rattle.parties.specs.protocol.Message.{readProper, readVersions, readToNode, writeToNode, readToClient, writeToClient}
@@ -78,7 +79,7 @@ unfolding expected play tabulate digestInput pieceDigest polyProduct polyRemaind
     rounds added compress hash digestJoined sha256 splitWritten split readNumber writeNumber readMany writeMany readEach readBytes readZeros readArea
     writeArea passes ascending stands withNode readVersion writeVersion properPointer readNamed writeNamed readPointer writePointer readIndex
     writeIndex readContent writeContent readFields writeFields mapOf readRecord writeRecord readRow readDirectory writeDirectory merge updateRow
-    properPointers properFields recordVerdict readPiece writePiece readHeld writeHeld readPlaces writePlaces readTable writeTable keep handBack listed release readProper readVersions
+    allPointers allFields ownRows recordVerdict readPiece writePiece readHeld writeHeld readPlaces writePlaces readTable writeTable keep handBack listed release readProper readVersions
     readToNode writeToNode readToClient writeToClient readPage writePage readSome readStores writeStores readPieces writePieces readFetches
     writeFetches readWork writeWork readReserved readRetained writeRetained readClient writeClient highest digestsOf pointerOf noticed frozenAfter
     replaced insert freeList pick sameBytes digestAt matches beginDeposit beginReading startDeposit startReading updateAnswer scanAnswer clientMessage

@@ -16,7 +16,8 @@ use Rattle.parties.specs.protocol.Measures.{passes, rowSize}
 use Rattle.parties.specs.protocol.Format.{Read}
 use Rattle.parties.specs.protocol.Version.{nextSequence}
 use Rattle.parties.specs.protocol.Directory.{Row, readDirectory}
-use Rattle.parties.specs.protocol.Verdict.{judged}
+use Rattle.parties.specs.protocol.Owner.{ownRows}
+use Rattle.parties.specs.protocol.Verdict.{sound, broken, byOwner}
 use Rattle.parties.specs.protocol.Client.{Phase, Client, scanning, readClient, writeClient, clientSize}
 use Rattle.parties.specs.protocol.Deposit.{highest}
 use Rattle.parties.specs.protocol.Answer.{refused, scan, spent, number}
@@ -97,23 +98,29 @@ module _ (s : Measures) (own : ℕ) where
       rw e
       (go (passes s) (leb (clientSize s) (length b) && (leb (s .m * rowSize s) (length rows) && leb (roomSize s) (length room))) (ltb own (s .m)) (readDirectory s rows))
     where
-      other : {A : Type 0} (n : ℕ) → n < 7 → refused n ≡ spent → A
-      other n l h = absurd (omega (arith, some-eq (ap number h)))
+      other : {A : Type 0} (n : ℕ) → (n ≡ 7 → ⊥) → refused n ≡ spent → A
+      other n l h = absurd (l (some-eq (ap number h)))
 
       drawn : (n : NextSequence) → let x = after s b room [] rest (draw s own (withPhase (scanning page) c) room page n) in
           x .answer ≡ spent → x .client ≡ writeClient s (withPhase Phase.idle c) ++ rest
       drawn (NextSequence.Drawn q) h = absurd (none≢some (ap number h))
       drawn NextSequence.Spent h = refl
 
+      owned : (r : Read (List Row)) (x : Bool) → let k = withPhase (scanning page) c in
+          let e = after s b room [] rest (onRows (cond x (sound r) (broken 14)) (λ l. scannedAt s own k room l (k .phase)))
+          in e .answer ≡ spent → e .client ≡ writeClient s (withPhase Phase.idle c) ++ rest
+      owned r true h = drawn (nextSequence (highest (r .value))) h
+      owned r false h = other 14 (λ x. omega arith) h
+
       go : (x y z : Bool) (r : Option (Read (List Row))) → let k = withPhase (scanning page) c in
-          let e = cond x (cond y (cond z (after s b room [] rest (onRows (judged 4 r) (λ l. scannedAt s own k room l (k .phase)))) (unchanged (refused 3) b room []))
+          let e = cond x (cond y (cond z (after s b room [] rest (onRows (byOwner r) (λ l. scannedAt s own k room l (k .phase)))) (unchanged (refused 3) b room []))
           (unchanged (refused 2) b room [])) (unchanged (refused 1) b room [])
           in e .answer ≡ spent → e .client ≡ writeClient s (withPhase Phase.idle c) ++ rest
-      go true true true none h = other 4 (omega arith) h
-      go true true true (some r) h = drawn (nextSequence (highest (r .value))) h
-      go true true false r h = other 3 (omega arith) h
-      go true false z r h = other 2 (omega arith) h
-      go false y z r h = other 1 (omega arith) h
+      go true true true none h = other 4 (λ x. omega arith) h
+      go true true true (some r) h = owned r (ownRows 0 (r .value)) h
+      go true true false r h = other 3 (λ x. omega arith) h
+      go true false z r h = other 2 (λ x. omega arith) h
+      go false y z r h = other 1 (λ x. omega arith) h
 
   -- the deposit ends, and the client's record is as before it began
   pub spent-restores : passes s ≡ true → (b page rows room : List ℕ) → Bytes b → Bytes page → startDeposit s own b page .answer ≡ scan

@@ -15,7 +15,8 @@ use Rattle.parties.specs.declared.Measures.{Measures}
 use Rattle.parties.specs.protocol.Format.{Read, whole}
 use Rattle.parties.specs.protocol.Measures.{passes, rowSize, places}
 use Rattle.parties.specs.protocol.Directory.{Content, Row, noRow, readRecord, writeRecord, readDirectory, writeDirectory, freshDirectory, writeRow, updateRow}
-use Rattle.parties.specs.protocol.Verdict.{Verdict, sound, judged, recordVerdict}
+use Rattle.parties.specs.protocol.Owner.{ownFields, ownRows}
+use Rattle.parties.specs.protocol.Verdict.{Verdict, byOwner, recordVerdict}
 use Rattle.parties.specs.protocol.DirectoryEvents.{DirectoryEnd, directorySize, directoryFresh, onTable, directoryUpdate, scanned, directoryScan}
 use Rattle.parties.specs.protocol.NodeTable.{Held, readTable, writeTable}
 use Rattle.parties.specs.protocol.Node.{keep, handBack}
@@ -27,6 +28,7 @@ use Rattle.parties.proofs.protocol.formats.EachLaws.{each-at, each-set}
 use Rattle.parties.proofs.protocol.formats.DirectoryLaws.{GoodRecord, format-record}
 use Rattle.parties.proofs.protocol.formats.VerdictLaws.{as-before}
 use Rattle.parties.proofs.protocol.formats.RowLaws.{FitsRow, format-directory, length-directory, row-fits, update-good, fresh-directory}
+use Rattle.parties.proofs.protocol.formats.OwnerLaws.{own-row, set-own, updated-own}
 use Rattle.parties.proofs.protocol.formats.NodeTableLaws.{GoodTable, format-table, length-table}
 use Rattle.parties.proofs.protocol.events.NodeLaws.{keep-length, keep-good, release-good, fresh-table}
 use Rattle.parties.proofs.protocol.formats.MessageLaws.{GoodToNode, message-whole, message-to-node}
@@ -72,13 +74,14 @@ module _ (s : Measures) (ok : passes s ≡ true) where
       in (ap (readTable s) end ∙ format-table s .back k good rest, good)
 
   -- after an update that is acknowledged, the table shows the client's row with the fields whose bit stands replaced, and every other row as it was
-  pub update-shows : (own : ℕ) → own < s .m → (rows : List Row) → Each (FitsRow s) rows → length rows ≡ s .m → (rest fields : List ℕ) → Bytes fields
-      → (u : List (Option Content)) → whole (readRecord s) fields ≡ some u
+  pub update-shows : (own : ℕ) → own < s .m → (rows : List Row) → Each (FitsRow s) rows → length rows ≡ s .m → ownRows 0 rows ≡ true
+      → (rest fields : List ℕ) → Bytes fields → (u : List (Option Content)) → whole (readRecord s) fields ≡ some u → ownFields own u ≡ true
       → (readDirectory s (directoryUpdate s own (writeDirectory s rows ++ rest) fields .table)
       ≡ some (record { value = set rows own (updateRow u (getD rows own noRow)); rest = rest }))
       × Each (FitsRow s) (set rows own (updateRow u (getD rows own noRow)))
+      × (ownRows 0 (set rows own (updateRow u (getD rows own noRow))) ≡ true)
   unfolding directoryUpdate
-  update-shows own l rows g n rest fields b u e =
+  update-shows own l rows g n o rest fields b u e ou =
       let t = writeDirectory s rows ++ rest in
       let r = updateRow u (getD rows own noRow) in
       let old = each-at (FitsRow s) noRow rows g own (omega (arith, n)) in
@@ -89,24 +92,29 @@ module _ (s : Measures) (ok : passes s ≡ true) where
       let long : directorySize s ≤ length t = omega (arith, length-append (writeDirectory s rows) rest, length-directory s rows g n) in
       let end : directoryUpdate s own t fields .table ≡ writeDirectory s (set rows own r) ++ rest =
       simp (ok, le-leb (directorySize s) (length t) long, lt-ltb own (s .m) l)
-      (ap (λ (x : Option (Read (List Row))). onTable s own t (judged 4 x) (recordVerdict s fields) .table) (format-directory s .back rows (g, n) rest)
-      ∙ ap (λ (x : Verdict (List (Option Content))). onTable s own t (sound (record { value = rows; rest = rest })) x .table)
-      (as-before s fields .conversely u e))
-      in (ap (readDirectory s) end ∙ format-directory s .back (set rows own r) (good, length-set rows own r ∙ n) rest, good)
+      (ap (λ (x : Option (Read (List Row))). onTable s own t x (recordVerdict s fields) .table) (format-directory s .back rows (g, n) rest)
+      ∙ ap (λ (x : Verdict (List (Option Content))). onTable s own t (some (record { value = rows; rest = rest })) x .table)
+      (as-before s fields .conversely u e)
+      ∙ simp (o, ou))
+      in (
+        ap (readDirectory s) end ∙ format-directory s .back (set rows own r) (good, length-set rows own r ∙ n) rest,
+        good,
+        set-own rows own r o (updated-own s own u (getD rows own noRow) gu (old .0 .0) ou (own-row rows o own (omega (arith, n)))),
+      )
 
   -- a scan that is answered shows in its room the rows that the table shows, and leaves the table
-  pub scan-shows : (rows : List Row) → Each (FitsRow s) rows → length rows ≡ s .m → (rest room : List ℕ) → directorySize s ≤ length room
+  pub scan-shows : (rows : List Row) → Each (FitsRow s) rows → length rows ≡ s .m → ownRows 0 rows ≡ true → (rest room : List ℕ) → directorySize s ≤ length room
       → (readDirectory s (directoryScan s (writeDirectory s rows ++ rest) room .room) ≡ some (record { value = rows; rest = drop (directorySize s) room }))
       × (directoryScan s (writeDirectory s rows ++ rest) room .table ≡ writeDirectory s rows ++ rest)
   unfolding directoryScan
-  scan-shows rows g n rest room h =
+  scan-shows rows g n o rest room h =
       let t = writeDirectory s rows ++ rest in
       let w : length (writeDirectory s rows) ≡ directorySize s = length-directory s rows g n in
       let long : directorySize s ≤ length t = omega (arith, length-append (writeDirectory s rows) rest) in
       let end : directoryScan s t room
       ≡ record { answer = serves (directorySize s); table = t; room = take (directorySize s) t ++ drop (directorySize s) room } =
       simp (ok, le-leb (directorySize s) (length t) long, le-leb (directorySize s) (length room) h)
-      (ap (scanned s t room) (ap (judged 4) (format-directory s .back rows (g, n) rest)))
+      (ap (λ (x : Option (Read (List Row))). scanned s t room (byOwner x)) (format-directory s .back rows (g, n) rest) ∙ simp o)
       in (
         ap (λ (x : DirectoryEnd). readDirectory s (x .room)) end
             ∙ ap (λ (b : List ℕ). readDirectory s (b ++ drop (directorySize s) room)) (take-at (writeDirectory s rows) rest (directorySize s) w)

@@ -1,6 +1,6 @@
 -- Answers of directory calls: what an update's and a scan's answer do where record and rows read, their refusals, and messages sent to nodes.
 use mathlib.Core.Path.{_≡_, refl, sym, ap, _∙_}
-use mathlib.Core.Bool.{Bool, true}
+use mathlib.Core.Bool.{Bool, true, cond}
 use mathlib.Core.List.{List, [], _∷_, _++_, map-append}
 use mathlib.Core.Option.{Option, some}
 use Prim.Native.Nat.{ℕ, _≤_, _<_}
@@ -9,7 +9,8 @@ use lib.ListN.{length}
 use Rattle.parties.specs.declared.Measures.{Measures}
 use Rattle.parties.specs.protocol.Measures.{passes}
 use Rattle.parties.specs.protocol.Directory.{writeDirectory}
-use Rattle.parties.specs.protocol.Verdict.{judged, rowsVerdict}
+use Rattle.parties.specs.protocol.Owner.{ownRows}
+use Rattle.parties.specs.protocol.Verdict.{sound, broken, byOwner, rowsVerdict}
 use Rattle.parties.specs.protocol.Message.{ToNode, writeToNode}
 use Rattle.parties.specs.protocol.Answer.{refused}
 use Rattle.parties.specs.protocol.ClientEvents.{ClientEnd, acknowledgedAt, scannedAt, after, unchanged, onClient}
@@ -64,17 +65,20 @@ module _ (z : Measures) (honest : ℕ → Bool) (passed : passes z ≡ true) (st
     update-short h = simp (passed, record-long z honest st s o passed c l, lt-leb (roomSize z) (length room) h)
 
     -- what a scan's answer does
-    pub scan-opened : (a : Rows) → GoodRows z a → roomSize z ≤ length room
+    pub scan-opened : (a : Rows) → GoodRows z a → ownRows 0 (rowsAt z a) ≡ true → roomSize z ≤ length room
         → scanAnswer z c (st .clients c) (writeDirectory z (rowsAt z a)) room
         ≡ after z (st .clients c) room [] [] (scannedAt z c (clientAt z (s .c) c) room (rowsAt z a) (phaseOf z (s .c .turn c)))
     unfolding scanAnswer
-    scan-opened a good enough =
+    scan-opened a good own enough =
         simp (passed, record-long z honest st s o passed c l, long-rows z a good, le-leb (roomSize z) (length room) enough, lt-ltb c (z .m) l)
         (ap (λ r. onClient z (st .clients c) room [] r
         (λ x. onRows (rowsVerdict z (writeDirectory z (rowsAt z a))) (λ rows. scannedAt z c x room rows (x .phase))))
         (record-reads z honest st s o passed c l)
         ∙ ap (λ r. after z (st .clients c) room [] []
-        (onRows (judged 4 r) (λ rows. scannedAt z c (clientAt z (s .c) c) room rows (phaseOf z (s .c .turn c))))) (read-rows z a good))
+        (onRows (byOwner r) (λ rows. scannedAt z c (clientAt z (s .c) c) room rows (phaseOf z (s .c .turn c))))) (read-rows z a good)
+        ∙ ap (λ (x : Bool). after z (st .clients c) room [] []
+        (onRows (cond x (sound (record { value = rowsAt z a; rest = [] })) (broken 14))
+        (λ rows. scannedAt z c (clientAt z (s .c) c) room rows (phaseOf z (s .c .turn c))))) own)
 
     pub scan-short : (a : Rows) → GoodRows z a → length room < roomSize z
         → scanAnswer z c (st .clients c) (writeDirectory z (rowsAt z a)) room ≡ unchanged (refused 2) (st .clients c) room []

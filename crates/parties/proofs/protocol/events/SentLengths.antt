@@ -24,7 +24,8 @@ use Rattle.parties.specs.protocol.Format.{Read, writeNumber, writeMany}
 use Rattle.parties.specs.protocol.Version.{nextSequence, nextIndex}
 use Rattle.parties.specs.protocol.Nodes.{count, stands, withNode}
 use Rattle.parties.specs.protocol.Pointer.{Pointer, isNone, writeVersion}
-use Rattle.parties.specs.protocol.Directory.{Content, Row, writeIndex, writeContent, writeFields, mapOf, writeRecord, writeRow, rowFields, freshRow, merge, updateRow}
+use Rattle.parties.specs.protocol.Directory.{Content, Row, readDirectory, writeIndex, writeContent, writeFields, mapOf, writeRecord, writeRow, rowFields, freshRow, merge, updateRow}
+use Rattle.parties.specs.protocol.Owner.{ownFields, ownRows}
 use Rattle.parties.specs.protocol.Verdict.{Verdict, sound, broken, recordVerdict, rowsVerdict}
 use Rattle.parties.specs.protocol.Message.{ToNode, ToClient, answer, readToClient, readToNode, writeToNode, writeToClient}
 use Rattle.parties.specs.protocol.NodeTable.{Held, readTable}
@@ -36,8 +37,9 @@ use Rattle.parties.specs.protocol.Answer.{refused, waits, update, Served
 use Rattle.parties.specs.protocol.ClientEvents.{Step, stays, does, after, onClient, unchanged, roomSize, withPhase, lay, isIdle, beginDeposit, beginReading, raise}
 use Rattle.parties.specs.protocol.ClientEvents.{acknowledgedAt, acknowledge, scannedAt, draw, freeze, storedAt, goOn, joinedAt, counted, repliedAt, messageAt, onRows, onMessage}
 use Rattle.parties.specs.protocol.ClientEvents.{startDeposit, startReading, updateAnswer, scanAnswer, clientMessage}
-use Rattle.parties.specs.protocol.DirectoryEvents.{directorySize, directoryScan, scanned as rowsIn, directoryUpdate, onTable}
+use Rattle.parties.specs.protocol.DirectoryEvents.{DirectoryEnd, directorySize, directoryScan, scanned as rowsIn, directoryUpdate, onTable}
 use Rattle.parties.specs.protocol.NodeEvents.{tableSize, answerSize, heldAfter, answerTo, kept, nodeMessage, onMessage as onNode}
+use Rattle.parties.proofs.protocol.model.Cells.{chosen}
 use Rattle.parties.proofs.protocol.formats.MeasureLaws.{Passed, passed}
 use Rattle.parties.proofs.protocol.formats.PointerLaws.{GoodPointer, length-number, length-version}
 use Rattle.parties.proofs.protocol.formats.DirectoryLaws.{length-index}
@@ -307,14 +309,15 @@ scan-bounded s table room = go (passes s) (leb (directorySize s) (length table) 
 -- an update is answered with no bytes
 pub update-bounded : (s : Measures) (c : ℕ) (table fields : List ℕ) → ServedIn 0 (directoryUpdate s c table fields .answer)
 unfolding directoryUpdate
-update-bounded s c table fields = go (passes s) (leb (directorySize s) (length table)) (ltb c (s .m)) (rowsVerdict s table) (recordVerdict s fields)
+update-bounded s c table fields = go (passes s) (leb (directorySize s) (length table)) (ltb c (s .m)) (readDirectory s table) (recordVerdict s fields)
   where
-    go : (x y z : Bool) (r : Verdict (Read (List Row))) (u : Verdict (List (Option Content)))
+    go : (x y z : Bool) (r : Option (Read (List Row))) (u : Verdict (List (Option Content)))
         → ServedIn 0 (cond x (cond y (cond z (onTable s c table r u) (record { answer = refuses 3; table = table; room = [] }))
         (record { answer = refuses 2; table = table; room = [] })) (record { answer = refuses 1; table = table; room = [] }) .answer)
-    go true true true (broken n) u = tt
-    go true true true (sound r) (broken n) = tt
-    go true true true (sound r) (sound u) = omega arith
+    go true true true nothing u = tt
+    go true true true (some r) (broken n) = tt
+    go true true true (some r) (sound u) =
+        chosen (λ (e : DirectoryEnd). ServedIn 0 (e .answer)) (ownRows 0 (r .value) && ownFields c u) _ _ (omega arith) tt
     go true true false r u = tt
     go true false z r u = tt
     go false y z r u = tt

@@ -9,13 +9,15 @@ use lib.ListN.{length}
 use Rattle.parties.specs.declared.Measures.{Measures}
 use Rattle.parties.specs.protocol.Measures.{passes}
 use Rattle.parties.specs.protocol.Format.{Read}
-use Rattle.parties.specs.protocol.Directory.{Content, Row}
+use Rattle.parties.specs.protocol.Directory.{Content, Row, readDirectory}
+use Rattle.parties.specs.protocol.Owner.{ownFields, ownRows}
 use Rattle.parties.specs.protocol.Verdict.{Verdict, sound, broken, recordVerdict, rowsVerdict}
 use Rattle.parties.specs.protocol.NodeTable.{Held, readTable}
 use Rattle.parties.specs.protocol.Message.{ToNode, readToNode, writeToClient}
 use Rattle.parties.specs.protocol.Answer.{Served, refuses, serves}
 use Rattle.parties.specs.protocol.DirectoryEvents.{DirectoryEnd, directorySize, directoryUpdate, directoryScan, onTable, scanned, directoryFresh}
 use Rattle.parties.specs.protocol.NodeEvents.{NodeEnd, tableSize, answerSize, nodeMessage, heldAfter, answerTo, kept, onMessage, nodeFresh}
+use Rattle.parties.proofs.protocol.model.Cells.{chosen}
 
 -- refused, it leaves table and room byte for byte as they came
 abbrev pub Left : Served → List ℕ → List ℕ → List ℕ → List ℕ → Type 0
@@ -64,10 +66,11 @@ module _ (s : Measures) (table : List ℕ) where
   tested-left true false d room e h = as-came (refuses 2) table room
   tested-left false b d room e h = as-came (refuses 1) table room
 
-  updated-left : (c : ℕ) (r : Verdict (Read (List Row))) (u : Verdict (List (Option Content))) → Leaving [] (onTable s c table r u)
-  updated-left c (broken n) u = as-came (refuses n) table []
-  updated-left c (sound r) (broken n) = as-came (refuses n) table []
-  updated-left c (sound r) (sound u) = served 0 table [] _ []
+  updated-left : (c : ℕ) (r : Option (Read (List Row))) (u : Verdict (List (Option Content))) → Leaving [] (onTable s c table r u)
+  updated-left c none u = as-came (refuses 4) table []
+  updated-left c (some r) (broken n) = as-came (refuses n) table []
+  updated-left c (some r) (sound u) =
+      chosen (Leaving []) (ownRows 0 (r .value) && ownFields c u) _ _ (served 0 table [] _ []) (as-came (refuses 14) table [])
 
   scanned-left : (room : List ℕ) (r : Verdict (Read (List Row))) → Leaving room (scanned s table room r)
   scanned-left room (broken n) = as-came (refuses n) table room
@@ -86,7 +89,7 @@ module _ (s : Measures) (table : List ℕ) where
         fresh = tested-left (passes s) (leb (directorySize s) (length table)) true [] _ (served 0 table [] _ []);
         update =
             tested-left (passes s) (leb (directorySize s) (length table)) (ltb own (s .m)) [] _
-            (updated-left own (rowsVerdict s table) (recordVerdict s fields));
+            (updated-left own (readDirectory s table) (recordVerdict s fields));
         scan =
             tested-left (passes s) (leb (directorySize s) (length table) && leb (directorySize s) (length room)) true room _
             (scanned-left room (rowsVerdict s table));

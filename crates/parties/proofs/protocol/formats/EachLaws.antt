@@ -49,6 +49,12 @@ each-at g d [] e i h = absurd (omega arith)
 each-at g d (a ∷ l) e zero h = e .0
 each-at g d (a ∷ l) e (suc i) h = each-at g d l (e .1) i (omega arith)
 
+-- also where there is no entry
+pub each-else : {A : Type 0} (g : A → Type 0) (d : A) (l : List A) → g d → Each g l → (i : ℕ) → g (getD l i d)
+each-else g d [] h e i = h
+each-else g d (a ∷ l) h e zero = e .0
+each-else g d (a ∷ l) h e (suc i) = each-else g d l h (e .1) i
+
 pub each-map : {A B : Type 0} (g : B → Type 0) (f : A → B) (d : A) (l : List A) → ((i : ℕ) → i < length l → g (f (getD l i d))) → Each g (map f l)
 each-map g f d l h =
     each-from g (f d) (map f l) (λ i b. subst g (sym (List·getD-map f l i d)) (h i (rw (length-map l f) at b)))

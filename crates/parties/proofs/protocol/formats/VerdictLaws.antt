@@ -9,10 +9,10 @@ use lib.ListN.{length}
 use Rattle.coding.proofs.PageLaws.{none≢some, some-eq}
 use Rattle.parties.specs.declared.Measures.{Measures}
 use Rattle.parties.specs.protocol.Format.{Read, Reader, bind, check, both, given, mapped, chain, whole, readMany, readNumber}
-use Rattle.parties.specs.protocol.Pointer.{properPointer, readAnyPointer, readPointer}
+use Rattle.parties.specs.protocol.Pointer.{Pointer, properPointer, allPointers, readAnyPointer, readPointer}
 use Rattle.parties.specs.protocol.Directory.{Field, pointers, indices, Content, pointersOf, indicesOf, fields, readIndex, readContent, readFields}
-use Rattle.parties.specs.protocol.Directory.{properMap, readRecord, pointersIn}
-use Rattle.parties.specs.protocol.Verdict.{Verdict, sound, broken, judged, properPointers, properFields, byRule, byLength, recordVerdict, AsBefore}
+use Rattle.parties.specs.protocol.Directory.{properMap, readRecord, pointersIn, allFields}
+use Rattle.parties.specs.protocol.Verdict.{Verdict, sound, broken, byRule, byLength, recordVerdict, AsBefore}
 use Rattle.parties.proofs.protocol.formats.FormatLaws.{number-one}
 use Rattle.parties.proofs.protocol.formats.DirectoryLaws.{asList}
 
@@ -99,83 +99,83 @@ whole-given {A} test r u = go (r u)
     go none = refl
     go (some x) = at (eqb (length (x .rest)) 0) x refl
 
--- ---- a record
+-- ---- fields whose pointers are tested, each by itself
 
-module _ (s : Measures) where
-  many-proper : (n : ℕ) (u : List ℕ) → readMany (readPointer s) n u ≡ given (properPointers s) (readMany readAnyPointer n) u
-  unfolding readMany readPointer properPointers
-  many-proper zero u = refl
-  many-proper (suc n) u =
-      both-ext _∷_ u (readPointer s) (readPointer s) (readMany (readPointer s) n) (given (properPointers s) (readMany readAnyPointer n)) (λ v. refl) (many-proper n)
-      ∙ both-given _∷_ u (properPointer s) (properPointers s) (properPointers s) (λ p l. refl) readAnyPointer (readMany readAnyPointer n)
+module _ (test : Pointer → Bool) (r : Reader Pointer) where
+  many-tested : (n : ℕ) (u : List ℕ) → readMany (given test r) n u ≡ given (allPointers test) (readMany r n) u
+  unfolding readMany allPointers
+  many-tested zero u = refl
+  many-tested (suc n) u =
+      both-ext _∷_ u (given test r) (given test r) (readMany (given test r) n) (given (allPointers test) (readMany r n)) (λ v. refl) (many-tested n)
+      ∙ both-given _∷_ u test (allPointers test) (allPointers test) (λ p l. refl) r (readMany r n)
 
-  abbrev properContent : Content → Bool
-  properContent c = properPointers s (pointersIn (some c))
+  abbrev pub tested : Content → Bool
+  tested c = allPointers test (pointersIn (some c))
 
-  content-proper : (f : Field) (u : List ℕ) → readContent (readPointer s) f u ≡ given properContent (readContent readAnyPointer f) u
-  unfolding readContent properPointers
-  content-proper (pointers n) u =
-      mapped-ext pointersOf u (readMany (readPointer s) n) (given (properPointers s) (readMany readAnyPointer n)) (many-proper n)
-      ∙ mapped-given pointersOf u properContent (readMany readAnyPointer n)
-  content-proper (indices n) u = go (readMany readIndex n u)
+  pub content-tested : (f : Field) (u : List ℕ) → readContent (given test r) f u ≡ given tested (readContent r f) u
+  unfolding readContent allPointers
+  content-tested (pointers n) u =
+      mapped-ext pointersOf u (readMany (given test r) n) (given (allPointers test) (readMany r n)) (many-tested n)
+      ∙ mapped-given pointersOf u tested (readMany r n)
+  content-tested (indices n) u = go (readMany readIndex n u)
     where
       go : (o : Option (Read _)) → bind o (λ l t. some (record { value = indicesOf l; rest = t }))
-          ≡ bind (bind o (λ l t. some (record { value = indicesOf l; rest = t }))) (λ c t. check (properContent c) c t)
+          ≡ bind (bind o (λ l t. some (record { value = indicesOf l; rest = t }))) (λ c t. check (tested c) c t)
       go none = refl
       go (some x) = refl
 
-  pub fields-proper : (fs : List Field) (map : ℕ) (u : List ℕ)
-      → readFields (readPointer s) fs map u ≡ given (properFields s) (readFields readAnyPointer fs map) u
-  unfolding readFields properFields properPointers
-  fields-proper [] map u = refl
-  fields-proper (f ∷ fs) map u = go (fields-proper fs (map / 2)) (eqb (map % 2) 1)
+  pub fields-tested : (fs : List Field) (map : ℕ) (u : List ℕ) → readFields (given test r) fs map u ≡ given (allFields test) (readFields r fs map) u
+  unfolding readFields allFields allPointers
+  fields-tested [] map u = refl
+  fields-tested (f ∷ fs) map u = go (fields-tested fs (map / 2)) (eqb (map % 2) 1)
     where
-      go : ((v : List ℕ) → readFields (readPointer s) fs (map / 2) v ≡ given (properFields s) (readFields readAnyPointer fs (map / 2)) v)
+      go : ((v : List ℕ) → readFields (given test r) fs (map / 2) v ≡ given (allFields test) (readFields r fs (map / 2)) v)
           → (b : Bool)
           → cond b
-          (mapped asList (both (readContent (readPointer s) f) (λ c. readFields (readPointer s) fs (map / 2)) (λ c l. (c, l))))
-          (mapped (λ l. none ∷ l) (readFields (readPointer s) fs (map / 2))) u
-          ≡ given (properFields s)
+          (mapped asList (both (readContent (given test r) f) (λ c. readFields (given test r) fs (map / 2)) (λ c l. (c, l))))
+          (mapped (λ l. none ∷ l) (readFields (given test r) fs (map / 2))) u
+          ≡ given (allFields test)
           (cond b
-          (mapped asList (both (readContent readAnyPointer f) (λ c. readFields readAnyPointer fs (map / 2)) (λ c l. (c, l))))
-          (mapped (λ l. none ∷ l) (readFields readAnyPointer fs (map / 2)))) u
+          (mapped asList (both (readContent r f) (λ c. readFields r fs (map / 2)) (λ c l. (c, l))))
+          (mapped (λ l. none ∷ l) (readFields r fs (map / 2)))) u
       go others true =
-          mapped-ext asList u (both (readContent (readPointer s) f) (λ c. readFields (readPointer s) fs (map / 2)) (λ c l. (c, l)))
-          (given (λ x. properFields s (asList x)) (both (readContent readAnyPointer f) (λ c. readFields readAnyPointer fs (map / 2)) (λ c l. (c, l))))
+          mapped-ext asList u (both (readContent (given test r) f) (λ c. readFields (given test r) fs (map / 2)) (λ c l. (c, l)))
+          (given (λ x. allFields test (asList x)) (both (readContent r f) (λ c. readFields r fs (map / 2)) (λ c l. (c, l))))
           (λ v.
-          both-ext (λ c l. (c, l)) v (readContent (readPointer s) f) (given properContent (readContent readAnyPointer f))
-          (readFields (readPointer s) fs (map / 2)) (given (properFields s) (readFields readAnyPointer fs (map / 2))) (content-proper f) others
-          ∙ both-given (λ c l. (c, l)) v properContent (properFields s) (λ x. properFields s (asList x)) (λ c l. refl) (readContent readAnyPointer f)
-          (readFields readAnyPointer fs (map / 2)))
-          ∙ mapped-given asList u (properFields s) (both (readContent readAnyPointer f) (λ c. readFields readAnyPointer fs (map / 2)) (λ c l. (c, l)))
+          both-ext (λ c l. (c, l)) v (readContent (given test r) f) (given tested (readContent r f))
+          (readFields (given test r) fs (map / 2)) (given (allFields test) (readFields r fs (map / 2))) (content-tested f) others
+          ∙ both-given (λ c l. (c, l)) v tested (allFields test) (λ x. allFields test (asList x)) (λ c l. refl) (readContent r f)
+          (readFields r fs (map / 2)))
+          ∙ mapped-given asList u (allFields test) (both (readContent r f) (λ c. readFields r fs (map / 2)) (λ c l. (c, l)))
       go others false =
-          mapped-ext (λ l. none ∷ l) u (readFields (readPointer s) fs (map / 2)) (given (properFields s) (readFields readAnyPointer fs (map / 2)))
-          others
-          ∙ mapped-given (λ l. none ∷ l) u (properFields s) (readFields readAnyPointer fs (map / 2))
+          mapped-ext (λ l. none ∷ l) u (readFields (given test r) fs (map / 2)) (given (allFields test) (readFields r fs (map / 2))) others
+          ∙ mapped-given (λ l. none ∷ l) u (allFields test) (readFields r fs (map / 2))
+
+-- document 01's fields are those by their lengths, tested by the rule
+pub fields-proper : (s : Measures) (fs : List Field) (map : ℕ) (u : List ℕ)
+    → readFields (readPointer s) fs map u ≡ given (allFields (properPointer s)) (readFields readAnyPointer fs map) u
+unfolding readPointer
+fields-proper s fs map u = fields-tested (properPointer s) readAnyPointer fs map u
 
 -- ---- its verdict
 
-abbrev shown : {A : Type 0} → Verdict A → Option A
+abbrev pub shown : {A : Type 0} → Verdict A → Option A
 shown (sound a) = some a
 shown (broken n) = none
-
-pub judged-broken : {A : Type 0} (n k : ℕ) (o : Option A) → judged n o ≡ broken k → (o ≡ none) × (n ≡ k)
-judged-broken n k none e = (refl, cc)
-judged-broken n k (some a) e = absurd (none≢some (sym (ap shown e)))
 
 shown-sound : {A : Type 0} (v : Verdict A) (a : A) → shown v ≡ some a → v ≡ sound a
 shown-sound (sound b) a e = ap sound (some-eq e)
 shown-sound (broken n) a e = absurd (none≢some e)
 
 module _ (s : Measures) where
-  shown-rule : (l : List (Option Content)) → shown (byRule s l) ≡ cond (properFields s l) (some l) none
-  shown-rule l = go (properFields s l)
+  shown-rule : (l : List (Option Content)) → shown (byRule s l) ≡ cond (allFields (properPointer s) l) (some l) none
+  shown-rule l = go (allFields (properPointer s) l)
     where
       go : (b : Bool) → shown (cond b (sound l) (broken 12)) ≡ cond b (some l) none
       go true = refl
       go false = refl
 
-  shown-length : (o : Option (List (Option Content))) → shown (byLength s o) ≡ chain o (λ l. cond (properFields s l) (some l) none)
+  shown-length : (o : Option (List (Option Content))) → shown (byLength s o) ≡ chain o (λ l. cond (allFields (properPointer s) l) (some l) none)
   shown-length none = refl
   shown-length (some l) = shown-rule l
 
@@ -200,7 +200,7 @@ module _ (s : Measures) where
           (λ x. cond (eqb (length (x .rest)) 0) (some (x .value)) none)
       go true =
           shown-length (whole (readFields readAnyPointer (fields s) b) u)
-          ∙ sym (whole-given (properFields s) (readFields readAnyPointer (fields s) b) u)
+          ∙ sym (whole-given (allFields (properPointer s)) (readFields readAnyPointer (fields s) b) u)
           ∙ ap (λ (o : Option (Read (List (Option Content)))). chain o (λ x. cond (eqb (length (x .rest)) 0) (some (x .value)) none))
           (sym (fields-proper s (fields s) b u))
           ∙ all (readFields (readPointer s) (fields s) b u)
@@ -221,7 +221,7 @@ module _ (s : Measures) where
 
       by-length : (o : Option (List (Option Content))) → Numbered (byLength s o)
       by-length none = refl
-      by-length (some l) = by-rule l (properFields s l)
+      by-length (some l) = by-rule l (allFields (properPointer s) l)
 
       by-map : (c : Bool) → Numbered (cond c (byLength s (whole (readFields readAnyPointer (fields s) b) u)) (broken 4))
       by-map true = by-length (whole (readFields readAnyPointer (fields s) b) u)

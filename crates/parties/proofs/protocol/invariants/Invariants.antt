@@ -18,7 +18,7 @@ use Rattle.parties.specs.protocol.NodeEvents.{isHeld}
 use Rattle.parties.specs.protocol.Message.{ToNode, ToClient}
 use Rattle.parties.specs.protocol.Reading.{sameVersion}
 use Rattle.parties.proofs.protocol.formats.FormatLaws.{Each}
-use Rattle.parties.proofs.protocol.model.Model.{num, ver, Turn, Clients, Nodes, Past, Model, shownReading, offer, last, pointed}
+use Rattle.parties.proofs.protocol.model.Model.{num, ver, Rows, Turn, Clients, Nodes, Past, Model, shownReading, offer, last, pointed}
 
 -- ---- pointers and versions of a client
 
@@ -48,20 +48,24 @@ pub record Forming (p : Past) (k : Clients) (w : ℕ) (x : Pointer) : Type 0 whe
   pub newer : ver (k .written w) < ver x
   pub proper : 256 ≤ ver x
 
+-- the pointers of rows: each row's are known of its client, so that none is another's
+abbrev pub KnownRows : Measures → Past → Rows → Type 0
+KnownRows z p a = (w : ℕ) → w < z .m → Known p w (a .written w) × ((q : ℕ) → Known p w (a .frozen w q))
+
 -- the facts of a turn of client w
 abbrev pub Own : Measures → Past → Clients → ℕ → Turn → Type 0
 Own z p k w Turn.idle = Unit {0}
 Own z p k w (Turn.scanning bytes) = Bytes bytes × (length bytes ≤ z .k * z .f - 4)
-Own z p k w (Turn.scanned bytes a) = Bytes bytes × (length bytes ≤ z .k * z .f - 4) × (a .written w ≡ k .written w)
+Own z p k w (Turn.scanned bytes a) = Bytes bytes × (length bytes ≤ z .k * z .f - 4) × (a .written w ≡ k .written w) × KnownRows z p a
 Own z p k w (Turn.storing v bytes a) = Storing z p k w v bytes a
 Own z p k w (Turn.updating x) = Forming p k w x
 Own z p k w (Turn.updated x) = Forming p k w x
 Own z p k w (Turn.freezing x) = Forming p k w x
-Own z p k w (Turn.noticing x a) = Forming p k w x
+Own z p k w (Turn.noticing x a) = Forming p k w x × KnownRows z p a
 Own z p k w Turn.raising = 1 ≤ k .reading w
 Own z p k w Turn.raised = 1 ≤ k .reading w
 Own z p k w Turn.picking = 1 ≤ k .reading w
-Own z p k w (Turn.picked a) = (1 ≤ k .reading w) × ((r : ℕ) → r < z .m → Known p r (offer a w (k .reading w) r))
+Own z p k w (Turn.picked a) = (1 ≤ k .reading w) × KnownRows z p a
 Own z p k w (Turn.fetching x n m ps) = (1 ≤ k .reading w) × (x .version .client < z .m) × Known p (x .version .client) x × (256 ≤ ver x)
 
 pub record Owned (z : Measures) (s : Model) : Type 0 where

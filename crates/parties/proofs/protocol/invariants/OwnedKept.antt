@@ -5,7 +5,6 @@ use mathlib.Core.List.{List}
 use Prim.Native.Nat.{ℕ, _^_, _≤_, _<_}
 use native.Mathlib.Omega.{arith}
 use borrow.Author.Tests.{eq-eqb, ne-eqb}
-use lib.Dec.{ltb}
 use lib.Pow.{pow-pos}
 use Rattle.coding.proofs.NodesLaws.{nodes-none}
 use Rattle.parties.specs.declared.Measures.{Measures}
@@ -17,12 +16,12 @@ use Rattle.parties.specs.protocol.Run.{History}
 use Rattle.parties.proofs.protocol.model.Cells.{by-eq, chosen}
 use Rattle.parties.proofs.protocol.formats.MeasureLaws.{Passed}
 use Rattle.parties.proofs.protocol.formats.NodeMapLaws.{with-below}
-use Rattle.parties.proofs.protocol.model.Model.{num, ver, Rows, Turn, Clients, Shown, Nodes, Past, Model, putBy, shownWritten, rowsOf, offer}
+use Rattle.parties.proofs.protocol.model.Model.{num, ver, Rows, Turn, Clients, Shown, Nodes, Past, Model, putBy, shownWritten, rowsOf}
 use Rattle.parties.proofs.protocol.model.Model.{turned, frozenBy, drawnBy, pointedBy, pointed, Picks, notices, Next}
-use Rattle.parties.proofs.protocol.invariants.Invariants.{Known, KnownVersion, Storing, Forming, Own, Owned, Drawing}
+use Rattle.parties.proofs.protocol.invariants.Invariants.{Known, KnownVersion, KnownRows, Storing, Forming, Own, Owned, Drawing}
 use Rattle.parties.proofs.protocol.model.VersionNumbers.{num-client}
 use Rattle.parties.proofs.protocol.model.PastLaws.{client-fits, Later, Stays, later-same, drawn-stays, drawn-later, pointed-stays}
-use Rattle.parties.proofs.protocol.model.PastLaws.{pointed-later, formed-kept, known-kept, version-kept, pointer-version, draw-fresh}
+use Rattle.parties.proofs.protocol.model.PastLaws.{pointed-later, formed-kept, known-kept, rows-kept, known-offer, version-kept, pointer-version, draw-fresh}
 use Rattle.parties.proofs.protocol.invariants.LaggingKept.{moved}
 
 -- a known pointer or version of client w, no higher than a number
@@ -62,16 +61,16 @@ module _ (z : Measures) (p q : Past) (k l : Clients) (w : ℕ) (g : Later p q) (
   own-kept : (t : Turn) → Own z p k w t → Own z q l w t
   own-kept Turn.idle o = tt
   own-kept (Turn.scanning bytes) o = o
-  own-kept (Turn.scanned bytes a) o = (o .0, o .1, o .2 ∙ sym ew)
+  own-kept (Turn.scanned bytes a) o = (o .0, o .1, o .2 ∙ sym ew, rows-kept z p q a g (o .3))
   own-kept (Turn.storing v bytes a) o = storing-kept v bytes a o
   own-kept (Turn.updating x) o = forming-kept x o
   own-kept (Turn.updated x) o = forming-kept x o
   own-kept (Turn.freezing x) o = forming-kept x o
-  own-kept (Turn.noticing x a) o = forming-kept x o
+  own-kept (Turn.noticing x a) o = (forming-kept x (o .0), rows-kept z p q a g (o .1))
   own-kept Turn.raising o = rw er o
   own-kept Turn.raised o = rw er o
   own-kept Turn.picking o = rw er o
-  own-kept (Turn.picked a) o = rw er (o .0, λ r h. known-kept p q r (offer a w (k .reading w) r) g (o .1 r h))
+  own-kept (Turn.picked a) o = (rw er (o .0), rows-kept z p q a g (o .1))
   own-kept (Turn.fetching x n m ps) o = (rw er (o .0), o .1, known-kept p q (x .version .client) x g (o .2), o .3)
 
 -- ---- one client's turn changes
@@ -127,7 +126,7 @@ put-known z p k w (Turn.storing v bytes a) o h = h
 put-known z p k w (Turn.updating x) o h = h
 put-known z p k w (Turn.updated x) o h = forming-known p k w x o
 put-known z p k w (Turn.freezing x) o h = forming-known p k w x o
-put-known z p k w (Turn.noticing x a) o h = forming-known p k w x o
+put-known z p k w (Turn.noticing x a) o h = forming-known p k w x (o .0)
 put-known z p k w Turn.raising o h = h
 put-known z p k w Turn.raised o h = h
 put-known z p k w Turn.picking o h = h
@@ -137,17 +136,16 @@ put-known z p k w (Turn.fetching x n m ps) o h = h
 pub written-known : (z : Measures) (s : Model) (w : ℕ) → w < z .m → Owned z s → Known (s .p) w (shownWritten (s .c) w)
 written-known z s w l o = put-known z (s .p) (s .c) w (s .c .turn w) (o .own w l) (o .written w l)
 
-pub offer-known : (z : Measures) (s : Model) (c r w : ℕ) → w < z .m → Owned z s → Known (s .p) w (offer (rowsOf s) c r w)
-offer-known z s c r w l o =
-    chosen (λ x. Known (s .p) w x) (ltb (s .d .indices w c) r) (shownWritten (s .c) w) (s .d .frozen w c) (written-known z s w l o) (o .shown w c l .0)
+pub rows-known : (z : Measures) (s : Model) → Owned z s → KnownRows z (s .p) (rowsOf s)
+rows-known z s o w l = (written-known z s w l o, λ c. o .shown w c l .0)
 
 -- ---- events with content
 
 -- a pick that is not none is known
 pub pick-known : (z : Measures) (p : Past) (a : Rows) (c r : ℕ) (x : Pointer)
-    → Picks z a c r x → (ver x ≡ 255 → ⊥) → ((w : ℕ) → w < z .m → Known p w (offer a c r w))
+    → Picks z a c r x → (ver x ≡ 255 → ⊥) → KnownRows z p a
     → (x .version .client < z .m) × Known p (x .version .client) x × (256 ≤ ver x)
-pick-known z p a c r x pk ne k = go (rw (pk .offered) at (k (pk .row) (pk .within)))
+pick-known z p a c r x pk ne k = go (rw (pk .offered) at (known-offer z p a k c r (pk .row) (pk .within)))
   where
     go : Known p (pk .row) x → (x .version .client < z .m) × Known p (x .version .client) x × (256 ≤ ver x)
     go (Known.absent e) = absurd (ne (ap ver e))
@@ -219,10 +217,10 @@ owned-kept z honest ok s t (Next.publish c x h q l e) o dr =
     (λ w q b. by-eq w c (λ f g. rw f (rw g (o .frozen c q l))) (λ f g. rw f (o .shown w q b))) o
 owned-kept z honest ok s t (Next.raise c h q l e) o dr = same-owned z s c _ ok l (rw e at (o .own c l)) o
 owned-kept z honest ok s t (Next.scan-first c bytes h q l e) o dr =
-    let own = rw e at (o .own c l) in same-owned z s c _ ok l (own .0, own .1, rw e) o
-owned-kept z honest ok s t (Next.scan-second c x h q l e) o dr = same-owned z s c _ ok l (rw e at (o .own c l)) o
+    let own = rw e at (o .own c l) in same-owned z s c _ ok l (own .0, own .1, rw e, rows-known z s o) o
+owned-kept z honest ok s t (Next.scan-second c x h q l e) o dr = same-owned z s c _ ok l (rw e at (o .own c l), rows-known z s o) o
 owned-kept z honest ok s t (Next.scan-reading c h q l e) o dr =
-    same-owned z s c _ ok l (rw e at (o .own c l), λ r b. offer-known z s c (s .c .reading c) r b o) o
+    same-owned z s c _ ok l (rw e at (o .own c l), rows-known z s o) o
 owned-kept z honest ok s t (Next.acknowledged c x h q l e) o dr = same-owned z s c _ ok l (rw e at (o .own c l)) o
 owned-kept z honest ok s t (Next.known c h q l e) o dr = same-owned z s c _ ok l (rw e at (o .own c l)) o
 owned-kept z honest ok s t (Next.draw c bytes a v h q l e ec es ab) o dr =
@@ -231,7 +229,7 @@ owned-kept z honest ok s t (Next.draw c bytes a v h q l e ec es ab) o dr =
     (drawn-later (s .p) (num v) bytes (s .h .latest c) (f .1)) (λ w b d u q y. drawn-stays (s .p) (num v) bytes (s .h .latest c) (f .1) u y)
     (drawn-storing z (s .p) (s .c) c v bytes (s .h .latest c) ok ec (f .0) (omega (arith, ab c l)) es) o
 owned-kept z honest ok s t (Next.spent c bytes a h q l e) o dr = same-owned z s c _ ok l tt o
-owned-kept z honest ok s t (Next.freeze c x a fl h q l e fr) o dr = freeze-owned z s c x a ok l (rw e at (o .own c l)) o
+owned-kept z honest ok s t (Next.freeze c x a fl h q l e fr) o dr = freeze-owned z s c x a ok l ((rw e at (o .own c l)) .0) o
 owned-kept z honest ok s t (Next.empty c a h q l e pk) o dr = same-owned z s c _ ok l tt o
 owned-kept z honest ok s t (Next.fetch c a x h q l e pk ne) o dr =
     let own = rw e at (o .own c l) in

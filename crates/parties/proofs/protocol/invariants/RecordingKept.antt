@@ -21,7 +21,7 @@ use Rattle.parties.proofs.protocol.model.Model.{turned, raisedBy, froze
 use Rattle.parties.proofs.protocol.invariants.Invariants.{Member, Known, Owned, Drawing}
 use Rattle.parties.proofs.protocol.invariants.Chronicle.{Current, Doing, Busy, Listed, ShownPointer, Deposited, Recording, Putting}
 use Rattle.parties.proofs.protocol.model.MemberLaws.{member-left}
-use Rattle.parties.proofs.protocol.model.PastLaws.{pointed-version, draw-fresh}
+use Rattle.parties.proofs.protocol.model.PastLaws.{pointed-version, known-offer, draw-fresh}
 use Rattle.parties.proofs.protocol.model.Growth.{Grown, grown-same, grown-drawn, grown-pointed}
 use Rattle.parties.proofs.protocol.model.HistoryLaws.{after, marks-after, markedAt, begun-last}
 use Rattle.parties.proofs.protocol.invariants.RecordingLaws.{Fair, fair-of, fair-later, doing-later, drew, recorded}
@@ -173,7 +173,7 @@ module _ (z : Measures) (s : Model) (r : Recording z s) (c : ℕ) (l : c < z .m)
       let o : Operation = s .h .operation (s .h .latest c) in
       let u : Turn = Turn.fetching x 0 0 (replicate (z .n) []) in
       let b = rw e at (r .doing c l) in
-      let known : Known (s .p) (pk .row) x = rw (pk .offered) at ((rw e at (ow .own c l)) .1 (pk .row) (pk .within)) in
+      let known : Known (s .p) (pk .row) x = rw (pk .offered) at (known-offer z (s .p) a ((rw e at (ow .own c l)) .1) c (s .c .reading c) (pk .row) (pk .within)) in
       let m : Marking o (choosing x o) = record { client = refl; page = refl; version = unborne o (some (x .version)) (b .1 .version) } in
       marked z s r c (choosing x o) l (b .0) m u (turned (s .c) c u) (λ j. refl) (s .d) n (s .p) h q (grown-same (s .p) (s .p .shown)) (λ i. tt)
       (marked-current (s .h) c (choosing x o) (b .0) (h .replied) m (b .0 .unended) (b .0 .given), picked-pointing (s .h) c x (b .1) (h .replied))

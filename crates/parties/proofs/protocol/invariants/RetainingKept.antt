@@ -11,6 +11,7 @@ use Rattle.parties.specs.declared.Measures.{Measures}
 use Rattle.parties.specs.declared.Version.{Version}
 use Rattle.parties.specs.protocol.Pointer.{Pointer}
 use Rattle.parties.proofs.protocol.model.Cells.{by-eq}
+use Rattle.parties.proofs.protocol.model.PastLaws.{known-offer}
 use Rattle.parties.proofs.protocol.formats.MeasureLaws.{Passed}
 use Rattle.parties.proofs.protocol.model.Model.{ver, Turn, Rows, Clients, Past, Model, Next, Picks, putBy, shownWritten}
 use Rattle.parties.proofs.protocol.model.Model.{raisedTo, shownReading, offer, rowsOf, notices, turned, frozenBy}
@@ -143,7 +144,7 @@ picked-row p w x n (Known.formed d q e l) = e
 picked-safe : (z : Measures) (s : Model) (c : ℕ) (a : Rows) (x : Pointer) → Picks z a c (s .c .reading c) x → (ver x ≡ 255 → ⊥)
     → Own z (s .p) (s .c) c (Turn.picked a) → Retained z (s .c) c (Turn.picked a) → Safe (s .c) (x .version .client) c (s .c .reading c) (x .version)
 picked-safe z s c a x k n w o =
-    let row = picked-row (s .p) (k .row) x n (rw (k .offered) at (w .1 (k .row) (k .within))) in
+    let row = picked-row (s .p) (k .row) x n (rw (k .offered) at (known-offer z (s .p) a (w .1) c (s .c .reading c) (k .row) (k .within))) in
     subst (λ j. Safe (s .c) j c (s .c .reading c) (x .version)) (sym row) (rw (k .offered) at (o (k .row) (k .within)))
 
 fetching-retaining : (z : Measures) (k : Clients) (c : ℕ) (x : Pointer) (n m : ℕ) (ps : List (List ℕ)) → ((v : Version) → PutIn (k .turn c) v → ⊥)

@@ -30,7 +30,7 @@ use Rattle.parties.proofs.protocol.formats.NodeMapLaws.{stands-none}
 use Rattle.parties.proofs.protocol.model.Model.{num, ver, Rows, Turn, Clients, Shown, Past, Model, Next, Frees, Replaced, Retains}
 use Rattle.parties.proofs.protocol.model.Model.{with-toClient, turned, frozenBy, sent, served, Picks, notices}
 use Rattle.parties.proofs.protocol.invariants.Invariants.{Known, KnownVersion, Owned, Drawing, Depositing, Keeps, Plays, Stocked, Sound, Stocking, effect, holding}
-use Rattle.parties.proofs.protocol.model.PastLaws.{Later, later-same, drawn-later, pointed-later, draw-fresh}
+use Rattle.parties.proofs.protocol.model.PastLaws.{Later, known-offer, later-same, drawn-later, pointed-later, draw-fresh}
 use Rattle.parties.proofs.protocol.model.PlaysLaws.{holding-kept, holding-released, effect-other, Alike, keeps-as, plays-ext, plays-alike, plays-append, plays-bounded}
 use Rattle.parties.proofs.protocol.invariants.LaggingKept.{moved}
 
@@ -246,7 +246,7 @@ module _ (z : Measures) (pa : Passed z) (s : Model) (o : Owned z s) (c : ℕ) (l
 
     -- the new version is not freed
     new-left : (u : Version) → x .version ≡ u → listed u fl ≡ false
-    new-left u h = is-false (listed u fl) (λ t. omega (arith, replaced-below u (fr .replaced u t), (rw e at (o .own c l)) .newer, ap num h))
+    new-left u h = is-false (listed u fl) (λ t. omega (arith, replaced-below u (fr .replaced u t), (rw e at (o .own c l)) .0 .newer, ap num h))
 
     -- what the client keeps then it kept before, and does not free
     freeze-old : (u : Version) → Keeps z after c u → Keeps z (s .c) c u × (listed u fl ≡ false)
@@ -301,7 +301,7 @@ module _ (z : Measures) (pa : Passed z) (s : Model) (o : Owned z s) (c : ℕ) (l
 
   module _ (a : Rows) (x : Pointer) (e : s .c .turn c ≡ Turn.picked a) (pk : Picks z a c (s .c .reading c) x) (ne : ver x ≡ 255 → ⊥) where
     fetch-sound : (i : ℕ) (b : Bool) → stands (x .named .nodes) i ≡ b → Each (Sound z (s .p) c i) (cond b (ToNode.request (x .version) ∷ []) [])
-    fetch-sound i true h = (asked (rw (pk .offered) at ((rw e at (o .own c l)) .1 (pk .row) (pk .within))), tt)
+    fetch-sound i true h = (asked (rw (pk .offered) at (known-offer z (s .p) a ((rw e at (o .own c l)) .1) c (s .c .reading c) (pk .row) (pk .within))), tt)
       where
         asked : Known (s .p) (pk .row) x → Sound z (s .p) c i (ToNode.request (x .version))
         asked (Known.absent q) = absurd (ne (ap ver q))

@@ -6,15 +6,15 @@ use mathlib.Core.List.{List}
 use Prim.Native.Nat.{ℕ, _%_, _≤_, _<_}
 use native.Mathlib.Omega.{arith}
 use borrow.Author.Tests.{ne-eqb}
-use lib.Dec.{eqb}
+use lib.Dec.{ltb, eqb}
 use Rattle.parties.specs.declared.Measures.{Measures}
 use Rattle.parties.specs.declared.Version.{Version}
 use Rattle.parties.specs.protocol.Pointer.{Pointer, nonePointer}
 use Rattle.parties.specs.protocol.Deposit.{pointerOf}
-use Rattle.parties.proofs.protocol.model.Cells.{by-eq, is-false}
+use Rattle.parties.proofs.protocol.model.Cells.{by-eq, is-false, chosen}
 use Rattle.parties.proofs.protocol.formats.MeasureLaws.{Passed}
-use Rattle.parties.proofs.protocol.model.Model.{num, ver, Rows, Turn, Past, Model, drawnBy, pointedBy, pointed, Above, last}
-use Rattle.parties.proofs.protocol.invariants.Invariants.{Known, KnownVersion, Owned, Drawing}
+use Rattle.parties.proofs.protocol.model.Model.{num, ver, Rows, Turn, Past, Model, offer, drawnBy, pointedBy, pointed, Above, last}
+use Rattle.parties.proofs.protocol.invariants.Invariants.{Known, KnownVersion, KnownRows, Owned, Drawing}
 use Rattle.parties.proofs.protocol.model.VersionNumbers.{num-client}
 
 -- a client's number fits a byte
@@ -82,6 +82,13 @@ formed-kept p q x g d e h = go (g .pointers (ver x) d)
 pub known-kept : (p q : Past) (w : ℕ) (x : Pointer) → Later p q → Known p w x → Known q w x
 known-kept p q w x g (Known.absent e) = Known.absent e
 known-kept p q w x g (Known.formed d e c h) = Known.formed (g .drawn (ver x) d) (formed-kept p q x g d e h) c h
+
+pub rows-kept : (z : Measures) (p q : Past) (a : Rows) → Later p q → KnownRows z p a → KnownRows z q a
+rows-kept z p q a g h w l = (known-kept p q w (a .written w) g (h w l .0), λ c. known-kept p q w (a .frozen w c) g (h w l .1 c))
+
+-- what known rows offer a reader
+pub known-offer : (z : Measures) (p : Past) (a : Rows) → KnownRows z p a → (c r w : ℕ) → w < z .m → Known p w (offer a c r w)
+known-offer z p a h c r w l = chosen (Known p w) (ltb (a .indices w c) r) (a .written w) (a .frozen w c) (h w l .0) (h w l .1 c)
 
 pub version-kept : (p q : Past) (w : ℕ) (v : Version) → Later p q → KnownVersion p w v → KnownVersion q w v
 version-kept p q w v g (KnownVersion.absent e) = KnownVersion.absent e

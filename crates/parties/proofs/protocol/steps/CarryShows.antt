@@ -16,9 +16,10 @@ use Rattle.parties.specs.declared.Measures.{Measures}
 use Rattle.parties.specs.declared.ReadingIndex.{ReadingIndex}
 use Rattle.parties.specs.protocol.Format.{whole}
 use Rattle.parties.specs.protocol.Measures.{passes}
-use Rattle.parties.specs.protocol.Pointer.{Pointer}
-use Rattle.parties.specs.protocol.Directory.{Content, Row, noRow, readRecord, writeRecord, readDirectory, writeDirectory, updateRow, merge, mapOf}
-use Rattle.parties.specs.protocol.Verdict.{sound, judged, recordVerdict}
+use Rattle.parties.specs.protocol.Pointer.{Pointer, allPointers}
+use Rattle.parties.specs.protocol.Directory.{Content, Row, noRow, readRecord, writeRecord, readDirectory, writeDirectory, updateRow, merge, mapOf, allFields}
+use Rattle.parties.specs.protocol.Owner.{ownPointer, ownFields, ownRows}
+use Rattle.parties.specs.protocol.Verdict.{byOwner, recordVerdict}
 use Rattle.parties.specs.protocol.Client.{Phase, Client, writeClient}
 use Rattle.parties.specs.protocol.Deposit.{depositFields}
 use Rattle.parties.specs.protocol.Reading.{readingFields}
@@ -28,16 +29,20 @@ use Rattle.parties.specs.protocol.DirectoryEvents.{DirectoryEnd, directo
 use Rattle.parties.specs.protocol.Run.{History, Call, scanCall, updateCall, Return, updated, rows, State, byServer, upd}
 use Rattle.parties.specs.protocol.Run.{tick, putBy as putsOf, putIn, stays, carries, carry, carryOut}
 use Rattle.parties.proofs.protocol.model.Cells.{by-eq}
+use Rattle.parties.proofs.protocol.formats.EachLaws.{each-tabulate}
 use Rattle.parties.proofs.protocol.formats.PointerLaws.{GoodPointer}
 use Rattle.parties.proofs.protocol.formats.DirectoryLaws.{GoodIndex, GoodRecord, format-record}
 use Rattle.parties.proofs.protocol.formats.VerdictLaws.{as-before}
 use Rattle.parties.proofs.protocol.formats.RowLaws.{GoodRow, update-good}
+use Rattle.parties.proofs.protocol.formats.OwnerLaws.{pointers-pass}
 use Rattle.parties.proofs.protocol.formats.MessageLaws.{message-whole}
 use Rattle.parties.proofs.protocol.formats.ClientLaws.{GoodClient}
 use Rattle.parties.proofs.protocol.model.Model.{Rows, Turn, Shown, Model, Next, Marks, Quiet, rowsOf, turned, published, putBy, raisedTo}
+use Rattle.parties.proofs.protocol.invariants.Invariants.{Own}
+use Rattle.parties.proofs.protocol.invariants.OwnedKept.{forming-known, rows-known}
 use Rattle.parties.proofs.protocol.invariants.Invariant.{Invariant}
 use Rattle.parties.proofs.protocol.steps.View.{Shows, Follows, ClientShows, DirectoryShows, GoodRows, GoodTurn, phaseOf, clientAt, rowAt, rowsAt, callsOf, returnsOf}
-use Rattle.parties.proofs.protocol.steps.ViewLaws.{sane-quiet, others-turned, rows-turned, read-rows, length-rows}
+use Rattle.parties.proofs.protocol.steps.ViewLaws.{sane-quiet, others-turned, rows-turned, read-rows, length-rows, own-pointer, rows-own}
 use Rattle.parties.proofs.protocol.steps.ViewLaws.{ordinary, silent-follows, refused-follows, quiet-shown}
 
 -- ---- an update of a row
@@ -92,10 +97,15 @@ pub good-reading : (z : Measures) (i : ReadingIndex) → GoodIndex i → GoodRec
 unfolding mapOf
 good-reading z i g = ((omega arith, refl), (refl, (refl, (refl, (refl, (((g, tt), refl), tt))))))
 
-module _ (z : Measures) (honest : ℕ → Bool) (passed : passes z ≡ true) (st : State) (s : Model) (o : Shows z honest st s) (c : ℕ) where
+module _ (z : Measures) (honest : ℕ → Bool) (passed : passes z ≡ true) (st : State) (s : Model) (o : Shows z honest st s) (inv : Invariant z honest s)
+    (c : ℕ) where
   -- the directory's table reads
   table-read : readDirectory z (st .directory) ≡ some (record { value = rowsAt z (rowsOf s); rest = [] })
   table-read = ap (readDirectory z) (o .directory .bytes) ∙ read-rows z (rowsOf s) (o .directory .good)
+
+  -- and its pointers are their owners'
+  table-own : ownRows 0 (rowsAt z (rowsOf s)) ≡ true
+  table-own = rows-own z (s .p) (rowsOf s) (rows-known z s (inv .owned))
 
   table-long : length (st .directory) ≡ directorySize z
   table-long = ap length (o .directory .bytes) ∙ length-rows z (rowsOf s) (o .directory .good)
@@ -179,7 +189,9 @@ module _ (z : Measures) (honest : ℕ → Bool) (passed : passes z ≡ true) (st
 
     scan-long : directorySize z ≤ length room → directoryScan z (st .directory) room ≡ answered
     unfolding directoryScan answered
-    scan-long h = simp (passed, long, le-leb (directorySize z) (length room) h) (ap (scanned z (st .directory) room) (ap (judged 4) table-read))
+    scan-long h =
+        simp (passed, long, le-leb (directorySize z) (length room) h)
+        (ap (λ r. scanned z (st .directory) room (byOwner r)) table-read ∙ simp table-own)
 
     scan-short : length room < directorySize z
         → directoryScan z (st .directory) room ≡ record { answer = refuses 2; table = st .directory; room = room }
@@ -220,7 +232,7 @@ module _ (z : Measures) (honest : ℕ → Bool) (passed : passes z ≡ true) (st
 
   -- ---- updates
 
-  module _ (u : List (Option Content)) (g : GoodRecord z u) where
+  module _ (u : List (Option Content)) (g : GoodRecord z u) (own : ownFields c u ≡ true) where
     -- what an update answers where its record reads
     put : DirectoryEnd
     put =
@@ -234,9 +246,10 @@ module _ (z : Measures) (honest : ℕ → Bool) (passed : passes z ≡ true) (st
     unfolding directoryUpdate put
     update-opened l =
         simp (passed, long, lt-ltb c (z .m) l)
-        (ap (λ r. onTable z c (st .directory) (judged 4 r) (recordVerdict z (writeRecord u))) table-read
-        ∙ ap (onTable z c (st .directory) (sound (record { value = rowsAt z (rowsOf s); rest = [] })))
-        (as-before z (writeRecord u) .conversely u (read-record z u g)))
+        (ap (λ r. onTable z c (st .directory) r (recordVerdict z (writeRecord u))) table-read
+        ∙ ap (onTable z c (st .directory) (some (record { value = rowsAt z (rowsOf s); rest = [] })))
+        (as-before z (writeRecord u) .conversely u (read-record z u g))
+        ∙ simp (table-own, own))
 
     module _ (l : c < z .m) (t : Turn) (d : Shown) where
       update-follows : (room : List ℕ) → st .calls c ≡ updateCall (writeRecord u) ∷ []
@@ -295,6 +308,21 @@ module _ (z : Measures) (honest : ℕ → Bool) (passed : passes z ≡ true) (st
         put = ap (λ (r : Option (List (Option Content))). st .history .puts ++ putsOf r (st .history .latest c)) (read-record z u g);
       })
 
+  -- the pointers that a client sends are its own
+  deposit-owns : (x : Pointer) (l : c < z .m) → s .c .turn c ≡ Turn.updating x → ownFields c (depositFields (clientAt z (s .c) c) x) ≡ true
+  unfolding allFields allPointers
+  deposit-owns x l e =
+      let k = forming-known (s .p) (s .c) c x (subst (Own z (s .p) (s .c) c) e (inv .owned .own c l)) in
+      simp (
+        own-pointer (s .p) c x k,
+        pointers-pass (ownPointer c) (tabulate (z .m) (s .c .frozen c))
+            (each-tabulate (λ y. ownPointer c y ≡ true) (z .m) (s .c .frozen c) (λ q b. own-pointer (s .p) c (s .c .frozen c q) (inv .owned .frozen c q l .0))),
+      )
+
+  reading-owns : (i : ReadingIndex) → ownFields c (readingFields i) ≡ true
+  unfolding allFields allPointers
+  reading-owns i = refl
+
   deposit-updates : (x : Pointer) (l : c < z .m) (room : List ℕ) → s .c .turn c ≡ Turn.updating x
       → Follows z honest s (carry c room) (carries z c room (st .calls c) st)
   unfolding after
@@ -303,7 +331,7 @@ module _ (z : Measures) (honest : ℕ → Bool) (passed : passes z ≡ true) (st
       let u = depositFields (clientAt z (s .c) c) x in
       let g : GoodRecord z u = good-deposit z (clientAt z (s .c) c) x (w .good) ((rw e at (w .good .phase)) .0) in
       let h = putIn z c (writeRecord u) (st .history) in
-      update-follows u g l (Turn.updated x) (published s c) room (queue l e)
+      update-follows u g (deposit-owns x l e) l (Turn.updated x) (published s c) room (queue l e)
       (Next.publish c x h (put-marks u g) l e) (deposit-own x l h e) (deposit-others x l h) (rw e refl) tt (λ k. refl) (rw e refl) refl
 
   reading-updates : (l : c < z .m) (room : List ℕ) → s .c .turn c ≡ Turn.raising → Follows z honest s (carry c room) (carries z c room (st .calls c) st)
@@ -313,7 +341,7 @@ module _ (z : Measures) (honest : ℕ → Bool) (passed : passes z ≡ true) (st
       let u = readingFields (record { 0 = s .c .reading c }) in
       let g : GoodRecord z u = good-reading z (record { 0 = s .c .reading c }) (w .good .index) in
       let h = putIn z c (writeRecord u) (st .history) in
-      update-follows u g l Turn.raised (s .d) room (queue l e)
+      update-follows u g (reading-owns (record { 0 = s .c .reading c })) l Turn.raised (s .d) room (queue l e)
       (Next.raise c h (subst (Marks (s .h) h (s .h .operation)) (append-nil (s .h .puts)) (put-marks u g)) l e)
       (reading-own l h e) (reading-others l h) (rw e refl) tt (λ k. refl) (rw e refl) refl
 
@@ -388,5 +416,5 @@ unfolding carryOut
 carry-follows z honest passed st s o inv c room b = go (decLt c (z .m))
   where
     go : Dec (c < z .m) → Follows z honest s (carry c room) (carries z c room (st .calls c) st)
-    go (yes l) = by-turn z honest passed st s o c room l (s .c .turn c) refl
-    go (no l) = stranger z honest passed st s o c room (omega arith) (st .calls c) refl
+    go (yes l) = by-turn z honest passed st s o inv c room l (s .c .turn c) refl
+    go (no l) = stranger z honest passed st s o inv c room (omega arith) (st .calls c) refl

@@ -659,6 +659,7 @@ module _ (z : Measures) (honest : ℕ → Bool) (passed : passes z ≡ true) (fe
           form = λ e. tt;
           lengths = four-alone 11 (omega arith);
           rules = four-alone 12 (omega arith);
+          owners = four-alone 14 (omega arith);
         })
     lied-follows h f g (some m) reads differ =
         comes-follows z honest passed few st s o inv (lie i c bytes room out) i c bytes room out m (s .n .toClient) (st .toClient) reads (Comes.lied h)

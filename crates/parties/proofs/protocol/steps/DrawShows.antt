@@ -15,6 +15,7 @@ use Rattle.parties.specs.declared.Version.{Version}
 use Rattle.parties.specs.protocol.Measures.{passes}
 use Rattle.parties.specs.protocol.Pointer.{Pointer}
 use Rattle.parties.specs.protocol.Directory.{writeDirectory}
+use Rattle.parties.specs.protocol.Owner.{ownRows}
 use Rattle.parties.specs.protocol.Message.{ToNode}
 use Rattle.parties.specs.protocol.Client.{Phase, writeClient}
 use Rattle.parties.specs.protocol.Deposit.{highest, digestsOf}
@@ -25,10 +26,10 @@ use Rattle.parties.proofs.protocol.formats.MeasureLaws.{passed as measu
 use Rattle.parties.proofs.protocol.formats.MessageLaws.{GoodNamedVersion}
 use Rattle.parties.proofs.protocol.formats.ClientLaws.{GoodPhase}
 use Rattle.parties.proofs.protocol.model.Model.{Rows, Turn, Model, Past, Nodes, Next, Quiet, turned, sent, drawnBy, num, putBy, raisedTo}
-use Rattle.parties.proofs.protocol.invariants.Invariants.{Own}
+use Rattle.parties.proofs.protocol.invariants.Invariants.{Own, KnownRows}
 use Rattle.parties.proofs.protocol.invariants.Invariant.{Invariant}
 use Rattle.parties.proofs.protocol.steps.View.{Shows, Follows, GoodRows, GoodTurn, phaseOf, clientAt, rowsAt, callsOf, returnsOf}
-use Rattle.parties.proofs.protocol.steps.ViewLaws.{sane-number, sane-quiet, goes-shows, unsent, own-turned, rows-turned, quiet-mark}
+use Rattle.parties.proofs.protocol.steps.ViewLaws.{sane-number, sane-quiet, rows-own, goes-shows, unsent, own-turned, rows-turned, quiet-mark}
 use Rattle.parties.proofs.protocol.steps.GoodLaws.{piece-stored}
 use Rattle.parties.proofs.protocol.events.DepositLaws.{highest-rows, stores-sent, storing-good}
 use Rattle.parties.proofs.protocol.events.HandLaws.{sent-shows, others-answered, update-opened, update-refused, scan-opened, scan-refused}
@@ -103,11 +104,14 @@ module _ (z : Measures) (honest : ℕ → Bool) (passed : passes z ≡ true) (st
 module _ (z : Measures) (honest : ℕ → Bool) (passed : passes z ≡ true) (st : State) (s : Model) (o : Shows z honest st s) (inv : Invariant z honest s)
     (c : ℕ) (bytes : List ℕ) (a : Rows) (l : c < z .m) (e : s .c .turn c ≡ Turn.scanned bytes a) (room : List ℕ) where
   -- the page of the turn
-  page : Bytes bytes × (length bytes ≤ z .k * z .f - 4) × (a .written c ≡ s .c .written c)
+  page : Bytes bytes × (length bytes ≤ z .k * z .f - 4) × (a .written c ≡ s .c .written c) × KnownRows z (s .p) a
   page = subst (Own z (s .p) (s .c) c) e (inv .owned .own c l)
 
   good-rows : GoodRows z a
   good-rows = subst (GoodTurn z) e (o .client c l .turn)
+
+  own-rows : ownRows 0 (rowsAt z a) ≡ true
+  own-rows = rows-own z (s .p) a (page .3)
 
   -- the sequence is spent: the deposit ends
   spentEnd : ClientEnd
@@ -188,8 +192,8 @@ module _ (z : Measures) (honest : ℕ → Bool) (passed : passes z ≡ true) (st
       → Follows z honest s (hand c room) (returned z c [] (scanAnswer z c (st .clients c) (writeDirectory z (rowsAt z a)) room) st)
   unfolding drawnEnd spentEnd version
   known enough true f =
-      rw (scan-opened z honest passed st s o c l room a good-rows enough) (rw (e, f) (draws (ltb-true (highest (rowsAt z a) .0) 4294967295 f) enough))
-  known enough false f = rw (scan-opened z honest passed st s o c l room a good-rows enough) (rw (e, f) spends)
+      rw (scan-opened z honest passed st s o c l room a good-rows own-rows enough) (rw (e, f) (draws (ltb-true (highest (rowsAt z a) .0) 4294967295 f) enough))
+  known enough false f = rw (scan-opened z honest passed st s o c l room a good-rows own-rows enough) (rw (e, f) spends)
 
   pub drawn-follows : Bytes room
       → Follows z honest s (hand c room) (returned z c [] (scanAnswer z c (st .clients c) (writeDirectory z (rowsAt z a)) room) st)

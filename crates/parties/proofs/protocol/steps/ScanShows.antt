@@ -36,11 +36,11 @@ use Rattle.parties.proofs.protocol.formats.MessageLaws.{GoodNamedVersio
 use Rattle.parties.proofs.protocol.formats.ClientLaws.{GoodPhase, GoodReserved, GoodClient, client-back}
 use Rattle.parties.proofs.protocol.model.Model.{num, ver, Rows, Turn, Clients, Nodes, Past, Model, Next, Marked, Replaced, Frees, Picks, rowsOf}
 use Rattle.parties.proofs.protocol.model.Model.{shownWritten, shownReading, offer, notices, turned, frozenBy, sent, choosing}
-use Rattle.parties.proofs.protocol.invariants.Invariants.{Known, KnownVersion, Own, Drawing}
-use Rattle.parties.proofs.protocol.model.PastLaws.{pointer-version}
+use Rattle.parties.proofs.protocol.invariants.Invariants.{Known, KnownVersion, KnownRows, Own, Drawing}
+use Rattle.parties.proofs.protocol.model.PastLaws.{pointer-version, known-offer}
 use Rattle.parties.proofs.protocol.invariants.Invariant.{Invariant}
 use Rattle.parties.proofs.protocol.steps.View.{Shows, Follows, ClientShows, ToNodeShows, GoodTurn, GoodRows, phaseOf, clientAt, rowsAt, callsOf}
-use Rattle.parties.proofs.protocol.steps.ViewLaws.{sane-quiet, own-turned, others-frozen, rows-turned, goes-shows, unsent}
+use Rattle.parties.proofs.protocol.steps.ViewLaws.{sane-quiet, rows-own, own-turned, others-frozen, rows-turned, goes-shows, unsent}
 use Rattle.parties.proofs.protocol.steps.GoodLaws.{ver-some, known-good, asking-good}
 use Rattle.parties.proofs.protocol.events.FreeLaws.{each-listed, free-ascending, frozen-after, frees}
 use Rattle.parties.proofs.protocol.events.PickLaws.{Told, picks}
@@ -124,7 +124,7 @@ module _ (z : Measures) (honest : ℕ → Bool) (passed : passes z ≡ true) (st
   opened : roomSize z ≤ length room → scanAnswer z c (st .clients c) (writeDirectory z (rowsAt z a)) room ≡ done
   unfolding ended list
   opened enough =
-      scan-opened z honest passed st s o c l room a good-rows enough
+      scan-opened z honest passed st s o c l room a good-rows (rows-own z (s .p) a (subst (Own z (s .p) (s .c) c) e (inv .owned .own c l) .1)) enough
       ∙ ap (λ p. after z (st .clients c) room [] [] (scannedAt z c own room (rowsAt z a) p)) (ap (phaseOf z) e)
       ∙ ap ended (frozen-after z (s .c) a c x)
 
@@ -235,8 +235,11 @@ module _ (z : Measures) (honest : ℕ → Bool) (passed : passes z ≡ true) (st
   chosenPointer : Pointer
   chosenPointer = pick c (record { 0 = s .c .reading c }) (rowsAt z a)
 
+  known-rows : KnownRows z (s .p) a
+  known-rows = subst (Own z (s .p) (s .c) c) e (inv .owned .own c l) .1
+
   offers : (w : ℕ) → w < z .m → Known (s .p) w (offer a c (s .c .reading c) w)
-  offers = subst (Own z (s .p) (s .c) c) e (inv .owned .own c l) .1
+  offers = known-offer z (s .p) a known-rows c (s .c .reading c)
 
   picks-it : Picks z a c (s .c .reading c) chosenPointer
   unfolding chosenPointer
@@ -254,7 +257,7 @@ module _ (z : Measures) (honest : ℕ → Bool) (passed : passes z ≡ true) (st
       → scanAnswer z c (st .clients c) (writeDirectory z (rowsAt z a)) room ≡ after z (st .clients c) room [] [] (fetch z reader room chosenPointer)
   unfolding chosenPointer
   picked-opened enough =
-      scan-opened z honest passed st s o c l room a shown-rows enough
+      scan-opened z honest passed st s o c l room a shown-rows (rows-own z (s .p) a known-rows) enough
       ∙ ap (λ p. after z (st .clients c) room [] [] (scannedAt z c reader room (rowsAt z a) p)) (ap (phaseOf z) e)
 
   -- nothing is found: the reading ends

@@ -1,19 +1,21 @@
 -- How the bytes of a run show a model: records and rows read back, and what all events have in common.
 use mathlib.Core.Path.{_≡_, refl, sym, ap, subst, _∙_}
 use mathlib.Core.Bool.{Bool, true, false, cond, not, _&&_, _||_, true≢false}
-use mathlib.Core.List.{List, [], _++_, append-nil}
+use mathlib.Core.List.{List, [], _∷_, _++_, append-nil}
 use mathlib.Core.Option.{Option, some, none}
 use Prim.Native.Nat.{ℕ, _+_, _≤_, _<_}
 use native.Mathlib.Omega.{arith}
 use borrow.Author.Tests.{eq-eqb, ne-eqb, le-leb}
 use lib.Dec.{leb, eqb}
 use lib.ListN.{length}
-use Rattle.coding.proofs.BytesLaws.{length-tabulate}
+use Rattle.coding.specs.Bytes.{tabulate}
+use Rattle.coding.proofs.BytesLaws.{length-tabulate, getD-tabulate}
 use Rattle.coding.proofs.PageLaws.{none≢some, some-eq}
 use Rattle.parties.specs.declared.Measures.{Measures}
 use Rattle.parties.specs.protocol.Measures.{passes, rowSize}
-use Rattle.parties.specs.protocol.Pointer.{Pointer}
-use Rattle.parties.specs.protocol.Directory.{writeRow, readDirectory, writeDirectory}
+use Rattle.parties.specs.protocol.Pointer.{Pointer, isNone, allPointers}
+use Rattle.parties.specs.protocol.Directory.{noRow, writeRow, readDirectory, writeDirectory}
+use Rattle.parties.specs.protocol.Owner.{ownPointer, ownRow, ownRows}
 use Rattle.parties.specs.protocol.Client.{Client, readClient, writeClient, clientSize}
 use Rattle.parties.specs.protocol.Answer.{refused}
 use Rattle.parties.specs.protocol.Message.{ToNode}
@@ -25,9 +27,11 @@ use Rattle.parties.proofs.protocol.model.Cells.{by-eq, upd-same}
 use Rattle.parties.proofs.protocol.formats.FormatLaws.{Each}
 use Rattle.parties.proofs.protocol.formats.EachLaws.{each-tabulate}
 use Rattle.parties.proofs.protocol.formats.RowLaws.{FitsRow, format-directory, length-directory, row-fits}
+use Rattle.parties.proofs.protocol.formats.OwnerLaws.{pointers-pass, own-rows}
 use Rattle.parties.proofs.protocol.formats.ClientLaws.{GoodPhase, GoodClient, client-back, length-client}
 use Rattle.parties.proofs.protocol.model.Model.{Rows, Turn, Clients, Nodes, Past, Model, Next, Quiet, rowsOf, turned, raisedBy}
 use Rattle.parties.proofs.protocol.model.Model.{frozenBy, putBy, raisedTo, shownWritten, shownReading}
+use Rattle.parties.proofs.protocol.invariants.Invariants.{Known, KnownRows}
 use Rattle.parties.proofs.protocol.steps.View.{Shows, Follows, ClientShows, ToNodeShows, ToClientShows, GoodRows, GoodTurn}
 use Rattle.parties.proofs.protocol.steps.View.{phaseOf, clientAt, rowAt, rowsAt, callsOf, returnsOf}
 
@@ -58,11 +62,33 @@ module _ (z : Measures) (a : Rows) (good : GoodRows z a) where
   pub long-rows : leb (directorySize z) (length (writeDirectory z (rowsAt z a))) ≡ true
   long-rows = le-leb (directorySize z) (length (writeDirectory z (rowsAt z a))) (omega (arith, length-rows))
 
+-- ---- and their pointers are their owners'
+
+pub own-pointer : (p : Past) (w : ℕ) (x : Pointer) → Known p w x → ownPointer w x ≡ true
+own-pointer p w x (Known.absent e) = ap (ownPointer w) e
+own-pointer p w x (Known.formed d e c h) = go (isNone x) (eqb (x .version .client) w) (eq-eqb (x .version .client) w c)
+  where
+    go : (a b : Bool) → b ≡ true → (a || b) ≡ true
+    go true b q = refl
+    go false b q = q
+
+pub rows-own : (z : Measures) (p : Past) (a : Rows) → KnownRows z p a → ownRows 0 (rowsAt z a) ≡ true
+unfolding allPointers
+rows-own z p a h =
+    own-rows (rowsAt z a) (λ w b.
+    let l : w < z .m = rw (length-tabulate (z .m) (rowAt z a)) at b in
+    let k = h w l in
+    ap (ownRow w) (getD-tabulate (z .m) (rowAt z a) w noRow l)
+    ∙ pointers-pass (ownPointer w) (a .written w ∷ tabulate (z .m) (a .frozen w)) (
+      own-pointer p w (a .written w) (k .0),
+      each-tabulate (λ x. ownPointer w x ≡ true) (z .m) (a .frozen w) (λ q i. own-pointer p w (a .frozen w q) (k .1 q)),
+    ))
+
 -- ---- an event that changes nothing
 
--- numbers that may come: 8, 9, 11 and 12 never do, and 4 is for bytes of a dishonest node
+-- numbers that may come: 8, 9, 11, 12 and 14 never do, and 4 is for bytes of a dishonest node
 abbrev pub ordinary : ℕ → Bool
-ordinary n = not (eqb n 4 || (eqb n 8 || (eqb n 9 || (eqb n 11 || eqb n 12))))
+ordinary n = not (eqb n 4 || (eqb n 8 || (eqb n 9 || (eqb n 11 || (eqb n 12 || eqb n 14)))))
 
 pub sane-number : (e : Event) (a : Answered) (n : ℕ) → numberOf a ≡ some n → ordinary n ≡ true → Sane e a
 sane-number e a n q p =
@@ -72,6 +98,7 @@ sane-number e a n q p =
       form = λ h. absurd (other h refl);
       lengths = λ h. other h refl;
       rules = λ h. other h refl;
+      owners = λ h. other h refl;
     }
   where
     other : {k : ℕ} → numberOf a ≡ some k → ordinary k ≡ false → ⊥
@@ -85,6 +112,7 @@ sane-quiet e a q =
       form = λ h. absurd (none≢some (sym q ∙ h));
       lengths = λ h. none≢some (sym q ∙ h);
       rules = λ h. none≢some (sym q ∙ h);
+      owners = λ h. none≢some (sym q ∙ h);
     }
 
 pub quiet-tick : (h : History) → Quiet h (tick h)

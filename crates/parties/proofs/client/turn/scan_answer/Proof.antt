@@ -2,24 +2,23 @@ use borrow.Author.Needs.{needs}
 use mathlib.Core.Path.{_≡_, sym, ap, _∙_}
 use mathlib.Core.Bool.{true, _&&_}
 use mathlib.Core.List.{[]}
-use mathlib.Core.Option.{some}
 use Prim.Native.Nat.{_*_, _≤_}
 use native.Mathlib.Omega.{arith}
 use borrow.Author.Tests.{leb-true, ltb-true}
 use lib.Dec.{leb, ltb}
-use lib.ListN.{length, drop}
+use lib.ListN.{length}
 use Rattle.coding.proofs.Cases.{and-true}
 use Rattle.parties.specs.protocol.Measures.{passes, rowSize}
 use Rattle.parties.specs.protocol.Answer.{refused}
-use Rattle.parties.specs.protocol.Directory.{readDirectory}
 use Rattle.parties.specs.protocol.Verdict.{rowsVerdict}
 use Rattle.parties.specs.protocol.Client.{readClient}
 use Rattle.parties.specs.protocol.ClientEvents.{unchanged, onRows, scannedAt, roomSize}
 use Rattle.parties.specs.records.Answer.{number}
-use Rattle.parties.specs.records.Form.{rest}
+use Rattle.parties.specs.declared.records.form.Verdict.{Verdict}
+use Rattle.parties.specs.records.Form.{Judged}
 use Rattle.parties.specs.declared.Phase.{Phase}
 use Rattle.parties.specs.client.Record.{recordOf, areaSize, isSome}
-use Rattle.parties.proofs.records.RecordLaws.{tabled-sound, tabled-broken}
+use Rattle.parties.proofs.records.RecordLaws.{judged-sound, judged-broken}
 use Rattle.parties.proofs.client.GateLaws.{gated-open, gated-shut, Opened}
 use Rattle.parties.proofs.client.StartLaws.{ends-three}
 use Rattle.parties.proofs.client.ScanLaws.{scan-shut, scan-broken, rows-read, scan-goes}
@@ -97,16 +96,16 @@ returns-2 c =
     let d = c .before .before .before .before .directory in
     let n = c .before .before .r .given .0 .0 in
     rw (c .refuse2 .ensures) (ends-three _ _ (scan-broken (a .s) (a .own) (a .p) (a .area .now) (a .rows .now) (a .room .now) (opened x) (enters x .2) (enters x .1) (number n)
-    (tabled-broken (a .s) (a .rows .now) (d .result) (d .ensures) n (c .before .before .r .given .1))))
+    (judged-broken (a .s) (a .rows .now) (d .result) (d .ensures) n (c .before .before .r .given .1))))
 
 enum-told-2 : tie.Need-enum-told-2
 enum-told-2 c = search needs
 
--- the rows keep their form
-sound : (c : tie.After-enum-told2) → let a = c .before .before .before .before .before .before .before .before .before .before .before .before .before .args in rest (readDirectory (a .s) (a .rows .now)) ≡ some (drop (a .s .m * rowSize (a .s)) (a .rows .now))
+-- the rows keep their form, and their pointers are their owners'
+sound : (c : tie.After-enum-told2) → let a = c .before .before .before .before .before .before .before .before .before .before .before .before .before .args in Judged (a .s) (a .rows .now) Verdict.Sound
 sound c =
     let a = c .before .before .before .before .before .before .before .before .before .before .before .before .before .args in
-    let d = c .before .before .directory in tabled-sound (a .s) (a .rows .now) (d .result) (d .ensures) (c .enum-told2 .given .1)
+    let d = c .before .before .directory in judged-sound (a .s) (a .rows .now) (d .result) (d .ensures) (c .enum-told2 .given .1)
 
 after-scan-requires : tie.Need-after-scan-requires
 after-scan-requires c κs =
@@ -117,7 +116,7 @@ after-scan-requires c κs =
       ltb-true (a .own) (a .s .m) (e .2),
       e .3,
       long x .0,
-      rows-read (a .s) (a .own) (a .p) (a .area .now) (a .rows .now) (a .room .now) (opened x) (e .2) (e .1) _ (sound (c .before .before)),
+      rows-read (a .s) (a .own) (a .p) (a .area .now) (a .rows .now) (a .room .now) (opened x) (e .2) (e .1) _ (sound (c .before .before) .0),
       long x .1,
     )
 
@@ -135,7 +134,7 @@ returns-3 c =
     let y = c .before .before .before .before .before .before .before .before in
     let x = y .before .before .before .before in
     let a = x .before .before .before .before .before .before .before .before .before .args in
-    let r = ends-three _ _ (scan-goes (a .s) (a .own) (a .p) (a .area .now) (a .rows .now) (a .room .now) (opened x) (enters x .2) (enters x .1) _ (sound y)
+    let r = ends-three _ _ (scan-goes (a .s) (a .own) (a .p) (a .area .now) (a .rows .now) (a .room .now) (opened x) (enters x .2) (enters x .1) _ (sound y .0) (sound y .1)
     ∙ sym (c .before .before .before .before .before .after-scan .ensures)) in
     (r .0, ap (λ (h : Phase). recordOf h (c .before .before .before .before .before .after-scan .last .1 .1 .1 .0)) (c .phase-after .ensures) ∙ r .1, r .2)
 

@@ -19,7 +19,7 @@ returns : tie.Need-returns
 returns c =
     let a = c .before .before .args in
     record {
-      told = sym (pointer-short (a .s) (a .ruled) (drop (a .at) (a .t .now)) (omega (arith, length-drop (a .at) (a .t .now))));
+      told = sym (pointer-short (a .s) (a .rule) (drop (a .at) (a .t .now)) (omega (arith, length-drop (a .at) (a .t .now))));
       within = tt;
     }
 
@@ -55,7 +55,7 @@ returns-2 c =
     let p = c .before .allowed in
     let r = c .before .before .before .before .before .if1 .left in
     record {
-      told = sym (pointer-improper (a .s) (a .ruled) (a .t .now) (a .at) (v .result) (m .result) r (version-read (a .t .now) (a .at) (v .result) (v .ensures) (omega arith)) (m .ensures)
+      told = sym (pointer-improper (a .s) (a .rule) (a .t .now) (a .at) (v .result) (m .result) r (version-read (a .t .now) (a .at) (v .result) (v .ensures) (omega arith)) (m .ensures)
           (sym (p .ensures) ∙ not-true (p .result) (c .if2 .taken)));
       within = tt;
     }
@@ -69,7 +69,7 @@ returns-3 c =
     let r = c .before .before .before .before .before .before .if1 .left in
     let e : c .before .before .before .count .result ≡ count (m .result) = c .before .before .before .count .ensures in
     record {
-      told = sym (pointer-long (a .s) (a .ruled) (a .t .now) (a .at) (v .result) (m .result) r (version-read (a .t .now) (a .at) (v .result) (v .ensures) (omega arith)) (m .ensures)
+      told = sym (pointer-long (a .s) (a .rule) (a .t .now) (a .at) (v .result) (m .result) r (version-read (a .t .now) (a .at) (v .result) (v .ensures) (omega arith)) (m .ensures)
           (sym (p .ensures) ∙ not-false (p .result) (c .before .if2 .left)) (omega arith));
       within = tt;
     }
@@ -87,7 +87,7 @@ returns-4 c =
     let e : c .before .before .before .count .result ≡ count (m .result) = c .before .before .before .count .ensures in
     record {
       told = ap (λ (k : ℕ). some (drop (a .at + (7 + 32 * k)) (a .t .now))) e
-          ∙ sym (pointer-sound (a .s) (a .ruled) (a .t .now) (a .at) (v .result) (m .result) r (version-read (a .t .now) (a .at) (v .result) (v .ensures) (omega arith)) (m .ensures)
+          ∙ sym (pointer-sound (a .s) (a .rule) (a .t .now) (a .at) (v .result) (m .result) r (version-read (a .t .now) (a .at) (v .result) (v .ensures) (omega arith)) (m .ensures)
           (sym (p .ensures) ∙ not-false (p .result) (c .before .if2 .left)) (omega arith));
       within = (omega arith, omega arith);
     }

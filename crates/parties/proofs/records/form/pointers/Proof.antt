@@ -10,16 +10,16 @@ use Rattle.parties.proofs.records.form.pointers.Statement.{statement}
 use Rattle.parties.proofs.records.form.pointers.Tie as tie
 
 abbrev Inv-loop : tie.InvT-loop
-Inv-loop s ruled n t at p₀ i₀ p i = (i ≤ n) × (at ≤ p) × (p ≤ length t) × (rest (readMany (pointerBy s ruled) n (drop at t)) ≡ rest (readMany (pointerBy s ruled) (n - i) (drop p t)))
+Inv-loop s rule n t at p₀ i₀ p i = (i ≤ n) × (at ≤ p) × (p ≤ length t) × (rest (readMany (pointerBy s rule) n (drop at t)) ≡ rest (readMany (pointerBy s rule) (n - i) (drop p t)))
 
 abbrev μ-loop : tie.MeasureT-loop
-μ-loop s ruled n t at p₀ i₀ p i = n - i
+μ-loop s rule n t at p₀ i₀ p i = n - i
 
 loop-holds : tie.Need-loop-holds Inv-loop μ-loop
 loop-holds c =
     let a = c .before .args in
     let e : a .n - 0 ≡ a .n = omega arith in
-    (omega arith, omega arith, omega arith, ap (λ (k : ℕ). rest (readMany (pointerBy (a .s) (a .ruled)) k (drop (a .at) (a .t .now)))) (sym e))
+    (omega arith, omega arith, omega arith, ap (λ (k : ℕ). rest (readMany (pointerBy (a .s) (a .rule)) k (drop (a .at) (a .t .now)))) (sym e))
 
 pointer-requires : tie.Need-pointer-requires Inv-loop μ-loop
 pointer-requires c κs = (c .before .before .before .pre .0, omega arith)
@@ -37,8 +37,8 @@ returns c =
     let p = c .before .before .pointer in
     record {
       told = sym (l .inv .3
-          ∙ many-broken (pointerBy (a .s) (a .ruled)) (a .n) (l .i) (drop (l .p) (a .t .now)) (c .before .before .before .loop-test .taken)
-          (formed-broken (a .t .now) (l .p) (rest (pointerBy (a .s) (a .ruled) (drop (l .p) (a .t .now)))) (p .result) (p .ensures) (c .enum-told .given .1)));
+          ∙ many-broken (pointerBy (a .s) (a .rule)) (a .n) (l .i) (drop (l .p) (a .t .now)) (c .before .before .before .loop-test .taken)
+          (formed-broken (a .t .now) (l .p) (rest (pointerBy (a .s) (a .rule) (drop (l .p) (a .t .now)))) (p .result) (p .ensures) (c .enum-told .given .1)));
       within = tt;
     }
 
@@ -54,11 +54,11 @@ loop-again c =
     let l = c .before .before .before .before .before .loop in
     let p = c .before .before .before .pointer in
     let next = c .before .next .given .0 .0 in
-    let g = formed-sound (a .t .now) (l .p) next (rest (pointerBy (a .s) (a .ruled) (drop (l .p) (a .t .now)))) (p .result) (p .ensures) (c .before .next .given .1) in (
+    let g = formed-sound (a .t .now) (l .p) next (rest (pointerBy (a .s) (a .rule) (drop (l .p) (a .t .now)))) (p .result) (p .ensures) (c .before .next .given .1) in (
       omega arith,
       omega arith,
       omega arith,
-      l .inv .3 ∙ many-turn (pointerBy (a .s) (a .ruled)) (a .n) (l .i) (drop (l .p) (a .t .now)) (c .before .before .before .before .loop-test .taken) (drop next (a .t .now)) (g .left),
+      l .inv .3 ∙ many-turn (pointerBy (a .s) (a .rule)) (a .n) (l .i) (drop (l .p) (a .t .now)) (c .before .before .before .before .loop-test .taken) (drop next (a .t .now)) (g .left),
     )
 
 returns-2 : tie.Need-returns-2 Inv-loop μ-loop
@@ -66,7 +66,7 @@ returns-2 c =
     let a = c .before .before .before .args in
     let l = c .before .loop in
     record {
-      told = sym (l .inv .3 ∙ many-end (pointerBy (a .s) (a .ruled)) (a .n) (l .i) (drop (l .p) (a .t .now)) (c .loop-test .left));
+      told = sym (l .inv .3 ∙ many-end (pointerBy (a .s) (a .rule)) (a .n) (l .i) (drop (l .p) (a .t .now)) (c .loop-test .left));
       within = (l .inv .1, l .inv .2);
     }
 

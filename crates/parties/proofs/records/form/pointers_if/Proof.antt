@@ -16,7 +16,7 @@ returns c =
     let a = c .before .before .args in
     let u = drop (a .at) (a .t .now) in
     record {
-      told = sym (ap (λ (b : Bool). cond b (rest (readContent (pointerBy (a .s) (a .ruled)) (Field.pointers (a .n)) u)) (some u)) (not-true (a .stands) (c .if1 .taken)));
+      told = sym (ap (λ (b : Bool). cond b (rest (readContent (pointerBy (a .s) (a .rule)) (Field.pointers (a .n)) u)) (some u)) (not-true (a .stands) (c .if1 .taken)));
       within = (omega arith, c .before .before .pre .1);
     }
 
@@ -29,7 +29,7 @@ returns-2 c =
     let u = drop (a .at) (a .t .now) in
     let f = c .pointers .ensures in
     record {
-      told = f .told ∙ sym (ap (λ (b : Bool). cond b (rest (readContent (pointerBy (a .s) (a .ruled)) (Field.pointers (a .n)) u)) (some u)) (not-false (a .stands) (c .before .if1 .left)) ∙ rest-pointers (pointerBy (a .s) (a .ruled)) (a .n) u);
+      told = f .told ∙ sym (ap (λ (b : Bool). cond b (rest (readContent (pointerBy (a .s) (a .rule)) (Field.pointers (a .n)) u)) (some u)) (not-false (a .stands) (c .before .if1 .left)) ∙ rest-pointers (pointerBy (a .s) (a .rule)) (a .n) u);
       within = f .within;
     }
 

@@ -1,6 +1,6 @@
 use borrow.Author.Needs.{needs}
 use mathlib.Core.Path.{_≡_, sym, ap, _∙_}
-use mathlib.Core.Bool.{Bool, true, cond}
+use mathlib.Core.Bool.{Bool, cond}
 use mathlib.Core.Option.{some, none}
 use Prim.Native.Nat.{ℕ, _+_, _-_}
 use native.Mathlib.Omega.{arith}
@@ -11,10 +11,10 @@ use Rattle.coding.specs.Nodes.{all}
 use Rattle.parties.specs.protocol.Measures.{rowSize}
 use Rattle.parties.specs.protocol.Pointer.{readPointer}
 use Rattle.parties.specs.protocol.Directory.{readRow}
-use Rattle.parties.specs.protocol.Verdict.{judged}
-use Rattle.parties.specs.records.Form.{rest, Ended}
+use Rattle.parties.specs.declared.records.form.OwnParts.{OwnParts}
+use Rattle.parties.specs.records.Form.{rest, Ended, OwnParted}
 use Rattle.parties.proofs.records.FormLaws.{none-read}
-use Rattle.parties.proofs.records.RecordLaws.{row-other, row-broken, row-ends, row-left, parted-sound, parted-broken}
+use Rattle.parties.proofs.records.RecordLaws.{row-other, row-broken, row-ends, row-left, row-holds, own-parted-sound, own-parted-broken}
 use Rattle.parties.proofs.records.form.row.Statement.{statement}
 use Rattle.parties.proofs.records.form.row.Tie as tie
 
@@ -24,15 +24,14 @@ shared-slice-read-if1 c = search needs
 returns : tie.Need-returns
 returns c =
     let a = c .before .before .before .args in
-    ap (judged 4)
-    (none-read (readRow (a .s) (drop (a .at) (a .t .now)))
-    (row-other (a .s) (a .t .now) (λ i. c .before .before .shared-slice-known .given i .fits) (a .at) (c .before .before .before .pre .2) (c .if1 .taken)))
+    none-read (readRow (a .s) (drop (a .at) (a .t .now)))
+    (row-other (a .s) (a .t .now) (λ i. c .before .before .shared-slice-known .given i .fits) (a .at) (c .before .before .before .pre .2) (c .if1 .taken))
 
-add-field-ends : tie.Need-add-field-ends
-add-field-ends c = search needs
+add-own-fields : tie.Need-add-own-fields
+add-own-fields c = search needs
 
-field-ends-requires : tie.Need-field-ends-requires
-field-ends-requires c κs = search needs
+own-fields-requires : tie.Need-own-fields-requires
+own-fields-requires c κs = search needs
 
 enum-known-e : tie.Need-enum-known-e
 enum-known-e c = search needs
@@ -43,17 +42,20 @@ enum-told c = search needs
 returns-2 : tie.Need-returns-2
 returns-2 c =
     let a = c .before .before .before .before .before .before .args in
-    ap (judged 4)
-    (none-read (readRow (a .s) (drop (a .at) (a .t .now)))
+    none-read (readRow (a .s) (drop (a .at) (a .t .now)))
     (row-broken (a .s) (a .t .now) (λ i. c .before .before .before .before .before .shared-slice-known .given i .fits) (a .at) (c .before .before .before .before .before .before .pre .2) (c .before .before .before .if1 .left)
-    (parted-broken (a .s) true (a .t .now) (a .at + 1) 15 (c .before .before .field-ends .result) (c .before .before .field-ends .ensures) (c .enum-told .given .1))))
+    (own-parted-broken (a .s) (a .own) (a .t .now) (a .at + 1) 15 (c .before .before .own-fields .result) (c .before .before .own-fields .ensures) (c .enum-told .given .1)))
 
 add-zero-run : tie.Need-add-zero-run
 add-zero-run c = search needs
 
+owned : (c : tie.After-known-told) → let a = c .before .before .before .before .before .before .before .args in OwnParted (a .s) (a .own) (a .t .now) (a .at + 1) 15 (OwnParts.Sound (c .before .e .given .0 .0) (c .before .e .given .0 .1 .0))
+owned c =
+    let a = c .before .before .before .before .before .before .before .args in
+    let f = c .before .before .before .own-fields in own-parted-sound (a .s) (a .own) (a .t .now) (a .at + 1) 15 (f .result) (f .ensures) (c .before .e .given .0 .0) (c .before .e .given .0 .1 .0) (c .before .e .given .1)
+
 ended : (c : tie.After-known-told) → let a = c .before .before .before .before .before .before .before .args in Ended (a .s) (readPointer (a .s)) (a .t .now) (a .at + 1) 15 (c .before .e .given .0 .0)
-ended c =
-    let a = c .before .before .before .before .before .before .before .args in parted-sound (a .s) true (a .t .now) (a .at + 1) 15 (c .before .before .before .field-ends .result) (c .before .before .before .field-ends .ensures) (c .before .e .given .0 .0) (c .before .e .given .1)
+ended c = owned c .0
 
 zero-run-requires : tie.Need-zero-run-requires
 zero-run-requires c κs =
@@ -76,14 +78,17 @@ left c =
 returns-3 : tie.Need-returns-3
 returns-3 c =
     let a = c .before .before .before .before .before .before .before .before .before .args in
-    ap (judged 4)
-    (none-read (readRow (a .s) (drop (a .at) (a .t .now)))
-    (left (c .before) ∙ ap (λ (x : Bool). cond x (some (drop (a .at + rowSize (a .s)) (a .t .now))) none) (not-true (c .before .zero-run .result) (c .if2 .taken))))
+    none-read (readRow (a .s) (drop (a .at) (a .t .now)))
+    (left (c .before) ∙ ap (λ (x : Bool). cond x (some (drop (a .at + rowSize (a .s)) (a .t .now))) none) (not-true (c .before .zero-run .result) (c .if2 .taken)))
 
 returns-4 : tie.Need-returns-4
 returns-4 c =
     let a = c .before .before .before .before .before .before .before .before .before .args in
-    left (c .before) ∙ ap (λ (x : Bool). cond x (some (drop (a .at + rowSize (a .s)) (a .t .now))) none) (not-false (c .before .zero-run .result) (c .if2 .left))
+    let r = left (c .before) ∙ ap (λ (x : Bool). cond x (some (drop (a .at + rowSize (a .s)) (a .t .now))) none) (not-false (c .before .zero-run .result) (c .if2 .left)) in (
+      r,
+      owned (c .before .before) .1
+          ∙ row-holds (a .s) (a .own) (a .t .now) (a .at) _ (λ i. c .before .before .before .before .before .before .before .before .shared-slice-known .given i .fits) r,
+    )
 
 pub row-spec : {M : Type 1} → statement M
 row-spec =
@@ -91,8 +96,8 @@ row-spec =
     (tie.spec
     shared-slice-read-if1
     returns
-    add-field-ends
-    field-ends-requires
+    add-own-fields
+    own-fields-requires
     enum-known-e
     enum-told
     returns-2
