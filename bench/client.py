@@ -1,5 +1,5 @@
 #!/usr/bin/env python3
-"""An independent account of document 01's client, and the vectors that the proved one is held to.
+"""An independent account of the client of documents 01 and 02 (k), and the vectors that the proved one is held to.
 
     client.py FOLDER    writes FOLDER/stdin (calls, in binary) and FOLDER/stdout (what each must print)
 
@@ -19,8 +19,8 @@ import struct
 import sys
 
 import reference
-from reference import NONE, Broken, Input, Measures, Refused, read_pointer, read_rows, read_version, some_pointer, spoiled, \
-    write_fields, write_pointer, write_row
+from reference import NONE, Broken, Input, Measures, Refused, all_belong, others, owned, read_pointer, read_rows, read_version, some_pointer, \
+    spoiled, write_fields, write_pointer, write_row
 
 checksum, poison = functools.lru_cache(9999)(reference.checksum), functools.lru_cache(None)(reference.poison)
 SLOT = 71680
@@ -333,6 +333,8 @@ def scan_answer(s, own, node, record, data, room, out):
         rows = read_rows(s, data)
     except Broken:
         raise Refused(4)
+    if not all_belong(rows):
+        raise Refused(14)
     steps = {SCANNING: draw, FREEZING: freeze, PICKING: pick}
     if c.step not in steps:
         raise Refused(5)
@@ -760,7 +762,7 @@ def reading_at(v, s, c, pointer):
     v.add(READING, s, c, keep=True)
     v.add(UPDATED, s, c, keep=True)
     rows = [reference.fresh_row(s) for _ in range(s.m)]
-    rows[-1][0] = [pointer]
+    rows[pointer[1]][0] = [pointer]
     assert v.add(SCANNED, s, c, rows_of(s, rows), keep=True).startswith('requests')
 
 
@@ -856,18 +858,23 @@ def not_joined(v, r, s):
             v.add(MESSAGE, s, 0, replied(version, good[rest[-1]]), rest[-1])
 
 
+def some_pointers(s, r, own):
+    """The two fields of a sound row."""
+    return [[owned(some_pointer(s, r), own) for _ in range(many)] for many in (1, s.m)]
+
+
 def ties(v, r, s):
-    """Equal highest versions in two rows; frozen and written ones, by the index."""
+    """Equal highest sequences in two rows; frozen and written ones, by the index."""
     for turn in range(12 if s.n < 16 else 4):
-        rows = [[[some_pointer(s, r)], [some_pointer(s, r) for _ in range(s.m)], [r.choice([0, 1, 2, LAST]) for _ in range(s.m)], [r.randrange(3)]]
-                for _ in range(s.m)]
+        rows = [[*some_pointers(s, r, own), [r.choice([0, 1, 2, LAST]) for _ in range(s.m)], [r.randrange(3)]] for own in range(s.m)]
         if turn % 2:
             version = (r.choice([2, LAST]), r.randrange(s.m))
-            for row in rows:
+            for own, row in enumerate(rows):
                 for field in row[:2]:
                     for i, p in enumerate(field):
                         if p != NONE and r.random() < 0.8:
-                            field[i] = (*version, *p[2:])
+                            # where the version is equal too, it is one row's and another client's in the others
+                            field[i] = (*version, *p[2:]) if turn % 4 == 1 else (version[0], own, *p[2:])
         if turn % 6 == 0:
             for row in rows:
                 row[0] = [NONE]
@@ -892,8 +899,8 @@ def last_numbers(v, r, s):
         for row in range(s.m):
             for field in (0, 1):
                 rows = [reference.fresh_row(s) for _ in range(s.m)]
-                rows[0][0] = [(3, *some_pointer(s, r, 0)[1:])]
-                rows[row][field] = [(sequence, *some_pointer(s, r, 0)[1:])] * len(rows[row][field])
+                rows[0][0] = [(3, 0, *some_pointer(s, r, 0)[2:])]
+                rows[row][field] = [(sequence, row, *some_pointer(s, r, 0)[2:])] * len(rows[row][field])
                 client = some_client(s, r, IDLE)
                 v.put(s, 0, write_client(s, client))
                 v.add(DEPOSIT, s, 0, some_page(s, r), keep=True)
@@ -971,7 +978,7 @@ def edges_of_form(v, r, s):
 
 def some_rows(s, r, c):
     """Rows of any kind, with reading indices about those that a client keeps."""
-    return [[[some_pointer(s, r)], [some_pointer(s, r) for _ in range(s.m)], [r.choice([0, 1, LAST]) for _ in range(s.m)],
+    return [[*some_pointers(s, r, p), [r.choice([0, 1, LAST]) for _ in range(s.m)],
              [r.choice([0, 1, LAST, min(LAST, c.indices[p] + r.randrange(2))])]] for p in range(s.m)]
 
 
@@ -1068,6 +1075,146 @@ def lives(v, r, s, turns):
         w.all_of_reading(turn % s.m)
 
 
+# Rows with a pointer of another client
+
+
+def with_pointer(rows, p, at, new):
+    """Another pointer in row p, where place 0 is the written one's."""
+    rows = [[list(field) for field in row] for row in rows]
+    rows[p][min(at, 1)][max(at - 1, 0)] = new
+    return rows
+
+
+def places(s):
+    """Of all pointers in rows."""
+    return [(p, at) for p in range(s.m) for at in range(s.m + 1)]
+
+
+def another(s, r, p):
+    """A pointer that is not row p's."""
+    return owned(some_pointer(s, r, 0), r.choice(others(s, p)))
+
+
+def handed(v, s, own, rows, answer, **more):
+    """Rows are handed over, and this comes of it."""
+    what = v.add(SCANNED, s, own, rows_of(s, rows), **more)
+    assert what.startswith(answer)
+    return what
+
+
+def at_each_step(v, r, s, owners, those, steps=range(8)):
+    """14 for each pointer at these places, whether rows are awaited or not; the sound rows are then taken where they are."""
+    for step in steps:
+        for own in owners:
+            c = some_client(s, r, step)
+            rows = some_rows(s, r, c)
+            v.put(s, own, write_client(s, c))
+            for p, at in those:
+                handed(v, s, own, with_pointer(rows, p, at, another(s, r, p)), 'refused 14', keep=True)
+            assert (handed(v, s, own, rows, '', keep=True) == 'refused 5') == (expected(step) != SCANNED)
+
+
+def of_no_client(v, r, s):
+    """One client has no other: what is not its own breaks the rule."""
+    for step in range(8):
+        c = some_client(s, r, step)
+        rows = some_rows(s, r, c)
+        v.put(s, 0, write_client(s, c))
+        for p, at in places(s):
+            handed(v, s, 0, with_pointer(rows, p, at, owned(some_pointer(s, r, 0), s.m)), 'refused 4', keep=True)
+        handed(v, s, 0, rows, '', keep=True)
+
+
+def before_owners(v, r, s, step):
+    """Beside the pointer of another client one breaks its rule, before it or after; then a row's map is wrong, or what comes before rows."""
+    own, c = r.randrange(s.m), some_client(s, r, step)
+    rows, order = some_rows(s, r, c), places(s)
+    v.put(s, own, write_client(s, c))
+    for i, (p, at) in enumerate(order):
+        foreign = with_pointer(rows, p, at, another(s, r, p))
+        for side in (order[:i], order[i + 1:]):
+            if side:
+                (q, other), good = r.choice(side), some_pointer(s, r, 0)
+                wrong = r.choice([(0, q, *good[2:]), (5, s.m, *good[2:]), (0, 255, *good[2:]), (5, q, 0, []), (5, 255, 0, [])])
+                handed(v, s, own, with_pointer(foreign, q, other, wrong), 'refused 4')
+    data = rows_of(s, foreign)
+    for row in range(s.m):
+        assert v.add(SCANNED, s, own, spoiled(data, (row * s.row(), 16))) == 'refused 4'
+    handed(v, s, own, foreign, 'refused 4', damage=(0, 8))
+    handed(v, s, s.m, foreign, 'refused 3', record=own)
+    for short in ((1, 0, 0), (0, 1, 0)):
+        handed(v, s, own, foreign, 'refused 2', short=short)
+    assert v.add(SCANNED, s, own, data[:-1]) == 'refused 2'
+    assert v.add(SCANNED, Measures(s.m, s.n, s.k, s.n, s.f), own, data) == 'refused 1'
+    handed(v, s, own, foreign, 'refused 14')
+
+
+def spent_by_others(v, r, s):
+    """The last sequence is in use, and a pointer is another client's, that one or another: 14. With the owners' pointers it is 7."""
+    fresh_rows = [reference.fresh_row(s) for _ in range(s.m)]
+    for p in range(s.m):
+        v.put(s, p, write_client(s, some_client(s, r, IDLE)))
+        v.add(DEPOSIT, s, p, some_page(s, r), keep=True)
+        last = (LAST, p, *some_pointer(s, r, 0)[2:])
+        rows = with_pointer(fresh_rows, p, 0, last)
+        for c in others(s, p):
+            handed(v, s, p, with_pointer(fresh_rows, p, 0, owned(last, c)), 'refused 14', keep=True)
+            handed(v, s, p, with_pointer(fresh_rows, p, s.m, owned(last, c)), 'refused 14', keep=True)
+            handed(v, s, p, with_pointer(rows, c, r.randrange(s.m + 1), last), 'refused 14', keep=True)
+        handed(v, s, p, rows, 'spent', keep=True)
+        v.add(DEPOSIT, s, p)
+
+
+def picked_of_others(v, r, s, own):
+    """The highest version is in another client's row, as written pointer or frozen, where it would be picked and where not."""
+    for p in range(s.m):
+        for index, at in ((0, 0), (1, 1 + own)):
+            rows = [[[(2, q, *some_pointer(s, r, 0)[2:])], [(1, q, *some_pointer(s, r, 0)[2:]) for _ in range(s.m)], [index] * s.m, [0]]
+                    for q in range(s.m)]
+            client, high = fresh(s), (9, p, *some_pointer(s, r, 0)[2:])
+            client.step, client.reading = PICKING, 1
+            v.put(s, own, write_client(s, client))
+            for c in others(s, p):
+                handed(v, s, own, with_pointer(rows, p, at, owned(high, c)), 'refused 14', keep=True)
+                handed(v, s, own, with_pointer(rows, p, 0 if at else 1 + own, owned(high, c)), 'refused 14', keep=True)
+            handed(v, s, own, with_pointer(rows, p, at, high), 'requests 9.%d ' % p, keep=True)
+
+
+class Mistaken(Stand):
+    """Each answer of a scan comes with a pointer of another client first."""
+
+    def answer(self, c):
+        if self.calls[c] is None:
+            rows, (p, at) = read_rows(self.s, self.directory), self.r.choice(places(self.s))
+            handed(self.v, self.s, c, with_pointer(rows, p, at, another(self.s, self.r, p)), 'refused 14', keep=True)
+        return super().answer(c)
+
+
+def owner_vectors(v, r):
+    """14, document 02 (k): rows with a pointer of another client."""
+    of_no_client(v, r, Measures(1, 1, 1, 0, 4))
+    two, three, eight = Measures(2, 1, 1, 0, 4), Measures(3, 1, 1, 0, 4), Measures(8, 2, 1, 0, 4)
+    at_each_step(v, r, two, range(2), places(two))
+    at_each_step(v, r, three, [1], places(three))
+    at_each_step(v, r, eight, [6], [(0, 0), (7, 8)], (IDLE, SCANNING, FREEZING, PICKING))
+    for step in range(8):
+        before_owners(v, r, two, step)
+    for step in (FREEZING, PICKING):
+        before_owners(v, r, three, step)
+    for s in (two, three):
+        spent_by_others(v, r, s)
+        picked_of_others(v, r, s, s.m - 1)
+    w = Mistaken(v, r, Measures(2, 4, 2, 1, 8))
+    for c in (0, 1, 0):
+        assert w.all_of_deposit(c, some_page(w.s, r)).startswith('deposited')
+        assert w.all_of_reading(1).startswith('requests')
+    # the largest rows
+    w = Mistaken(v, r, Measures(8, 16, 8, 4, 4096))
+    w.reading(5)
+    w.answer(5)
+    assert w.answer(5) == 'empty'
+
+
 SMALL = [Measures(3, 4, 2, 1, 8), Measures(1, 1, 1, 0, 4), Measures(2, 16, 16, 0, 1), Measures(2, 5, 1, 2, 20)]
 IMPROPER = [(0, 4, 2, 1, 8), (9, 4, 2, 1, 8), (3, 0, 2, 1, 8), (3, 17, 2, 1, 8), (3, 4, 0, 1, 8), (3, 3, 2, 1, 8), (3, 4, 2, 1, 0), (3, 4, 2, 1, 4097),
             (3, 4, 3, 0, 1), (65535, 65535, 65535, 65535, 65535), (3, 16, 1, 8, 8), (3, 4, 2, 65535, 8)]
@@ -1117,6 +1264,7 @@ def vectors(v, r):
 def main(folder):
     v, r = Vectors(), random.Random(1)
     vectors(v, r)
+    owner_vectors(v, random.Random(2))
     open(folder + '/stdin', 'wb').write(b''.join(v.calls))
     open(folder + '/stdout', 'w').write('\n'.join(v.lines) + '\n')
     kinds = {}
@@ -1126,6 +1274,8 @@ def main(folder):
         kinds[key] = kinds.get(key, 0) + 1
     for key in sorted(kinds):
         print(kinds[key], key)
+    # rows are met with each of their numbers; 7 is said otherwise
+    assert {key for key in kinds if key.startswith('5 refused')} == {'5 refused %d' % number for number in (1, 2, 3, 4, 5, 14)}
 
 
 if __name__ == '__main__':

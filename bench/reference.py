@@ -1,14 +1,14 @@
 #!/usr/bin/env python3
-"""An independent account of the directory and data node of documents 01 and 02 (g), and the vectors that the proved ones are held to.
+"""An independent account of the directory and data node of documents 01 and 02 (g, k), and the vectors that the proved ones are held to.
 
     reference.py FOLDER    writes FOLDER/stdin (calls, in binary) and FOLDER/stdout (what each must print)
 
 Written from document 01, with the tags of messages and the node's room from docs/DECISIONS.md (21, 31), by the hand that wrote the definitions;
-the numbers of an update's damaged record, 4, 11 and 12, are from document 02 (g) alone. It shares no code or text with the definitions. A table of
-65,536 bytes, at first `poison`, is kept from call to call. A call in stdin, high bytes first: kind (1 byte), whether the table after it is kept (1),
-m n k t F and a number (2 each), the length lent of the table and of a room filled with `poison` (4 each), a place of the table (4) and what its byte
-is changed by (1; exclusive or), the message's length (2) and bytes. A line of stdout: the kind, the refusal's number or the bytes answered, and the
-sums of table and room after the call."""
+the numbers of an update's damaged record, 4, 11 and 12, are from document 02 (g) alone, and 14 is from (k) alone. It shares no code or text with the
+definitions. A table of 65,536 bytes, at first `poison`, is kept from call to call. A call in stdin, high bytes first: kind (1 byte), whether the
+table after it is kept (1), m n k t F and a number (2 each), the length lent of the table and of a room filled with `poison` (4 each), a place of the
+table (4) and what its byte is changed by (1; exclusive or), the message's length (2) and bytes. A line of stdout: the kind, the refusal's number or
+the bytes answered, and the sums of table and room after the call."""
 import random
 import struct
 import sys
@@ -110,6 +110,11 @@ def keep_rules(s, fields):
     return all(keeps_rule(s, p) for pointers in fields[:2] for p in pointers or [])
 
 
+def belong(fields, own):
+    """Each pointer is none or this client's."""
+    return all(p == NONE or p[1] == own for pointers in fields[:2] for p in pointers or [])
+
+
 def parts_of(fields):
     """A record's map, pointers and indices, one after the other."""
     bits = sum(1 << b for b in range(4) if fields[b] is not None)
@@ -136,6 +141,10 @@ def write_row(s, fields):
 
 def read_rows(s, table):
     return [read_row(s, table[p * s.row():(p + 1) * s.row()]) for p in range(s.m)]
+
+
+def all_belong(rows):
+    return all(belong(row, p) for p, row in enumerate(rows))
 
 
 def fresh_row(s):
@@ -177,6 +186,8 @@ def update(s, own, table, message, room):
     except Broken:
         raise Refused(4)
     new = read_record(s, message)
+    if not belong(new, own) or not all_belong(rows):
+        raise Refused(14)
     rows[own] = [new[b] if new[b] is not None else rows[own][b] for b in range(4)]
     return 0, b''.join(write_row(s, r) for r in rows) + table[s.directory():], room
 
@@ -187,9 +198,11 @@ def scan(s, own, table, message, room):
     if len(table) < s.directory() or len(room) < s.directory():
         raise Refused(2)
     try:
-        read_rows(s, table)
+        rows = read_rows(s, table)
     except Broken:
         raise Refused(4)
+    if not all_belong(rows):
+        raise Refused(14)
     return s.directory(), table, table[:s.directory()] + room[s.directory():]
 
 
@@ -318,8 +331,14 @@ def some_pointer(s, r, none=0.3):
     return (r.choice([1, 2, 255, 256, 65536, 2 ** 32 - 1]), r.randrange(s.m), nodes, [r.randbytes(32) for _ in range(s.t + s.k)])
 
 
-def some_fields(s, r):
-    return [[some_pointer(s, r)], [some_pointer(s, r) for _ in range(s.m)], [r.choice([0, 1, 2 ** 32 - 1]) for _ in range(s.m)], [r.randrange(2 ** 32)]]
+def owned(p, own):
+    """The same as this client's."""
+    return p if p == NONE else (p[0], own, *p[2:])
+
+
+def some_fields(s, r, own):
+    pointers = [owned(some_pointer(s, r), own) for _ in range(s.m + 1)]
+    return [pointers[:1], pointers[1:], [r.choice([0, 1, 2 ** 32 - 1]) for _ in range(s.m)], [r.randrange(2 ** 32)]]
 
 
 def damages(r, length, count):
@@ -348,16 +367,16 @@ def directory_vectors(v, r):
         # every map, from what the last one left; pointers become none and others, so that rows get shorter and longer
         for bits in list(range(17)) + [0x20, 0x40, 0x80, 0xFF]:
             for own in sorted({0, s.m - 1} if s.m < 8 else {r.randrange(s.m)}):
-                fields = some_fields(s, r)
+                fields = some_fields(s, r, own)
                 data = write_fields([fields[b] if bits >> b & 1 else None for b in range(4)])
                 if bits > 15:
                     data = bytes([bits]) + data[1:]
                 v.add(2, s, own, size + 1, data, keep=True)
         v.add(3, s, 0, size + 2, room=size + 5)
-        full = write_fields(some_fields(s, r))
-        v.add(2, s, 0, size, b'')
-        v.add(2, s, 0, size, full + b'\0')
-        v.add(2, s, 0, size, full[:-1])
+        full = write_fields(some_fields(s, r, s.m - 1))
+        v.add(2, s, s.m - 1, size, b'')
+        v.add(2, s, s.m - 1, size, full + b'\0')
+        v.add(2, s, s.m - 1, size, full[:-1])
         if s.m <= 3:
             for d in damages(r, len(full), 20):
                 v.add(2, s, s.m - 1, size, spoiled(full, d))
@@ -446,7 +465,7 @@ def pointer_vectors(v, r):
 
         # all pointers of all rows name the highest nodes
         named = range(s.n - bits + 1, s.n + 1)
-        good = [[pointer(r, q + 1, q % s.m, named)] + [pointer(r, q + 2, 0, named) for _ in range(s.m)] for q in range(s.m)]
+        good = [[pointer(r, own + 1, own, named)] + [pointer(r, own + 2, own, named) for _ in range(s.m)] for own in range(s.m)]
         v.add(1, s, 0, size, keep=True)
         for own in range(s.m):
             v.add(2, s, own, size, write_fields([good[own][:1], good[own][1:], [0] * s.m, [0]]), keep=True)
@@ -481,9 +500,9 @@ def tried(v, s, own, record, numbers, **more):
     assert v.add(2, s, own, more.pop('length', s.directory()), record, **more) in numbers
 
 
-def some_parts(s, r, bits, none=0.2):
-    """Those of a sound record."""
-    pointers, indices = [some_pointer(s, r, none) for _ in range(s.m + 1)], [r.randrange(2 ** 32) for _ in range(s.m + 1)]
+def some_parts(s, r, bits, own, none=0.2):
+    """Those of a sound record of this client."""
+    pointers, indices = [owned(some_pointer(s, r, none), own) for _ in range(s.m + 1)], [r.randrange(2 ** 32) for _ in range(s.m + 1)]
     fields = [pointers[:1], pointers[1:], indices[:-1], indices[-1:]]
     return parts_of([fields[b] if bits >> b & 1 else None for b in range(4)])
 
@@ -497,26 +516,25 @@ def with_part(parts, at, part):
     return b''.join(parts[:at] + [part] + parts[at + 1:])
 
 
-def improper(s, r):
-    """Pointers that break their rule, each with a digest for each of its bits and then with fewer or more."""
+def improper(s, r, own):
+    """Pointers of this client that break their rule, each with a digest for each of its bits and then with fewer or more."""
     due = s.t + s.k
     named = list(range(1, due + 1))
     counts = [count for count in sorted({0, 1, due - 1, due + 1, 16}) if count <= 16 and count != due]
-    tries = [(7, 0, range(1, count + 1), due) for count in counts] + [(7, 0, range(17 - count, 17), due) for count in counts if 0 < count < 16]
-    tries += [(7, 0, named[:-1] + [i], due - 1) for i in range(s.n + 1, 17)] + [(7, 0, named + [i], due) for i in range(s.n + 1, 17)[:1]]
+    tries = [(7, own, range(1, count + 1), due) for count in counts] + [(7, own, range(17 - count, 17), due) for count in counts if 0 < count < 16]
+    tries += [(7, own, named[:-1] + [i], due - 1) for i in range(s.n + 1, 17)] + [(7, own, named + [i], due) for i in range(s.n + 1, 17)[:1]]
     tries += [(0, 255, [i], 0) for i in range(1, 17)] + [(0, 255, named, 0)]
-    tries += [(q, c, named, due - 1) for q, c in ((0, 0), (0, s.m - 1), (0, s.m), (1, s.m), (1, 254), (1, 255), (2 ** 32 - 1, 255))]
-    tries += [(q, c, [], due) for q, c in ((0, 0), (0, 254), (0, s.m), (1, 255), (256, 255), (65536, 255), (2 ** 24, 255), (2 ** 32 - 1, s.m - 1))]
+    tries += [(q, c, named, due - 1) for q, c in ((0, own), (0, s.m - 1), (0, s.m), (1, s.m), (1, 254), (1, 255), (2 ** 32 - 1, 255))]
+    tries += [(q, c, [], due) for q, c in ((0, own), (0, 254), (0, s.m), (1, 255), (256, 255), (65536, 255), (2 ** 24, 255), (2 ** 32 - 1, own))]
     fitting = [write_pointer(pointer(r, *three)) for *three, _ in tries]
     return [(p, p[:7] + r.randbytes(32 * count)) for p, (_, _, _, count) in zip(fitting, tries)]
 
 
 def bad_maps(v, r, s):
     """With any length, and with improper pointers."""
-    wrong = improper(s, r)
     for bad in [0x20, 0x40, 0x80, 0xFF] + list(range(0x10, 0x20)):
-        bits = bad & 15 or 15
-        parts, own = some_parts(s, r, bits), r.randrange(s.m)
+        bits, own = bad & 15 or 15, r.randrange(s.m)
+        parts, wrong = some_parts(s, r, bits, own), improper(s, r, own)
         whole = b''.join(parts)
         records = [whole[:1], whole, whole[:-1], whole + b'\0', whole + bytes(32)]
         for at in pointer_places(s, bits):
@@ -528,7 +546,8 @@ def bad_maps(v, r, s):
 def wrong_lengths(v, r, s, maps=range(16)):
     """A byte less and a byte more at the end of each part, cuts there and in its middle, bytes after the last; then the record itself."""
     for bits in maps:
-        parts, own = some_parts(s, r, bits), r.randrange(s.m)
+        own = r.randrange(s.m)
+        parts = some_parts(s, r, bits, own)
         whole = b''.join(parts)
         for at, part in enumerate(parts):
             # under one map lengths differ by multiples of 32: one byte less or more can only fit where it changes the map
@@ -545,7 +564,8 @@ def wrong_lengths(v, r, s, maps=range(16)):
 def every_length(v, r, s):
     """A cut at every byte, every byte left out, and a byte put in before it."""
     for bits in (3, 5, 10, 12, 15):
-        whole, own = b''.join(some_parts(s, r, bits)), r.randrange(s.m)
+        own = r.randrange(s.m)
+        whole = b''.join(some_parts(s, r, bits, own))
         for at in range(len(whole)):
             tried(v, s, own, whole[:at], LENGTH)
             tried(v, s, own, whole[:at] + whole[at + 1:], LENGTH if at else ANY)
@@ -556,17 +576,20 @@ def other_maps(v, r, s):
     """Each map in the place of each, and in front of it."""
     for bits in range(16):
         for other in range(16):
-            whole = b''.join(some_parts(s, r, bits, none=0.5))
-            tried(v, s, r.randrange(s.m), bytes([other]) + whole[1:], SERVED if other == bits else ANY)
-            tried(v, s, r.randrange(s.m), bytes([other]) + whole, ANY)
+            own = r.randrange(s.m)
+            whole = b''.join(some_parts(s, r, bits, own, none=0.5))
+            tried(v, s, own, bytes([other]) + whole[1:], SERVED if other == bits else ANY)
+            tried(v, s, own, bytes([other]) + whole, ANY)
 
 
-def wrong_pointers(v, r, s, places, wrong):
-    """Each at each of these places, where 0 is the written pointer's; the others are sound."""
+def wrong_pointers(v, r, s, places, many=None):
+    """Each, or so many, at each of these places, where 0 is the written pointer's; the others are sound."""
     for at in places:
-        for fitting, other in wrong:
+        own = r.randrange(s.m)
+        wrong = improper(s, r, own)
+        for fitting, other in r.sample(wrong, many or len(wrong)):
             bits = r.choice([b for b in range(16) if b >> (at > 0) & 1])
-            parts, own, among = some_parts(s, r, bits), r.randrange(s.m), pointer_places(s, bits)
+            parts, among = some_parts(s, r, bits, own), pointer_places(s, bits)
             place = among[at if bits & 1 else at - 1]
             tried(v, s, own, with_part(parts, place, fitting), RULE)
             # bytes that are then taken for the next pointer may fit by chance
@@ -578,7 +601,7 @@ def wrong_counts(v, r, s):
     due = s.t + s.k
     less, more, every = (write_pointer(pointer(r, 7, 0, range(1, count + 1))) for count in (due - 1, due + 1, 16))
     for bits in (1, 2, 3, 15):
-        parts, places = some_parts(s, r, bits), pointer_places(s, bits)
+        parts, places = some_parts(s, r, bits, 0), pointer_places(s, bits)
         tried(v, s, 0, b''.join(parts[:1] + [every] * len(places) + parts[1 + len(places):]), RULE)
         firsts = places[:-1]
         for at in sorted({*firsts[:1], *firsts[-1:]}):
@@ -588,9 +611,9 @@ def wrong_counts(v, r, s):
 
 def two_damages(v, r, s):
     """A pointer breaks its rule; beside it the map, a length before or after it, or another pointer is wrong."""
-    wrong = improper(s, r)
     for bits in (1, 2, 3, 5, 10, 15):
-        sound, places, own = some_parts(s, r, bits), pointer_places(s, bits), r.randrange(s.m)
+        own = r.randrange(s.m)
+        sound, places, wrong = some_parts(s, r, bits, own), pointer_places(s, bits), improper(s, r, own)
         for at in places:
             parts = sound[:at] + [r.choice(wrong)[0]] + sound[at + 1:]
             whole = b''.join(parts)
@@ -616,22 +639,22 @@ def head(sequence, client, count):
 
 def shifted(v, r, s, bits):
     """The last pointer but one lacks digests or has more, and the bytes that are then taken for the last one have its form, or nearly."""
-    due, at = s.t + s.k, pointer_places(s, bits)[-2]
-    sound, none = head(7, 0, due), head(0, 255, 0)
+    due, at, own = s.t + s.k, pointer_places(s, bits)[-2], r.randrange(s.m)
+    sound, none = head(7, own, due), head(0, 255, 0)
 
     def gives(numbers, first, last):
-        parts = some_parts(s, r, bits)
-        tried(v, s, r.randrange(s.m), b''.join(parts[:at] + [first, last] + parts[at + 2:]), numbers, keep=numbers == SERVED)
+        parts = some_parts(s, r, bits, own)
+        tried(v, s, own, b''.join(parts[:at] + [first, last] + parts[at + 2:]), numbers, keep=numbers == SERVED)
 
     # it lacks all: the last pointer is taken for them, up to the end of its digests
-    for end, numbers in ((none, SERVED), (head(0, 0, 0), RULE), (head(1, 255, 0), RULE), (head(1, 0, 0), RULE), (head(1, 0, 1), LENGTH)):
+    for end, numbers in ((none, SERVED), (head(0, own, 0), RULE), (head(1, 255, 0), RULE), (head(1, own, 0), RULE), (head(1, own, 1), LENGTH)):
         gives(numbers, sound, sound + r.randbytes(32 * due - 7) + end)
     # it lacks one: the last pointer is taken for it, up to the end of its first digest
-    for end, numbers in ((sound, LENGTH), (head(7, 0, due - 1), RULE), (head(0, 255, due - 1), SERVED if due == 1 else RULE)):
+    for end, numbers in ((sound, LENGTH), (head(7, own, due - 1), RULE), (head(0, 255, due - 1), SERVED if due == 1 else RULE)):
         gives(numbers, sound + r.randbytes(32 * (due - 1)), sound + r.randbytes(25) + end + r.randbytes(32 * (due - 1)))
     # it has more, and the last one is none
     for count in sorted({1, due}):
-        for start, numbers in ((head(7, 0, count), SERVED if count == due else RULE), (head(7, s.m, count), RULE), (head(0, 0, count), RULE),
+        for start, numbers in ((head(7, own, count), SERVED if count == due else RULE), (head(7, s.m, count), RULE), (head(0, own, count), RULE),
                                (none, LENGTH)):
             gives(numbers, sound + r.randbytes(32 * due) + start + r.randbytes(32 * count - 7), none)
 
@@ -644,9 +667,9 @@ def map_left_out(v):
         tried(v, Measures(1, 1, 1, 0, 4), 0, write_fields([None, None, [index], [reading]])[1:], numbers)
 
 
-def some_records(s, r):
-    """Sound ones and a few of each kind of damage, with their numbers."""
-    wrong, parts = improper(s, r), some_parts(s, r, 15)
+def some_records(s, r, own):
+    """Sound ones of this client and a few of each kind of damage, with their numbers."""
+    wrong, parts = improper(s, r, own), some_parts(s, r, 15, own)
     whole, written, frozen = b''.join(parts), with_part(parts, 1, r.choice(wrong)[0]), with_part(parts, s.m + 1, r.choice(wrong)[0])
     return [(b'\0', SERVED), (whole, SERVED), (b'\x10', MAP), (b'\x1f' + whole[1:-1], MAP), (b'', LENGTH), (b'\0\0', LENGTH), (whole[:-1], LENGTH),
             (whole + b'\0', LENGTH), (written[:-1], LENGTH), (written, RULE), (frozen, RULE), (b'\1' + r.choice(wrong)[0], RULE)]
@@ -654,15 +677,16 @@ def some_records(s, r):
 
 def before_records(v, r, s):
     """What is refused before a record is looked at, with each kind of record."""
-    size, records = s.directory(), some_records(s, r)
+    size, records = s.directory(), [some_records(s, r, own) for own in range(s.m)]
     # each row has spare bytes, as its first frozen pointer is none
     for own in range(s.m):
-        fields = [[some_pointer(s, r, 0)], [NONE] + [some_pointer(s, r, 0) for _ in range(s.m - 1)], [0] * s.m, [own]]
-        tried(v, s, own, write_fields(fields), SERVED, keep=True)
+        pointers = [owned(some_pointer(s, r, 0), own) for _ in range(s.m)]
+        tried(v, s, own, write_fields([pointers[:1], [NONE] + pointers[1:], [0] * s.m, [own]]), SERVED, keep=True)
     written, frozen = 1, 8 + 32 * (s.t + s.k)
     damage = [(0, 1), (0, 16), (written + 4, 128), (written + 5, 255), (frozen + 4, 1), (s.row() - 1, 1)]
-    for record, numbers in records:
-        own = r.randrange(s.m)
+    for kind in range(len(records[0])):
+        own = kind % s.m
+        record, numbers = records[own][kind]
         tried(v, s, own, record, numbers)
         # what is lent beyond the rows is not looked at
         tried(v, s, own, record, numbers, length=size + 1, damage=(size, 255))
@@ -686,7 +710,7 @@ def damage_vectors(v, r):
         v.add(1, s, 0, s.directory(), keep=True)
         tried(v, s, 0, b'', LENGTH)
         wrong_lengths(v, r, s)
-        wrong_pointers(v, r, s, range(s.m + 1), improper(s, r))
+        wrong_pointers(v, r, s, range(s.m + 1))
         wrong_counts(v, r, s)
         two_damages(v, r, s)
         for bits in (3, 15) if s.m == 1 else (2, 3, 15):
@@ -704,9 +728,10 @@ def damage_vectors(v, r):
     for s in [Measures(8, 16, 8, 4, 4096), Measures(2, 16, 16, 0, 1)]:
         v.add(1, s, 0, s.directory(), keep=True)
         for bits in range(16):
-            tried(v, s, r.randrange(s.m), b''.join(some_parts(s, r, bits)), SERVED, keep=True)
+            own = r.randrange(s.m)
+            tried(v, s, own, b''.join(some_parts(s, r, bits, own)), SERVED, keep=True)
         wrong_lengths(v, r, s, (5, 12))
-        wrong_pointers(v, r, s, (0, 1, s.m), r.sample(improper(s, r), 6))
+        wrong_pointers(v, r, s, (0, 1, s.m), 6)
         if s.t + s.k < 16:
             wrong_counts(v, r, s)
         shifted(v, r, s, 3)
@@ -715,12 +740,198 @@ def damage_vectors(v, r):
     tried(v, s, 0, b'\1' + bytes(65534), LENGTH)
 
 
+# Pointers of another client than their row's
+
+
+OWNER = (14,)
+
+
+def others(s, own):
+    """Other clients: the next ones, the first and the last."""
+    return sorted({c for c in (0, own - 1, own + 1, s.m - 1) if 0 <= c < s.m} - {own})
+
+
+def part_of(s, r, sequence, client):
+    """A pointer that keeps its rule if there is this client."""
+    return write_pointer((sequence, client, *some_pointer(s, r, 0)[2:]))
+
+
+def scanned(v, s, numbers, **more):
+    """A scan gives one of these numbers."""
+    size = s.directory()
+    assert v.add(3, s, 0, more.pop('length', size), room=more.pop('room', size), **more) in numbers
+
+
+def foreign_records(v, r, s, owners, maps):
+    """At each place a pointer of each other client, of one that there is not, of the owner, and none; the others are sound."""
+    for own in owners:
+        for bits in maps:
+            for at in pointer_places(s, bits):
+                def gives(numbers, part):
+                    tried(v, s, own, with_part(some_parts(s, r, bits, own, r.choice([0, 0.5, 1])), at, part), numbers)
+
+                for c in others(s, own):
+                    gives(OWNER, part_of(s, r, 1, c))
+                    gives(OWNER, part_of(s, r, 2 ** 32 - 1, c))
+                gives(RULE, part_of(s, r, 1, s.m))
+                gives(SERVED, part_of(s, r, 2 ** 32 - 1, own))
+                gives(SERVED, write_pointer(NONE))
+
+
+def other_rows(v, r, s):
+    """A whole row of another client's; it can be this one's too if all of its pointers are none."""
+    for own in range(s.m):
+        for c in others(s, own):
+            tried(v, s, own, b''.join(some_parts(s, r, 15, c, none=0)), OWNER)
+            tried(v, s, own, b''.join(some_parts(s, r, 15, c, none=1)), SERVED)
+
+
+def before_owners(v, r, s, maps):
+    """A pointer of another client; beside it the map, a length or another pointer of the record is wrong, or what comes before a record."""
+    size = s.directory()
+    for own in range(s.m):
+        for bits in maps:
+            sound, places = some_parts(s, r, bits, own), pointer_places(s, bits)
+            for at in places:
+                c = r.choice(others(s, own))
+                parts = sound[:at] + [part_of(s, r, 7, c)] + sound[at + 1:]
+                whole, wrong = b''.join(parts), improper(s, r, own)
+                tried(v, s, own, whole, OWNER)
+                for record in (whole[:1], whole, whole[:-1]):
+                    tried(v, s, own, bytes([16 | bits]) + record[1:], MAP)
+                for record in (whole[:1], whole[:7], whole[:-1], whole + b'\0'):
+                    tried(v, s, own, record, LENGTH)
+                # it breaks its rule itself, or another one does
+                tried(v, s, own, with_part(sound, at, r.choice(improper(s, r, c))[0]), RULE)
+                for second in places:
+                    if second != at:
+                        tried(v, s, own, with_part(parts, second, r.choice(wrong)[0]), RULE)
+                        tried(v, s, own, with_part(parts, second, part_of(s, r, 8, c)), OWNER)
+                tried(v, s, own, whole, (4,), damage=(r.randrange(s.m) * s.row(), 1))
+                tried(v, s, s.m, whole, (3,))
+                tried(v, s, own, whole, (2,), length=size - 1)
+                tried(v, Measures(s.m, s.n, 0, s.t, s.f), own, whole, (1,))
+
+
+def clients_of(s, rows):
+    """Of rows that are given as parts: each pointer's row, and where its client stands in the table. None is left out."""
+    return [(own, own * s.row() + len(b''.join(parts[:at])) + 4) for own, parts in rows.items()
+            for at in pointer_places(s, 15) if parts[at] != write_pointer(NONE)]
+
+
+def foreign_tables(v, r, s, owners, none):
+    """A pointer of the table gets another client by a changed byte, as no update can do it; one that would replace it is refused as well."""
+    size, rows = s.directory(), {own: some_parts(s, r, 15, own, none) for own in owners}
+    for own, parts in rows.items():
+        tried(v, s, own, b''.join(parts), SERVED, keep=True)
+    scanned(v, s, SERVED)
+    for own, place in clients_of(s, rows):
+        for c in others(s, own):
+            damage = (place, own ^ c)
+            scanned(v, s, OWNER, damage=damage)
+            for writer in (own, c):
+                tried(v, s, writer, b'\0', OWNER, damage=damage)
+            tried(v, s, own, b''.join(rows[own]), OWNER, damage=damage)
+        tried(v, s, s.m, b'\0', (3,), damage=damage)
+        tried(v, s, own, b'\0', (2,), damage=damage, length=size - 1)
+        scanned(v, s, (2,), damage=damage, length=size - 1)
+        scanned(v, s, (2,), damage=damage, room=size - 1)
+        for kind in (2, 3):
+            assert v.add(kind, Measures(s.m, s.n, s.k, s.n, s.f), own, size, b'\0', size, damage) == 1
+
+
+def records_at_foreign_tables(v, r, s):
+    """A record's own numbers come first, whoever sends it."""
+    rows = {own: some_parts(s, r, 15, own) for own in range(s.m)}
+    for own, parts in rows.items():
+        tried(v, s, own, b''.join(parts), SERVED, keep=True)
+    for own, place in clients_of(s, rows):
+        writer, c = r.randrange(s.m), r.choice(others(s, own))
+        foreign = part_of(s, r, 7, r.choice(others(s, writer)))
+        for record, numbers in some_records(s, r, writer) + [(b'\1' + foreign, OWNER)]:
+            tried(v, s, writer, record, OWNER if numbers == SERVED else numbers, damage=(place, own ^ c))
+
+
+def lay(v, data):
+    """Any rows come to the table as a node's first piece: count, version and length before it become the front of row 0, all but its map."""
+    s = Measures(1, 1, 1, 0, len(data) - 9)
+    v.add(4, s, 0, s.table(), keep=True)
+    v.add(5, s, 1, s.table(), store(int.from_bytes(data[2:6], 'big'), 0, data[9:]), 7 + s.f, keep=True)
+    assert v.table[1:len(data)] == data[1:]
+
+
+def broken_tables(v, r):
+    """Rows with a pointer of another client and with a broken form, before it and after."""
+    s = Measures(3, 1, 1, 0, 4)
+    breaks = [lambda p: bytes(4) + p[4:], lambda p: p[:4] + bytes([s.m]) + p[5:], lambda p: p[:5] + b'\0\2' + p[7:], lambda p: write_pointer(NONE)]
+
+    def gives(numbers, rows):
+        # where a pointer is none the bytes left over are not zero
+        lay(v, b''.join(b''.join(row).ljust(s.row(), b'\1') for row in rows))
+        own = r.randrange(s.m)
+        # the changed byte is the map of row 0; without the change it is broken as well
+        scanned(v, s, numbers, damage=(0, 15))
+        tried(v, s, own, b'\0', numbers, damage=(0, 15))
+        if numbers == OWNER:
+            scanned(v, s, (4,))
+            tried(v, s, own, b'\0', (4,))
+
+    def changed(rows, row, at, part):
+        return rows[:row] + [rows[row][:at] + [part] + rows[row][at + 1:]] + rows[row + 1:]
+
+    sound = [some_parts(s, r, 15, own, none=0) for own in range(s.m)]
+    sound = changed(sound, 0, 1, head(2 ** 24 + 7, 0, 1) + b'\xfe' + r.randbytes(31))
+    gives(SERVED, sound)
+    gives(OWNER, [sound[0], sound[2], sound[1]])
+    places = [(row, at) for row in range(s.m) for at in pointer_places(s, 15)]
+    for row, at in places:
+        foreign = changed(sound, row, at, spoiled(sound[row][at], (4, row ^ r.choice(others(s, row)))))
+        gives(OWNER, foreign)
+        for other in range(s.m):
+            # the first pointer's sequence and map are not free
+            second = r.choice([i for o, i in places if o == other and (o, i) not in ((row, at), (0, 1))])
+            gives((4,), changed(foreign, other, second, r.choice(breaks)(sound[other][second])))
+
+
+def owner_vectors(v, r):
+    """14, document 02 (k): a pointer of another client, in an update's record or in the table."""
+    one, two, three = Measures(1, 1, 1, 0, 4), Measures(2, 1, 1, 0, 4), Measures(3, 1, 1, 0, 4)
+    # one client has no other: what is not its own breaks the rule
+    v.add(1, one, 0, one.directory(), keep=True)
+    foreign_records(v, r, one, [0], (1, 2, 3, 15))
+    for s, maps in ((two, (1, 15)), (three, (3,))):
+        v.add(1, s, 0, s.directory(), keep=True)
+        foreign_records(v, r, s, range(s.m), (1, 2, 15))
+        other_rows(v, r, s)
+        before_owners(v, r, s, maps)
+        for none in (0, 0.5):
+            foreign_tables(v, r, s, range(s.m), none)
+        records_at_foreign_tables(v, r, s)
+    broken_tables(v, r)
+    # digests of several nodes, then the largest table
+    s = Measures(3, 4, 2, 1, 8)
+    v.add(1, s, 0, s.directory(), keep=True)
+    foreign_records(v, r, s, range(s.m), (1,))
+    foreign_tables(v, r, s, [2], 0)
+    s = Measures(8, 16, 8, 4, 4096)
+    v.add(1, s, 0, s.directory(), keep=True)
+    foreign_records(v, r, s, (0, 3, 7), (1,))
+    tried(v, s, 5, b''.join(some_parts(s, r, 15, 4, none=0)), OWNER)
+    foreign_tables(v, r, s, [0, 7], 0.8)
+    last = some_parts(s, r, 15, 7, none=0)
+    tried(v, s, 7, b''.join(last), SERVED, keep=True)
+    damage = (clients_of(s, {7: last})[-1][1], 7 ^ 6)
+    tried(v, s, 0, b'\0', OWNER, damage=damage)
+    scanned(v, s, OWNER, damage=damage)
+
+
 def main(folder):
     v, r = Vectors(), random.Random(1)
     directory_vectors(v, r)
     node_vectors(v, r)
     pointer_vectors(v, random.Random(2))
     damage_vectors(v, random.Random(3))
+    owner_vectors(v, random.Random(4))
     open(folder + '/stdin', 'wb').write(b''.join(v.calls))
     open(folder + '/stdout', 'w').write('\n'.join(v.lines) + '\n')
     kinds = {}
@@ -729,9 +940,9 @@ def main(folder):
         kinds[key] = kinds.get(key, 0) + 1
     for key in sorted(kinds):
         print(kinds[key], key)
-    # an update is met with each of its numbers; a damaged record is none of a scan's
-    assert {key for key in kinds if key[0] == '2'} == {'2 served'} | {'2 refused %d' % number for number in (1, 2, 3, 4, 11, 12)}
-    assert {key for key in kinds if key[0] == '3'} == {'3 served'} | {'3 refused %d' % number for number in (1, 2, 4)}
+    # update and scan are met with each of their numbers; a damaged record is none of a scan's
+    assert {key for key in kinds if key[0] == '2'} == {'2 served'} | {'2 refused %d' % number for number in (1, 2, 3, 4, 11, 12, 14)}
+    assert {key for key in kinds if key[0] == '3'} == {'3 served'} | {'3 refused %d' % number for number in (1, 2, 4, 14)}
 
 
 if __name__ == '__main__':
