@@ -2,7 +2,7 @@
 
 use crate::measures::Version;
 
-/// A length, or the number of the refusal: document 01's, or document 02's 11, 12 and 15.
+/// A length, or the number of the refusal: document 01's, or document 02's 11, 12, 14 and 15.
 pub type Answer = Result<usize, u32>;
 
 /// What an event at a client says, with the version and the bytes that it speaks of.
@@ -27,7 +27,7 @@ pub enum ClientAnswer {
 }
 
 impl ClientAnswer {
-    /// Document 01's number, 0 for an answer that has none.
+    /// Document 01's number or document 02's 14, 0 for an answer that has none.
     pub fn number(self) -> u32 {
         match self {
             ClientAnswer::Refused(number) => number,

@@ -154,7 +154,7 @@ pub fn directory_fresh(s: Measures, table: &mut [u8]) -> Answer {
 }
 
 /// A record of changed fields is put into the row of client `own`. A record with a bad bit map is refused 4, one of a wrong length 11, and
-/// one with a pointer that breaks its rule 12.
+/// one with a pointer that breaks its rule 12. A pointer of another client than its row's, in the record or in the table, is refused 14.
 pub fn directory_update(s: Measures, own: usize, table: &mut [u8], fields: &[u8]) -> Answer {
     // SAFETY: as above, for the table.
     of_code(unsafe {
@@ -173,7 +173,7 @@ pub fn directory_update(s: Measures, own: usize, table: &mut [u8], fields: &[u8]
     })
 }
 
-/// All rows go to the room.
+/// All rows go to the room. A pointer of another client than its row's is refused 14.
 pub fn directory_scan(s: Measures, table: &[u8], room: &mut [u8]) -> Answer {
     // SAFETY: as above, for the room.
     of_code(unsafe {
@@ -303,7 +303,7 @@ pub fn client_updated(s: Measures, own: usize, record: &mut [u8], room: &mut [u8
     })
 }
 
-/// The directory's rows.
+/// The directory's rows. A pointer of another client than its row's is refused 14, and rows are still awaited if they were.
 pub fn client_scanned(
     s: Measures,
     own: usize,

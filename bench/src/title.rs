@@ -194,7 +194,8 @@ pub fn updated(s: Measures, c: usize, memory: &mut [u8], room: &mut [u8]) -> Cli
     })
 }
 
-/// The rows of its scan are handed to client c.
+/// The rows of its scan are handed to client c. A pointer of another client than its row's is refused 14, and rows are still awaited if
+/// they were.
 pub fn scanned(
     s: Measures,
     c: usize,
@@ -256,7 +257,7 @@ pub fn to_client(
 }
 
 /// Client c's update is carried out at the directory. A record with a bad bit map is refused 4, one of a wrong length 11, and one with a
-/// pointer that breaks its rule 12.
+/// pointer that breaks its rule 12. A pointer of another client than its row's, in the record or in the directory, is refused 14.
 pub fn update(s: Measures, c: usize, memory: &mut [u8], fields: &[u8]) -> Answer {
     // SAFETY: as above, for the memory.
     of_code(unsafe {
@@ -275,7 +276,7 @@ pub fn update(s: Measures, c: usize, memory: &mut [u8], fields: &[u8]) -> Answer
     })
 }
 
-/// A scan of the directory; the rows go to the room.
+/// A scan of the directory; the rows go to the room. A pointer of another client than its row's is refused 14.
 pub fn scan(s: Measures, memory: &[u8], room: &mut [u8]) -> Answer {
     // SAFETY: as above, for the room.
     of_code(unsafe {

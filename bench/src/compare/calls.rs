@@ -1,12 +1,13 @@
 //! Calls without order to the directory and a node, valid and damaged: two implementations must answer and leave the same, and each
-//! refusal of an update must be met by each of its causes.
+//! refusal of an update or a scan must be met by each of its causes.
 
 use crate::causes::{judge, Cause};
-use crate::parties::{pass, put_version};
+use crate::parties::{pass, put_version, read_rows, write_rows};
+use crate::pointers::disown_rows;
 use crate::random::{
     measures, other_measures, rare, spoil, spoil_byte, spoil_directory, version, who, Numbers, RARE,
 };
-use crate::records;
+use crate::records::{self, Damage, ROWS, ROW_FROZEN, ROW_WRITTEN, TABLE};
 use crate::sides::Parties;
 use crate::tally::Tally;
 use jolbizna::{Answer, Measures, Version};
@@ -168,34 +169,60 @@ fn cut(numbers: &mut Numbers, bytes: &[u8], need: usize) -> Vec<u8> {
     bytes
 }
 
-/// Which calls were made, and by what updates were refused.
+/// Which calls were made, and by what updates and scans were refused.
 #[derive(Default)]
 struct Account {
     calls: Tally,
-    updates: Tally,
-    /// The causes of an update's refusal, where there were two.
-    pairs: BTreeSet<[Cause; 2]>,
+    updates: Refusals,
+    scans: Refusals,
 }
 
 const MEASURES: Cause = (1, "measures out of bounds");
 const SHORT: Cause = (2, "table short");
+const ROOM: Cause = (2, "room short");
 const OUTSIDE: Cause = (3, "client out of bounds");
 
 /// What refuses an update for what its caller says.
 const CALLER: [Cause; 3] = [MEASURES, SHORT, OUTSIDE];
 
 /// Which number of an update is told, where there are two.
-const ORDERS: [Cause; 10] = [
+const ORDERS: [Cause; 15] = [
     (2, "2 before 3"),
     (2, "2 before 4"),
     (2, "2 before 11"),
     (2, "2 before 12"),
+    (2, "2 before 14"),
     (3, "3 before 4"),
     (3, "3 before 11"),
     (3, "3 before 12"),
+    (3, "3 before 14"),
     (4, "4 before 11"),
     (4, "4 before 12"),
+    (4, "4 before 14"),
     (11, "11 before 12"),
+    (11, "11 before 14"),
+    (12, "12 before 14"),
+];
+
+const NO_FIELDS: Cause = (14, "another's, the record map 0");
+const REPLACED: Cause = (14, "another's, to be replaced");
+
+/// Updates that only a pointer of the table refuses, though they do not touch it, or would replace it.
+const IN_VAIN: [Cause; 2] = [NO_FIELDS, REPLACED];
+
+/// All that refuses a scan.
+const SCAN: [Cause; 6] = [MEASURES, SHORT, ROOM, TABLE, ROW_WRITTEN, ROW_FROZEN];
+
+/// Which number of a scan is told, where there are two.
+const SCAN_ORDERS: [Cause; 3] = [(2, "2 before 4"), (2, "2 before 14"), (4, "4 before 14")];
+
+/// What refuses a scan at once: of a short table nothing else is said.
+const SCAN_PAIRS: [[Cause; 2]; 5] = [
+    [ROOM, TABLE],
+    [ROOM, ROW_WRITTEN],
+    [ROOM, ROW_FROZEN],
+    [TABLE, ROW_WRITTEN],
+    [TABLE, ROW_FROZEN],
 ];
 
 /// What refuses an update. Of measures that do not pass nothing else is worked out.
@@ -206,28 +233,56 @@ fn update_causes(s: Measures, own: usize, table: &[u8], fields: &[u8]) -> Vec<Ca
     let short = (table.len() < s.directory()).then_some(SHORT);
     let outside = (own >= s.m).then_some(OUTSIDE);
     let caller = short.into_iter().chain(outside);
-    caller.chain(records::causes(s, table, fields)).collect()
+    let bytes = records::causes(s, own, table, fields);
+    caller.chain(bytes).collect()
 }
 
-impl Account {
-    fn note_update(&mut self, causes: &[Cause], answer: Answer, detail: impl Fn() -> String) {
-        self.calls.note("directory, update", refused(answer));
-        judge(&mut self.updates, causes, answer, detail);
+/// What refuses a scan.
+fn scan_causes(s: Measures, table: &[u8], room: &[u8]) -> Vec<Cause> {
+    if !pass(s) {
+        return vec![MEASURES];
+    }
+    let slices = [(table, SHORT), (room, ROOM)].into_iter();
+    let short = slices.filter(|(slice, _)| slice.len() < s.directory());
+    let caller = short.map(|(_, cause)| cause);
+    caller.chain(records::table_faults(s, table)).collect()
+}
+
+/// By what calls of one kind were refused.
+#[derive(Default)]
+struct Refusals {
+    cases: Tally,
+    /// The causes, where there were two.
+    pairs: BTreeSet<[Cause; 2]>,
+}
+
+impl Refusals {
+    fn note(&mut self, causes: &[Cause], answer: Answer, detail: impl Fn() -> String) {
+        judge(&mut self.cases, causes, answer, detail);
         if let [first, then] = causes {
             self.pairs.insert([*first, *then]);
         }
     }
 
-    /// Each cause alone, every two of different kinds at once, and each order of two numbers must have been met.
-    fn covered(&self) {
-        let alone = CALLER.into_iter().chain(records::CAUSES);
-        for (number, case) in alone.chain(ORDERS) {
+    /// Each case must have been met, always with its number, and each two causes at once.
+    fn covered(&self, name: &str, cases: impl Iterator<Item = Cause>, pairs: &[[Cause; 2]]) {
+        for (number, case) in cases {
             let met = BTreeSet::from([number]);
-            assert_eq!(self.updates.met(case), met, "update: {case}");
+            assert_eq!(self.cases.met(case), met, "{name}: {case}");
         }
-        for pair in records::pairs() {
-            assert!(self.pairs.contains(&pair), "update: {pair:?} at once");
+        for pair in pairs {
+            assert!(self.pairs.contains(pair), "{name}: {pair:?} at once");
         }
+    }
+}
+
+impl Account {
+    fn covered(&self) {
+        let causes = CALLER.into_iter().chain(records::all_causes());
+        let cases = causes.chain(ORDERS).chain(IN_VAIN);
+        self.updates.covered("update", cases, &records::pairs());
+        let cases = SCAN.into_iter().chain(SCAN_ORDERS);
+        self.scans.covered("scan", cases, &SCAN_PAIRS);
     }
 }
 
@@ -276,18 +331,28 @@ impl<'a> Session<'a> {
         assert!(answer.is_ok() || end == table);
     }
 
-    /// The measures, and the table that is lent: now and then other ones, a damaged table once in so many times. Says whether they are
-    /// the session's own.
+    /// The directory; if so, with a pointer of another client than its row's.
+    fn imported(&self, numbers: &mut Numbers, foreign: bool) -> Vec<u8> {
+        let mut table = self.directory.clone();
+        if foreign {
+            let mut rows = read_rows(self.s, &table).expect("the session's own is proper");
+            disown_rows(numbers, self.s, self.step, &mut rows);
+            write_rows(self.s, &rows, &mut table);
+        }
+        table
+    }
+
+    /// The measures, now and then other ones, and the table that is lent, damaged if so. Says whether they are as they were.
     fn lend(
         &self,
         numbers: &mut Numbers,
         own: &[u8],
         need: usize,
         spoil: fn(&mut Numbers, Measures, &mut [u8]),
-        odds: usize,
+        spoilt: bool,
     ) -> (Measures, Vec<u8>, bool) {
         let mut table = own.to_vec();
-        let (other, spoilt) = (rare(numbers), numbers.below(odds) == 0);
+        let other = rare(numbers);
         if spoilt {
             spoil(numbers, self.s, &mut table);
         }
@@ -300,44 +365,79 @@ impl<'a> Session<'a> {
         (s, table, !other && !spoilt)
     }
 
-    /// One of three has its bytes damaged so often that two causes are met at once.
     fn update(&mut self, numbers: &mut Numbers) {
-        let odds = [RARE, RARE, 3][numbers.below(3)];
-        let (s, table, whole) = self.lend(
-            numbers,
-            &self.directory,
-            self.s.directory(),
-            spoil_directory,
-            odds,
-        );
+        let damage = Damage::new(numbers);
+        let need = self.s.directory();
+        let directory = self.imported(numbers, damage.rows);
+        let (s, table, whole) = self.lend(numbers, &directory, need, spoil_directory, damage.table);
         let own = who(numbers, 0, self.s.m);
-        let mut fields = records::record(numbers, self.s, self.step, odds);
+        let owner = if own < self.s.m {
+            own
+        } else {
+            numbers.below(self.s.m)
+        };
+        let mut fields = records::record(numbers, self.s, self.step, owner, &damage);
         if rare(numbers) {
             spoil(numbers, &mut fields);
         }
         let (end, answer) = self.pair.update(s, own, &table, &fields);
         let causes = update_causes(s, own, &table, &fields);
         let detail = || format!("update {s:?} {own} {fields:?}");
-        self.account.note_update(&causes, answer, detail);
+        self.account
+            .calls
+            .note("directory, update", refused(answer));
+        self.account.updates.note(&causes, answer, detail);
+        if !causes.is_empty() && causes.iter().all(|cause| ROWS.contains(cause)) {
+            self.note_in_vain(s, own, &table, &fields, answer);
+        }
         assert!(answer.is_ok() || end == table);
+        // What is served has no other client's pointer, and is the session's own but for the update.
         if whole && answer.is_ok() {
             self.directory = end;
         }
     }
 
+    /// Of an update that nothing refuses but pointers of the table.
+    fn note_in_vain(
+        &mut self,
+        s: Measures,
+        own: usize,
+        table: &[u8],
+        fields: &[u8],
+        answer: Answer,
+    ) {
+        let cases = &mut self.account.updates.cases;
+        if fields == [0] {
+            cases.note(NO_FIELDS.1, refused(answer));
+        }
+        if records::would_replace(s, own, table, fields) {
+            cases.note(REPLACED.1, refused(answer));
+        }
+    }
+
+    /// One of three has its table damaged so often that two causes are met at once.
     fn scan(&mut self, numbers: &mut Numbers) {
+        let odds = [RARE, RARE, 3][numbers.below(3)];
+        let [spoilt, foreign] = [(); 2].map(|_| numbers.below(odds) == 0);
         let need = self.s.directory();
-        let (s, table, _) = self.lend(numbers, &self.directory, need, spoil_directory, RARE);
+        let directory = self.imported(numbers, foreign);
+        let (s, table, _) = self.lend(numbers, &directory, need, spoil_directory, spoilt);
         let spare = numbers.below(3);
         let room = numbers.bytes(need + spare);
         let room = cut(numbers, &room, need);
         let (end, answer) = self.pair.scan(s, &table, &room);
+        let causes = scan_causes(s, &table, &room);
         self.account.calls.note("directory, scan", refused(answer));
+        self.account
+            .scans
+            .note(&causes, answer, || format!("scan {s:?}"));
         assert!(answer.is_ok() || end == room);
     }
 
     fn message(&mut self, numbers: &mut Numbers) {
-        let (s, table, whole) = self.lend(numbers, &self.table, self.s.table(), spoil_table, RARE);
+        let spoilt = rare(numbers);
+        let (s, table, whole) =
+            self.lend(numbers, &self.table, self.s.table(), spoil_table, spoilt);
         let i = who(numbers, 1, self.s.n);
         let mut message = message(numbers, self.s, self.step);
         if rare(numbers) {
@@ -404,14 +504,15 @@ pub fn calls(
             }
         }
     }
-    println!("{done} calls to the directory and the node of {names}: the same answers and bytes, every refusal among them, of updates by each cause");
+    println!("{done} calls to the directory and the node of {names}: the same answers and bytes, every refusal among them, of updates and scans by each cause");
     account.calls.print("");
-    account.updates.print("update");
+    account.updates.cases.print("update");
+    account.scans.cases.print("scan");
     account.covered();
     for (name, met) in [
         ("directory, fresh", vec![0, 1, 2]),
-        ("directory, update", vec![0, 1, 2, 3, 4, 11, 12]),
-        ("directory, scan", vec![0, 1, 2, 4]),
+        ("directory, update", vec![0, 1, 2, 3, 4, 11, 12, 14]),
+        ("directory, scan", vec![0, 1, 2, 4, 14]),
         ("node, fresh", vec![0, 1, 2]),
         ("node, store", vec![0, 1, 2, 3, 4, 8]),
         ("node, request", vec![0, 1, 2, 3, 4]),

@@ -16,7 +16,7 @@ pub fn due(causes: &[Cause]) -> u32 {
 }
 
 /// Which number comes before which, and how that is noted.
-const PAIRS: [(u32, u32, &str); 17] = [
+const PAIRS: [(u32, u32, &str); 22] = [
     (1, 2, "1 before 2"),
     (1, 3, "1 before 3"),
     (1, 6, "1 before 6"),
@@ -24,16 +24,21 @@ const PAIRS: [(u32, u32, &str); 17] = [
     (2, 4, "2 before 4"),
     (2, 11, "2 before 11"),
     (2, 12, "2 before 12"),
+    (2, 14, "2 before 14"),
     (2, 6, "2 before 6"),
     (2, 9, "2 before 9"),
     (3, 4, "3 before 4"),
     (3, 11, "3 before 11"),
     (3, 12, "3 before 12"),
+    (3, 14, "3 before 14"),
     (3, 6, "3 before 6"),
     (4, 11, "4 before 11"),
     (4, 12, "4 before 12"),
+    (4, 14, "4 before 14"),
     (4, 9, "4 before 9"),
     (11, 12, "11 before 12"),
+    (11, 14, "11 before 14"),
+    (12, 14, "12 before 14"),
 ];
 
 /// The answer must have the number that is due. A cause is noted if it is alone, else which number came before which.

@@ -1,10 +1,10 @@
-//! The client, as document 01 and docs/LAYOUTS.md define it.
+//! The client, as document 01, document 02 (k) and docs/LAYOUTS.md define it.
 
 use std::collections::{BTreeMap, BTreeSet};
 
 use crate::coding::{self, DIGEST};
 use crate::parties::{
-    directory_bytes, drawn, ensure, pass, pointer_bytes, put_area, put_front, put_version,
+    directory_bytes, drawn, ensure, owned, pass, pointer_bytes, put_area, put_front, put_version,
     read_rows, row_bytes, Bytes, Pointer, Record, NONE,
 };
 use jolbizna::{ClientAnswer, Measures, Version};
@@ -81,7 +81,7 @@ pub enum Step {
 }
 
 impl Step {
-    fn number(&self) -> u8 {
+    pub fn number(&self) -> u8 {
         match self {
             Step::Idle => 0,
             Step::Scanning { .. } => 1,
@@ -454,6 +454,7 @@ fn try_scanned(
     ensure(own < s.m, 3)?;
     let mut client = Client::read(s, record).ok_or(4u32)?;
     let rows = read_rows(s, rows).ok_or(4u32)?;
+    ensure(owned(&rows), 14)?;
     let answer = match client.step.clone() {
         Step::Scanning { page } => client.draw(s, own, &page, &rows, room),
         Step::Freezing(pointer) => client.freeze(own, pointer, &rows, room),

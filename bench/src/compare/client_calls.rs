@@ -2,10 +2,11 @@
 
 use crate::client::{digest, map_of, nodes_of, read_message, Client, Message, Nodes, Step};
 use crate::coding;
-use crate::parties::{put_version, write_rows, Pointer, Record, NONE};
+use crate::parties::{put_version, read_rows, write_rows, Pointer, Record, NONE};
+use crate::pointers::{disown_rows, own_pointer, pointer, some_pointer};
 use crate::random::{
     measures, number, other_measures, rare, spoil, spoil_byte, spoil_directory, version, who,
-    Numbers,
+    Numbers, RARE,
 };
 use crate::sides::Parties;
 use crate::tally::Tally;
@@ -27,22 +28,6 @@ fn all_but_one(numbers: &mut Numbers, nodes: &Nodes) -> Nodes {
     others.map(|(_, i)| *i).collect()
 }
 
-/// A pointer that is none or proper.
-fn pointer(numbers: &mut Numbers, s: Measures, step: u32) -> Pointer {
-    if numbers.below(4) == 0 {
-        return Pointer::none();
-    }
-    some_pointer(numbers, s, step)
-}
-
-fn some_pointer(numbers: &mut Numbers, s: Measures, step: u32) -> Pointer {
-    Pointer {
-        version: version(numbers, s, step),
-        nodes: map_of(&some_nodes(numbers, s, s.t + s.k)),
-        digests: numbers.bytes(32 * (s.t + s.k)),
-    }
-}
-
 fn reserved(numbers: &mut Numbers, s: Measures, step: u32) -> Version {
     if numbers.below(4) == 0 {
         return NONE;
@@ -50,33 +35,97 @@ fn reserved(numbers: &mut Numbers, s: Measures, step: u32) -> Version {
     version(numbers, s, step)
 }
 
-/// Rows of all kinds; now and then the last sequence is written in one.
-fn rows(numbers: &mut Numbers, s: Measures, step: u32) -> Vec<u8> {
-    let last = numbers.below(12) == 0;
-    let rows: Vec<Record> = (0..s.m)
-        .map(|_| {
-            let mut written = pointer(numbers, s, step);
-            if last && written.version != NONE {
-                written.version.0 = u32::MAX;
-            }
-            Record {
-                written: Some(written),
-                frozen: Some((0..s.m).map(|_| pointer(numbers, s, step)).collect()),
-                frozen_indices: Some((0..s.m).map(|_| number(numbers)).collect()),
-                reading: Some(number(numbers)),
-            }
-        })
-        .collect();
-    let spare = numbers.below(3);
-    let mut table = numbers.bytes(s.directory() + spare);
-    if numbers.below(8) == 0 {
-        table.fill(0);
-        let rows = vec![fresh_row(s); s.m];
-        write_rows(s, &rows, &mut table);
-    } else {
-        write_rows(s, &rows, &mut table);
+/// Rows as they are handed in, and what they were made with.
+struct Rows {
+    bytes: Vec<u8>,
+    /// The last sequence is written.
+    last: bool,
+    /// Whether a written pointer, and whether a frozen one, is another client's than its row's.
+    foreign: [bool; 2],
+    spoilt: bool,
+}
+
+impl Rows {
+    /// Of all kinds. Now and then the last sequence is written, as often as not where a pointer is another client's; and now and then
+    /// the bytes are damaged.
+    fn new(numbers: &mut Numbers, s: Measures, step: u32) -> Self {
+        let disowned = numbers.below(RARE / 2) == 0;
+        let last = numbers.below(if disowned { 2 } else { 12 }) == 0;
+        let mut rows = own_rows(numbers, s, step, last);
+        if disowned {
+            disown_rows(numbers, s, step, &mut rows);
+        }
+        let spare = numbers.below(3);
+        let mut bytes = numbers.bytes(s.directory() + spare);
+        write_rows(s, &rows, &mut bytes);
+        let spoilt = rare(numbers);
+        if spoilt {
+            spoil_directory(numbers, s, &mut bytes);
+        }
+        if rare(numbers) {
+            bytes.truncate(s.directory() - 1 - numbers.below(3));
+        }
+        let mut written = rows.iter().flat_map(|row| &row.written);
+        Rows {
+            bytes,
+            last: written.any(|pointer| pointer.version.0 == u32::MAX),
+            foreign: foreign(&rows),
+            spoilt,
+        }
     }
-    table
+
+    /// What another client's pointer is met with, where nothing refuses before.
+    fn cases(&self, step: &Step) -> Vec<&'static str> {
+        let mut cases = vec![FOREIGN_AT[step.number() as usize]];
+        let first = matches!(step, Step::Scanning { .. });
+        cases.extend((first && self.last).then_some(FOREIGN_LAST));
+        cases.extend((self.foreign == [true, false]).then_some(FOREIGN_WRITTEN));
+        cases.extend((self.foreign == [false, true]).then_some(FOREIGN_FROZEN));
+        cases
+    }
+}
+
+fn another(pointer: &Pointer, owner: usize) -> bool {
+    pointer.version != NONE && usize::from(pointer.version.1) != owner
+}
+
+/// Whether a written pointer, and whether a frozen one, is another client's than its row's.
+fn foreign(rows: &[Record]) -> [bool; 2] {
+    let mut found = [false; 2];
+    for (p, row) in rows.iter().enumerate() {
+        found[0] |= row.written.iter().any(|pointer| another(pointer, p));
+        let mut frozen = row.frozen.iter().flatten();
+        found[1] |= frozen.any(|pointer| another(pointer, p));
+    }
+    found
+}
+
+/// In a client's own record, where it is no fault.
+fn keeps_another(client: &Client, own: usize) -> bool {
+    let mut pointers = client.frozen.iter().chain([&client.written]);
+    pointers.any(|pointer| another(pointer, own))
+}
+
+/// Rows with pointers of their own clients, or fresh ones.
+fn own_rows(numbers: &mut Numbers, s: Measures, step: u32, last: bool) -> Vec<Record> {
+    if numbers.below(8) == 0 {
+        return vec![fresh_row(s); s.m];
+    }
+    let row = |p| {
+        let mut own = || own_pointer(numbers, s, step, p);
+        let mut written = own();
+        let frozen = (0..s.m).map(|_| own()).collect();
+        if last && written.version != NONE {
+            written.version.0 = u32::MAX;
+        }
+        Record {
+            written: Some(written),
+            frozen: Some(frozen),
+            frozen_indices: Some((0..s.m).map(|_| number(numbers)).collect()),
+            reading: Some(number(numbers)),
+        }
+    };
+    (0..s.m).map(row).collect()
 }
 
 fn fresh_row(s: Measures) -> Record {
@@ -109,6 +158,27 @@ fn pieces(numbers: &mut Numbers, s: Measures) -> Vec<Vec<u8>> {
     }
     pieces
 }
+
+// What another client's pointer in rows is met with: what refuses before; or else the client's step, the last sequence at its first scan,
+// and nothing but written or frozen ones. Last, such a pointer in the client's record and none in the rows.
+const FOREIGN_SHORT: &str = "client, another's: short";
+const FOREIGN_OUTSIDE: &str = "client, another's: number";
+const FOREIGN_RECORD: &str = "client, another's: record";
+const FOREIGN_BROKEN: &str = "client, another's: rows";
+const FOREIGN_AT: [&str; 8] = [
+    "client, another's: step 0",
+    "client, another's: step 1",
+    "client, another's: step 2",
+    "client, another's: step 3",
+    "client, another's: step 4",
+    "client, another's: step 5",
+    "client, another's: step 6",
+    "client, another's: step 7",
+];
+const FOREIGN_LAST: &str = "client, another's: last";
+const FOREIGN_WRITTEN: &str = "client, another's: written";
+const FOREIGN_FROZEN: &str = "client, another's: frozen";
+const FOREIGN_KEPT: &str = "client, another's: kept";
 
 /// The page of a client, its record, and the pieces that it reads.
 struct Session<'a> {
@@ -405,16 +475,14 @@ impl<'a> Session<'a> {
     fn scanned(&mut self, numbers: &mut Numbers) -> Outcome {
         let lent = self.lend(numbers);
         let own = self.who(numbers);
-        let mut rows = rows(numbers, self.s, self.step);
-        if rare(numbers) {
-            spoil_directory(numbers, self.s, &mut rows);
-        }
-        if rare(numbers) {
-            rows.truncate(self.s.directory() - 1 - numbers.below(3));
-        }
+        let rows = Rows::new(numbers, self.s, self.step);
+        let cases = self.foreign_cases(&lent, own, &rows);
         let answer = self.same("client, scanned", lent, |side, s, record, room, _| {
-            side.scanned(s, own, record, &rows, room)
+            side.scanned(s, own, record, &rows.bytes, room)
         })?;
+        for case in cases {
+            self.tally.note(case, answer.number());
+        }
         match answer {
             ClientAnswer::Stores(..) => self.tally.note("client, scanned: stores", 0),
             ClientAnswer::Deposited(_, 1) => self.tally.note("client, scanned: frees none", 0),
@@ -424,6 +492,40 @@ impl<'a> Session<'a> {
             _ => {}
         }
         Ok(answer)
+    }
+
+    /// What another client's pointer is met with, in rows or in the client's own record. Of other measures, and of damage that may have put
+    /// the pointer right, nothing is said.
+    fn foreign_cases(&self, lent: &Lent, own: usize, rows: &Rows) -> Vec<&'static str> {
+        if lent.s != self.s {
+            return Vec::new();
+        }
+        let foreign = rows.foreign != [false; 2];
+        match self.sound(lent, own, rows) {
+            Err(before) if foreign => vec![before],
+            Ok(client) if foreign && !rows.spoilt => rows.cases(&client.step),
+            Ok(client) if !rows.spoilt && keeps_another(&client, own) => vec![FOREIGN_KEPT],
+            _ => Vec::new(),
+        }
+    }
+
+    /// The client, or what refuses before it is looked at whose the rows' pointers are.
+    fn sound(&self, lent: &Lent, own: usize, rows: &Rows) -> Result<Client, &'static str> {
+        let s = self.s;
+        let slices = [
+            (&lent.record, s.record()),
+            (&lent.room, s.room()),
+            (&rows.bytes, s.directory()),
+        ];
+        if slices.iter().any(|(slice, need)| slice.len() < *need) {
+            return Err(FOREIGN_SHORT);
+        }
+        if own >= s.m {
+            return Err(FOREIGN_OUTSIDE);
+        }
+        let client = Client::read(s, &lent.record).ok_or(FOREIGN_RECORD)?;
+        read_rows(s, &rows.bytes).ok_or(FOREIGN_BROKEN)?;
+        Ok(client)
     }
 
     /// An acknowledgement or a reply, as often as not what the client awaits, and most times of the version that it waits for.
@@ -604,12 +706,20 @@ pub fn covered(tally: &Tally) {
         ("client, deposit", vec![0, 1, 2, 3, 4, 5, 6]),
         ("client, read", vec![0, 1, 2, 3, 4, 5, 7]),
         ("client, updated", vec![0, 1, 2, 3, 4, 5]),
-        ("client, scanned", vec![0, 1, 2, 3, 4, 5, 7]),
+        ("client, scanned", vec![0, 1, 2, 3, 4, 5, 7, 14]),
         ("client, scanned: stores", vec![0]),
         ("client, scanned: frees none", vec![0]),
         ("client, scanned: frees some", vec![0]),
         ("client, scanned: requests", vec![0]),
         ("client, scanned: empty", vec![0]),
+        (FOREIGN_SHORT, vec![2]),
+        (FOREIGN_OUTSIDE, vec![3]),
+        (FOREIGN_RECORD, vec![4]),
+        (FOREIGN_BROKEN, vec![4]),
+        (FOREIGN_LAST, vec![14]),
+        (FOREIGN_WRITTEN, vec![14]),
+        (FOREIGN_FROZEN, vec![14]),
+        (FOREIGN_KEPT, vec![0, 5, 7]),
         ("client, stored", vec![0, 1, 2, 3, 4]),
         ("client, stored: published", vec![0]),
         ("client, freed", vec![0, 1, 2, 3, 4]),
@@ -623,5 +733,8 @@ pub fn covered(tally: &Tally) {
         ("client, no message", vec![1, 2, 3, 4]),
     ] {
         assert_eq!(tally.met(name), BTreeSet::from_iter(met), "{name}");
+    }
+    for name in FOREIGN_AT {
+        assert_eq!(tally.met(name), BTreeSet::from([14]), "{name}");
     }
 }

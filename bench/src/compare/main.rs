@@ -16,6 +16,7 @@ mod piece_calls;
 mod pieces;
 mod plain;
 mod planes;
+mod pointers;
 mod proved;
 mod random;
 mod recording_calls;

@@ -1,4 +1,4 @@
-//! The directory and the data node, as document 01, document 02 (g) and docs/LAYOUTS.md define them.
+//! The directory and the data node, as document 01, document 02 (g) and (k) and docs/LAYOUTS.md define them.
 
 use std::collections::BTreeMap;
 
@@ -148,6 +148,11 @@ impl Pointer {
         drawn(s, self.version) && above == 0 && self.nodes.count_ones() as usize == s.t + s.k
     }
 
+    /// None, or of this client.
+    fn belongs(&self, owner: usize) -> bool {
+        *self == Pointer::none() || usize::from(self.version.1) == owner
+    }
+
     pub fn write(&self, out: &mut Vec<u8>) {
         put_version(out, self.version);
         out.extend(self.nodes.to_be_bytes());
@@ -214,6 +219,10 @@ impl Record {
         self.pointers().all(|pointer| pointer.keeps_rule(s))
     }
 
+    fn belongs(&self, owner: usize) -> bool {
+        self.pointers().all(|pointer| pointer.belongs(owner))
+    }
+
     fn map(&self) -> u8 {
         let fields = [
             self.written.is_some(),
@@ -261,6 +270,11 @@ fn read_row(s: Measures, area: &[u8]) -> Option<Record> {
     (row.map() == ALL_FIELDS && bytes.zeros()).then_some(row)
 }
 
+/// Whether the pointers of each row are none or of its own client.
+pub fn owned(rows: &[Record]) -> bool {
+    rows.iter().enumerate().all(|(p, row)| row.belongs(p))
+}
+
 pub fn write_rows(s: Measures, rows: &[Record], table: &mut [u8]) {
     let mut out = Vec::new();
     for row in rows {
@@ -282,6 +296,7 @@ pub fn directory_update(s: Measures, own: usize, table: &mut [u8], fields: &[u8]
     ensure(own < s.m, 3)?;
     let mut rows = read_rows(s, table).ok_or(4u32)?;
     let fields = read_update(s, fields).map_err(Damage::number)?;
+    ensure(fields.belongs(own) && owned(&rows), 14)?;
     rows[own].update(fields);
     write_rows(s, &rows, table);
     Ok(0)
@@ -330,6 +345,7 @@ pub fn directory_scan(s: Measures, table: &[u8], room: &mut [u8]) -> Answer {
         2,
     )?;
     let rows = read_rows(s, table).ok_or(4u32)?;
+    ensure(owned(&rows), 14)?;
     write_rows(s, &rows, room);
     Ok(directory_bytes(s))
 }

@@ -4,6 +4,7 @@ mod client;
 mod client_calls;
 mod coding;
 mod parties;
+mod pointers;
 mod random;
 mod runs;
 mod sides;

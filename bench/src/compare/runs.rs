@@ -18,7 +18,7 @@ pub const STRICT: &str = "a later deposit: higher";
 pub const BYTES: &str = "exact bytes";
 pub const HELD: &str = "named honest nodes hold";
 pub const FEW: &str = "at most 2m pieces of a writer";
-pub const NEVER: &str = "no 7, 8, 9, 11 or 12";
+pub const NEVER: &str = "no 7, 8, 9, 11, 12 or 14";
 pub const FORM: &str = "4 for liars' bytes alone";
 pub const NUMBER: &str = "the number of a refusal";
 pub const SAME: &str = "refused: bytes as they came";
@@ -769,7 +769,7 @@ impl<'a> Run<'a> {
         self.counts.tested(FORM);
         self.counts.tested(NUMBER);
         let detail = || format!("{name}: {number} where {wants} is due");
-        test(![7, 8, 9, 11, 12].contains(&number), NEVER, detail)?;
+        test(![7, 8, 9, 11, 12, 14].contains(&number), NEVER, detail)?;
         test(number != 4 || wants == 4, FORM, detail)?;
         test(number == wants, NUMBER, detail)?;
         if number > 0 {

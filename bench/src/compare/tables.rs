@@ -110,9 +110,9 @@ fn move_tasks(numbers: &mut Numbers, count: usize, name: &str) -> [Task; 2] {
     [moves, forms]
 }
 
-fn pointer(numbers: &mut Numbers) -> Pointer {
+fn pointer(numbers: &mut Numbers, owner: usize) -> Pointer {
     Pointer {
-        version: (1 + numbers.below(1000) as u32, numbers.below(8) as u8),
+        version: (1 + numbers.below(1000) as u32, owner as u8),
         nodes: 0x0fff,
         digests: numbers.bytes(32 * 12),
     }
@@ -125,8 +125,8 @@ fn scan_task(numbers: &mut Numbers, full: bool) -> Task {
         let (mut table, _) = pair.directory_fresh(S, &vec![0; S.directory()]);
         for own in 0..if full { S.m } else { 0 } {
             let row = Record {
-                written: Some(pointer(numbers)),
-                frozen: Some((0..S.m).map(|_| pointer(numbers)).collect()),
+                written: Some(pointer(numbers, own)),
+                frozen: Some((0..S.m).map(|_| pointer(numbers, own)).collect()),
                 frozen_indices: Some(vec![7; S.m]),
                 reading: Some(9),
             };

@@ -339,6 +339,30 @@ impl Parties for OwnSequence {
     }
 }
 
+/// The sequence is one above the highest of the other clients.
+struct OthersSequence;
+
+impl Parties for OthersSequence {
+    fn scanned(
+        &mut self,
+        s: Measures,
+        own: usize,
+        record: &mut [u8],
+        rows: &[u8],
+        room: &mut [u8],
+    ) -> ClientAnswer {
+        let rows = match shown(s, record).map(|client| client.step) {
+            Some(Step::Scanning { .. }) => altered(s, rows, |p, row| {
+                if p == own {
+                    row.written = Some(Pointer::none());
+                }
+            }),
+            _ => rows.to_vec(),
+        };
+        Plain.scanned(s, own, record, &rows, room)
+    }
+}
+
 /// Every client draws versions as client 0.
 struct OneName;
 
@@ -431,6 +455,19 @@ impl Parties for KeepsNothing {
         let before = table.to_vec();
         let answer = Plain.node_message(s, i, table, message, room);
         table.copy_from_slice(&before);
+        answer
+    }
+}
+
+/// A directory whose scan shows each row under the next client's number.
+struct MovesRows;
+
+impl Parties for MovesRows {
+    fn directory_scan(&mut self, s: Measures, table: &[u8], room: &mut [u8]) -> Answer {
+        let answer = Plain.directory_scan(s, table, room);
+        if let Ok(len) = answer {
+            room[..len].rotate_right(s.row());
+        }
         answer
     }
 }
@@ -636,6 +673,7 @@ fn parties() -> Vec<(&'static str, Box<dyn Parties>)> {
         ("lists a version twice", Box::new(ListsTwice)),
         ("reserves nothing", Box::new(ReservesNothing)),
         ("draws above its own", Box::new(OwnSequence)),
+        ("draws above the others alone", Box::new(OthersSequence)),
         ("draws under one name", Box::new(OneName)),
         ("publishes another version", Box::new(PublishesAnother)),
         ("always finds nothing", Box::new(AlwaysEmpty)),
@@ -648,6 +686,7 @@ fn parties() -> Vec<(&'static str, Box<dyn Parties>)> {
         ("clears the output", Box::new(ClearsOutput)),
         ("says 3 before 2", Box::new(NumberFirst)),
         ("a node that keeps nothing", Box::new(KeepsNothing)),
+        ("a scan that moves rows", Box::new(MovesRows)),
     ]
 }
 
