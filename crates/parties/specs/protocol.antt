@@ -17,6 +17,7 @@ pub mod Reading
 pub mod ClientEvents
 pub mod DirectoryEvents
 pub mod NodeEvents
+pub mod Foreign
 pub mod Run
 pub mod Claim
 pub mod Example

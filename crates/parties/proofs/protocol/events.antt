@@ -5,6 +5,7 @@ pub mod FreeLaws
 pub mod FreeListLaws
 pub mod RefusalLaws
 pub mod TableRefusalLaws
+pub mod ForeignLaws
 pub mod LacksLaws
 pub mod DepositStartLaws
 pub mod FreshTableLaws

@@ -27,6 +27,7 @@ use Rattle.parties.specs.protocol.Directory.{Field, pointers, indices, C
 use Rattle.parties.specs.protocol.Directory.{mapOf, readRecord, writeFields, writeRecord, Row, rowFields, allFields, asRow, writeRow, readRow, readDirectory}
 use Rattle.parties.specs.protocol.Owner.{ownPointer, ownFields, ownRow, ownRows}
 use Rattle.parties.specs.protocol.Verdict.{sound, broken, byOwner, byLength, recordVerdict, rowsVerdict}
+use Rattle.parties.proofs.protocol.model.Cells.{and-none}
 use Rattle.parties.proofs.protocol.formats.FormatLaws.{number-one}
 use Rattle.parties.proofs.protocol.formats.DirectoryLaws.{format-fields, format-record}
 use Rattle.parties.proofs.protocol.formats.VerdictLaws.{tested, content-tested, fields-tested, fields-proper}
@@ -112,14 +113,6 @@ module _ (s : Measures) (u w x : List ℕ) (v : Version) (map : ℕ)
 pub grouped : (a b c : Bool) → (a && (b && c)) ≡ ((a && b) && c)
 grouped true b c = refl
 grouped false b c = refl
-
-pub and-all : (a : Bool) → (a && true) ≡ a
-and-all true = refl
-and-all false = refl
-
-pub and-none : (a : Bool) → (a && false) ≡ false
-and-none true = refl
-and-none false = refl
 
 pub not-none : (p : Pointer) → isNoVersion (p .version) ≡ false → isNone p ≡ false
 not-none p e = grouped (eqb (p .version .sequence .0) 0) (eqb (p .version .client) 255) (eqb (p .named .nodes) 0) ∙ ap (λ (b : Bool). b && eqb (p .named .nodes) 0) e

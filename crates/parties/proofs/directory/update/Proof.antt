@@ -16,7 +16,8 @@ use Rattle.parties.specs.declared.records.form.Table.{Table}
 use Rattle.parties.specs.records.Answer.{number}
 use Rattle.parties.specs.records.Form.{rest, Tabled, Recorded}
 use Rattle.parties.specs.directory.Room.{Renewed}
-use Rattle.parties.proofs.records.RecordLaws.{and-none, tabled-sound, tabled-broken}
+use Rattle.parties.proofs.records.RecordLaws.{tabled-sound, tabled-broken}
+use Rattle.parties.proofs.protocol.model.Cells.{and-none}
 use Rattle.parties.proofs.records.SizeLaws.{table-bound, below-rows}
 use Rattle.parties.proofs.directory.EndLaws.{ends-table}
 use Rattle.parties.proofs.directory.UpdateEndLaws.{recorded-sound, recorded-broken, own-row-left, update-measures, update-short, update-number, update-broken-table, update-broken-record, update-foreign, update-done}

@@ -13,9 +13,10 @@ use Rattle.parties.specs.protocol.Measures.{rowSize}
 use Rattle.parties.specs.protocol.Directory.{Row, readRow, readDirectory}
 use Rattle.parties.specs.protocol.Owner.{ownRows}
 use Rattle.parties.specs.records.Form.{rest, holds}
+use Rattle.parties.proofs.protocol.model.Cells.{and-all}
 use Rattle.parties.proofs.records.SizeLaws.{below-rows}
 use Rattle.parties.proofs.records.FormLaws.{none-read, many-turn, many-broken, many-end}
-use Rattle.parties.proofs.records.RecordLaws.{grouped, and-all, rowed-sound, rowed-broken, held-turn, held-end}
+use Rattle.parties.proofs.records.RecordLaws.{grouped, rowed-sound, rowed-broken, held-turn, held-end}
 use Rattle.parties.proofs.records.form.rows.Statement.{statement}
 use Rattle.parties.proofs.records.form.rows.Tie as tie
 
