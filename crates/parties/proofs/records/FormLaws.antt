@@ -1,6 +1,6 @@
 -- Laws of what is left after a reader.
 use mathlib.Core.Path.{_≡_, refl, sym, ap, subst, _∙_}
-use mathlib.Core.Bool.{Bool, true, false, cond}
+use mathlib.Core.Bool.{Bool, true, false, cond, _&&_}
 use mathlib.Core.List.{List, [], _∷_}
 use mathlib.Core.Option.{Option, some, none}
 use Prim.Native.Nat.{ℕ, zero, suc, _+_, _-_, _*_, _<_, _≤_}
@@ -14,11 +14,11 @@ use lib.Seq.{drop-drop}
 use Rattle.coding.specs.Nodes.{all}
 use Rattle.coding.specs.Bytes.{Bytes}
 use Rattle.coding.proofs.PageLaws.{none≢some, some-eq}
-use Rattle.parties.specs.protocol.Format.{Read, Reader, bind, check, both, mapped, chain, readByte, readNumber, readMany, readBytes, readZeros, readArea}
+use Rattle.parties.specs.protocol.Format.{Read, Reader, bind, check, both, given, mapped, chain, readByte, readNumber, readMany, readBytes, readZeros, readArea}
 use Rattle.parties.proofs.protocol.formats.FormatLaws.{Format}
 use Rattle.parties.specs.declared.records.form.Form.{Form}
 use Rattle.parties.specs.declared.records.form.Form.the-variants.{Sound, Broken}
-use Rattle.parties.specs.records.Form.{rest, told, Within, Formed}
+use Rattle.parties.specs.records.Form.{rest, told, Within, Formed, holds}
 
 -- what a form test tells
 pub record Goes (t : List ℕ) (at next : ℕ) (o : Option (List ℕ)) : Type 0 where
@@ -47,6 +47,43 @@ none-read (some r) e = absurd (none≢some (sym e))
 pub rest-check : {A : Type 0} (b : Bool) (a : A) (t : List ℕ) → rest (check b a t) ≡ cond b (some t) none
 rest-check true a t = refl
 rest-check false a t = refl
+
+-- a value that is given only if it passes
+module _ {A : Type 0} (p : A → Bool) (r : Reader A) (u : List ℕ) where
+  pub given-held : (v : List ℕ) → rest (given p r u) ≡ some v → (rest (r u) ≡ some v) × (true ≡ holds p (r u))
+  given-held v = go (r u)
+    where
+      tested : (b : Bool) (x : Read A) → rest (check b (x .value) (x .rest)) ≡ some v → (some (x .rest) ≡ some v) × (true ≡ b)
+      tested true x h = (h, refl)
+      tested false x h = absurd (none≢some h)
+
+      go : (o : Option (Read A)) → rest (bind o (λ a t. check (p a) a t)) ≡ some v → (rest o ≡ some v) × (true ≡ holds p o)
+      go none h = absurd (none≢some h)
+      go (some x) h = tested (p (x .value)) x h
+
+  pub given-unheld : rest (given p r u) ≡ none → false ≡ holds p (r u)
+  given-unheld = go (r u)
+    where
+      tested : (b : Bool) (x : Read A) → rest (check b (x .value) (x .rest)) ≡ none → false ≡ b
+      tested true x h = absurd (none≢some (sym h))
+      tested false x h = refl
+
+      go : (o : Option (Read A)) → rest (bind o (λ a t. check (p a) a t)) ≡ none → false ≡ holds p o
+      go none h = refl
+      go (some x) h = tested (p (x .value)) x h
+
+-- two tests are one
+pub given-both : {A : Type 0} (p q : A → Bool) (r : Reader A) (u : List ℕ) → given q (given p r) u ≡ given (λ a. p a && q a) r u
+given-both {A} p q r u = go (r u)
+  where
+    tested : (b : Bool) (x : Read A)
+        → bind (check b (x .value) (x .rest)) (λ a t. check (q a) a t) ≡ check (b && q (x .value)) (x .value) (x .rest)
+    tested true x = refl
+    tested false x = refl
+
+    go : (o : Option (Read A)) → bind (bind o (λ a t. check (p a) a t)) (λ a t. check (q a) a t) ≡ bind o (λ a t. check (p a && q a) a t)
+    go none = refl
+    go (some x) = tested (p (x .value)) x
 
 pub none-either : (b : Bool) → _≡_ {A = Option (List ℕ)} none (cond b none none)
 none-either true = refl

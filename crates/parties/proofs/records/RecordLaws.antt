@@ -26,13 +26,13 @@ use Rattle.parties.specs.protocol.Message.{properVersion}
 use Rattle.parties.specs.protocol.Directory.{Field, pointers, indices, Content, fields, readIndex, readContent, readFields}
 use Rattle.parties.specs.protocol.Directory.{mapOf, readRecord, writeFields, writeRecord, Row, rowFields, allFields, asRow, writeRow, readRow, readDirectory}
 use Rattle.parties.specs.protocol.Owner.{ownPointer, ownFields, ownRow, ownRows}
-use Rattle.parties.specs.protocol.Verdict.{sound, broken, byOwner, byLength, recordVerdict, rowsVerdict}
+use Rattle.parties.specs.protocol.Verdict.{sound, broken, byLength, recordVerdict, rowsVerdict}
 use Rattle.parties.proofs.protocol.model.Cells.{and-none}
 use Rattle.parties.proofs.protocol.formats.FormatLaws.{number-one}
 use Rattle.parties.proofs.protocol.formats.DirectoryLaws.{format-fields, format-record}
 use Rattle.parties.proofs.protocol.formats.VerdictLaws.{tested, content-tested, fields-tested, fields-proper}
 use Rattle.parties.proofs.protocol.formats.RowLaws.{GoodRow, format-row-fields, format-row, row-fits}
-use Rattle.parties.proofs.protocol.formats.OwnerLaws.{row-pointers}
+use Rattle.parties.proofs.protocol.formats.OwnerLaws.{client-own, row-pointers, owner-verdict}
 use Rattle.parties.specs.declared.records.form.Ends.{Ends}
 use Rattle.parties.specs.declared.Refusal.{Refusal}
 use Rattle.parties.specs.declared.records.form.Rule.{Rule}
@@ -42,7 +42,7 @@ use Rattle.parties.specs.declared.records.form.Table.{Table}
 use Rattle.parties.specs.declared.records.form.Verdict.{Verdict}
 use Rattle.parties.specs.records.Answer.{number}
 use Rattle.parties.specs.records.Form.{rest, front, pointerBy, properFront, allowedFront, after, Ended, Parted, holds, OwnParted, Rowed, Tabled, Judged}
-use Rattle.parties.proofs.records.FormLaws.{left-read, none-read, rest-check, none-either, rest-make, rest-mapped, rest-both, rest-zeros, rest-area, none-area, Fixed, fixed-fits, fixed-short, fixed-then, fixed-bytes, fixed-number, fixed-mapped, fixed-many}
+use Rattle.parties.proofs.records.FormLaws.{left-read, none-read, rest-check, given-held, given-unheld, given-both, none-either, rest-make, rest-mapped, rest-both, rest-zeros, rest-area, none-area, Fixed, fixed-fits, fixed-short, fixed-then, fixed-bytes, fixed-number, fixed-mapped, fixed-many}
 
 pub bytes-drop : (at : ℕ) (t : List ℕ) → Bytes t → Bytes (drop at t)
 bytes-drop at t b i = rw (getD-drop at t i 0) (b (at + i))
@@ -78,29 +78,24 @@ pointer-short s (Rule.Owner own) u h = rw (any-short u h) refl
 module _ (s : Measures) (u w x : List ℕ) (v : Version) (map : ℕ)
     (version : readVersion u ≡ some (record { value = v; rest = w }))
     (nodes : readNumber 2 w ≡ some (record { value = map; rest = x })) where
-  pub rest-pointer : (rule : Rule) → rest (pointerBy s rule u) ≡ cond (allowedFront s rule v map) (rest (readMany (readBytes 32) (count map) x)) none
-  unfolding readPointer readNamed properPointer
-  rest-pointer (Rule.Owner own) = rw version (rw nodes (go (readMany (readBytes 32) (count map) x)))
-    where
-      tested : (a : Bool) (p : Pointer) (t : List ℕ) → rest (bind (check a p t) (λ q u. check (ownPointer own q) q u)) ≡ cond (a && ownPointer own p) (some t) none
-      tested true p t = rest-check (ownPointer own p) p t
-      tested false p t = refl
-
-      go : (o : Option (Read (List (List ℕ))))
-          → rest (bind (bind (bind (bind o (λ l u. some (record { value = record { nodes = map; digests = l }; rest = u })))
-          (λ n u. some (record { value = record { version = v; named = n }; rest = u })))
-          (λ p t. check (properPointer s p) p t)) (λ p t. check (ownPointer own p) p t))
-          ≡ cond (properFront s v map && ownPointer own (front v map)) (rest o) none
-      go none = none-either (properFront s v map && ownPointer own (front v map))
-      go (some r) = tested (properFront s v map) _ (r .rest)
-  rest-pointer Rule.Proper = rw version (rw nodes (go (readMany (readBytes 32) (count map) x)))
+  -- a test that goes by them
+  rest-tested : (test : Pointer → Bool)
+      → ((ds : List (List ℕ)) → test (record { version = v; named = record { nodes = map; digests = ds } }) ≡ test (front v map))
+      → rest (given test readAnyPointer u) ≡ cond (test (front v map)) (rest (readMany (readBytes 32) (count map) x)) none
+  unfolding readNamed
+  rest-tested test same = rw version (rw nodes (go (readMany (readBytes 32) (count map) x)))
     where
       go : (o : Option (Read (List (List ℕ))))
           → rest (bind (bind (bind o (λ l u. some (record { value = record { nodes = map; digests = l }; rest = u })))
           (λ n u. some (record { value = record { version = v; named = n }; rest = u })))
-          (λ p t. check (properPointer s p) p t)) ≡ cond (properFront s v map) (rest o) none
-      go none = none-either (properFront s v map)
-      go (some r) = rest-check (properFront s v map) _ (r .rest)
+          (λ p t. check (test p) p t)) ≡ cond (test (front v map)) (rest o) none
+      go none = none-either (test (front v map))
+      go (some r) =
+          rest-check (test (record { version = v; named = record { nodes = map; digests = r .value } })) _ (r .rest)
+          ∙ ap (λ (b : Bool). cond b (some (r .rest)) none) (same (r .value))
+
+  pub rest-pointer : (rule : Rule) → rest (pointerBy s rule u) ≡ cond (allowedFront s rule v map) (rest (readMany (readBytes 32) (count map) x)) none
+  unfolding readPointer readNamed properPointer
   rest-pointer Rule.Length = rw version (rw nodes (go (readMany (readBytes 32) (count map) x)))
     where
       go : (o : Option (Read (List (List ℕ))))
@@ -108,6 +103,10 @@ module _ (s : Measures) (u w x : List ℕ) (v : Version) (map : ℕ)
           (λ n u. some (record { value = record { version = v; named = n }; rest = u }))) ≡ rest o
       go none = refl
       go (some r) = refl
+  rest-pointer Rule.Proper = rest-tested (properPointer s) (λ ds. refl)
+  rest-pointer (Rule.Owner own) =
+      ap rest (given-both (properPointer s) (ownPointer own) readAnyPointer u)
+      ∙ rest-tested (λ p. properPointer s p && ownPointer own p) (λ ds. refl)
 
 -- a pointer whose version is not none
 pub grouped : (a b c : Bool) → (a && (b && c)) ≡ ((a && b) && c)
@@ -137,11 +136,7 @@ module _ (s : Measures) (v : Version) (map : ℕ) where
 
   -- of a pointer that keeps its rule: its owner's, or none by its version
   pub front-own : (own : ℕ) → properFront s v map ≡ true → v .client ≡ own → true ≡ (properFront s v map && ownPointer own (front v map))
-  front-own own g e = rw g (go (isNone (front v map)) (eqb (v .client) own) (eq-eqb (v .client) own e))
-    where
-      go : (a b : Bool) → b ≡ true → true ≡ (a || b)
-      go true b h = refl
-      go false b h = sym h
+  front-own own g e = rw g (sym (client-own own (front v map) e))
 
   pub front-other : (own : ℕ) → properFront s v map ≡ true → (v .client ≡ own → ⊥) → isNoVersion v ≡ (properFront s v map && ownPointer own (front v map))
   front-other own g e = rw g (rw (ne-eqb (v .client) own e) (go (isNoVersion v) refl ∙ or-nothing (isNone (front v map))))
@@ -257,22 +252,11 @@ module _ (s : Measures) (r : Reader Pointer) (t : List ℕ) (at map : ℕ) where
 -- ---- fields whose pointers are tested
 
 module _ (test : Pointer → Bool) (r : Reader Pointer) where
-  tested-after : {A : Type 0} (p : A → Bool) (ra : Reader A) (u v : List ℕ) → rest (given p ra u) ≡ some v → rest (ra u) ≡ some v
-  tested-after {A} p ra u v e = go (ra u) e
-    where
-      passed : (b : Bool) (x : Read A) → rest (check b (x .value) (x .rest)) ≡ some v → some (x .rest) ≡ some v
-      passed true x h = h
-      passed false x h = absurd (none≢some h)
-
-      go : (o : Option (Read A)) → rest (bind o (λ a t. check (p a) a t)) ≡ some v → rest o ≡ some v
-      go none h = h
-      go (some x) h = passed (p (x .value)) x h
-
   after-loose : (f : Field) (bit : ℕ) (u v : List ℕ) → after (given test r) f bit u ≡ some v → after r f bit u ≡ some v
   after-loose f bit u v = go (eqb bit 1)
     where
       go : (b : Bool) → cond b (rest (readContent (given test r) f u)) (some u) ≡ some v → cond b (rest (readContent r f u)) (some u) ≡ some v
-      go true h = tested-after (tested test r) (readContent r f) u v (sym (ap rest (content-tested test r f u)) ∙ h)
+      go true h = given-held (tested test r) (readContent r f) u v (sym (ap rest (content-tested test r f u)) ∙ h) .0
       go false h = h
 
   -- they end where they end without the test
@@ -288,30 +272,11 @@ module _ (test : Pointer → Bool) (r : Reader Pointer) where
 
   -- and the test holds of all or not
   module _ (fs : List Field) (map : ℕ) (u : List ℕ) where
-    abbrev held : Option (Read (List (Option Content))) → Option (Read (List (Option Content)))
-    held o = bind o (λ a t. check (allFields test a) a t)
-
     pub fields-held : (v : List ℕ) → rest (readFields (given test r) fs map u) ≡ some v → true ≡ holds (allFields test) (readFields r fs map u)
-    fields-held v e = go (readFields r fs map u) (sym (ap rest (fields-tested test r fs map u)) ∙ e)
-      where
-        passed : (b : Bool) (x : Read (List (Option Content))) → rest (check b (x .value) (x .rest)) ≡ some v → true ≡ b
-        passed true x h = refl
-        passed false x h = absurd (none≢some h)
-
-        go : (o : Option (Read (List (Option Content)))) → rest (held o) ≡ some v → true ≡ holds (allFields test) o
-        go none h = absurd (none≢some h)
-        go (some x) h = passed (allFields test (x .value)) x h
+    fields-held v e = given-held (allFields test) (readFields r fs map) u v (sym (ap rest (fields-tested test r fs map u)) ∙ e) .1
 
     pub fields-unheld : rest (readFields (given test r) fs map u) ≡ none → false ≡ holds (allFields test) (readFields r fs map u)
-    fields-unheld e = go (readFields r fs map u) (sym (ap rest (fields-tested test r fs map u)) ∙ e)
-      where
-        failed : (b : Bool) (x : Read (List (Option Content))) → rest (check b (x .value) (x .rest)) ≡ none → false ≡ b
-        failed true x h = absurd (none≢some (sym h))
-        failed false x h = refl
-
-        go : (o : Option (Read (List (Option Content)))) → rest (held o) ≡ none → false ≡ holds (allFields test) o
-        go none h = refl
-        go (some x) h = failed (allFields test (x .value)) x h
+    fields-unheld e = given-unheld (allFields test) (readFields r fs map) u (sym (ap rest (fields-tested test r fs map u)) ∙ e)
 
 -- ---- records and rows
 
@@ -577,11 +542,11 @@ module _ (s : Measures) (t v : List ℕ) (e : rest (readDirectory s t) ≡ some 
   rows-sound o =
       let x = left-read (readDirectory s t) v e in
       let q : ownRows 0 (x .0 .value) ≡ true = sym (o ∙ ap (holds (ownRows 0)) (x .1)) in
-      (x .0, x .1, ap byOwner (x .1) ∙ ap (λ (b : Bool). cond b (sound (x .0)) (broken 14)) q)
+      (x .0, x .1, owner-verdict (readDirectory s t) (x .0) true (x .1) q)
 
   -- or not
   pub rows-foreign : false ≡ holds (ownRows 0) (readDirectory s t) → rowsVerdict s t ≡ broken 14
   rows-foreign o =
       let x = left-read (readDirectory s t) v e in
       let q : ownRows 0 (x .0 .value) ≡ false = sym (o ∙ ap (holds (ownRows 0)) (x .1)) in
-      ap byOwner (x .1) ∙ ap (λ (b : Bool). cond b (sound (x .0)) (broken 14)) q
+      owner-verdict (readDirectory s t) (x .0) false (x .1) q

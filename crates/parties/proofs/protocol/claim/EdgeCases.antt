@@ -18,7 +18,7 @@ use Rattle.parties.specs.protocol.Version.{below, nextSequence}
 use Rattle.parties.specs.protocol.Pointer.{Pointer, nonePointer}
 use Rattle.parties.specs.protocol.Directory.{Row, readDirectory, freshRow, freshDirectory}
 use Rattle.parties.specs.protocol.Owner.{ownRows}
-use Rattle.parties.specs.protocol.Verdict.{sound, broken, byOwner, rowsVerdict, recordVerdict}
+use Rattle.parties.specs.protocol.Verdict.{rowsVerdict, recordVerdict}
 use Rattle.parties.specs.protocol.Client.{Phase, Client, clientSize}
 use Rattle.parties.specs.protocol.Deposit.{highest}
 use Rattle.parties.specs.protocol.Reading.{candidate, pick}
@@ -26,7 +26,7 @@ use Rattle.parties.specs.protocol.Answer.{refused, scan, number, refuses
 use Rattle.parties.specs.protocol.ClientEvents.{Step, stays, does, withPhase, isIdle, ClientEnd, roomSize, beginDeposit, scannedAt, fetch, draw, onClient, onRows, after, startDeposit, scanAnswer}
 use Rattle.parties.specs.protocol.DirectoryEvents.{directorySize, onTable, directoryUpdate}
 use Rattle.parties.specs.protocol.Edges.{Handed, Starting, Edges}
-use Rattle.parties.proofs.protocol.formats.OwnerLaws.{fresh-own}
+use Rattle.parties.proofs.protocol.formats.OwnerLaws.{owner-verdict, fresh-own}
 
 four : (f : ℕ) → 2 ≤ f → f ≤ 4096 → passes (record { m = 2; n = 4; k = 2; t = 1; f = f }) ≡ true
 unfolding passes
@@ -47,9 +47,8 @@ handed s own client rows room c l h o =
       lt-ltb own (s .m) (h .number),
     )
     (ap (λ r. onClient s client room [] r (λ x. onRows (rowsVerdict s rows) (λ y. scannedAt s own x room y (x .phase)))) (h .record-reads)
-    ∙ ap (λ r. after s client room [] (h .record-rest) (onRows (byOwner r) (λ y. scannedAt s own c room y (c .phase)))) (h .rows-read)
-    ∙ ap (λ (b : Bool). after s client room [] (h .record-rest)
-    (onRows (cond b (sound (record { value = l; rest = h .rows-rest })) (broken 14)) (λ y. scannedAt s own c room y (c .phase)))) o)
+    ∙ ap (λ v. after s client room [] (h .record-rest) (onRows v (λ y. scannedAt s own c room y (c .phase))))
+    (owner-verdict (readDirectory s rows) _ true (h .rows-read) o))
 
 -- where the record reads, a deposit's start is the step on it
 asked : (s : Measures) (own : ℕ) (client bytes : List ℕ) (c : Client) (h : Starting s own client c)

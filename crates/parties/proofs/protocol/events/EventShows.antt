@@ -16,7 +16,7 @@ use Rattle.parties.specs.protocol.Format.{Read, whole}
 use Rattle.parties.specs.protocol.Measures.{passes, rowSize, places}
 use Rattle.parties.specs.protocol.Directory.{Content, Row, noRow, readRecord, writeRecord, readDirectory, writeDirectory, freshDirectory, writeRow, updateRow}
 use Rattle.parties.specs.protocol.Owner.{ownFields, ownRows}
-use Rattle.parties.specs.protocol.Verdict.{Verdict, byOwner, recordVerdict}
+use Rattle.parties.specs.protocol.Verdict.{Verdict, recordVerdict}
 use Rattle.parties.specs.protocol.DirectoryEvents.{DirectoryEnd, directorySize, directoryFresh, onTable, directoryUpdate, scanned, directoryScan}
 use Rattle.parties.specs.protocol.NodeTable.{Held, readTable, writeTable}
 use Rattle.parties.specs.protocol.Node.{keep, handBack}
@@ -28,7 +28,7 @@ use Rattle.parties.proofs.protocol.formats.EachLaws.{each-at, each-set}
 use Rattle.parties.proofs.protocol.formats.DirectoryLaws.{GoodRecord, format-record}
 use Rattle.parties.proofs.protocol.formats.VerdictLaws.{as-before}
 use Rattle.parties.proofs.protocol.formats.RowLaws.{FitsRow, format-directory, length-directory, row-fits, update-good, fresh-directory}
-use Rattle.parties.proofs.protocol.formats.OwnerLaws.{own-row, set-own, updated-own}
+use Rattle.parties.proofs.protocol.formats.OwnerLaws.{owner-verdict, own-row, set-own, updated-own}
 use Rattle.parties.proofs.protocol.formats.NodeTableLaws.{GoodTable, format-table, length-table}
 use Rattle.parties.proofs.protocol.events.NodeLaws.{keep-length, keep-good, release-good, fresh-table}
 use Rattle.parties.proofs.protocol.formats.MessageLaws.{GoodToNode, message-whole, message-to-node}
@@ -114,7 +114,7 @@ module _ (s : Measures) (ok : passes s ≡ true) where
       let end : directoryScan s t room
       ≡ record { answer = serves (directorySize s); table = t; room = take (directorySize s) t ++ drop (directorySize s) room } =
       simp (ok, le-leb (directorySize s) (length t) long, le-leb (directorySize s) (length room) h)
-      (ap (λ (x : Option (Read (List Row))). scanned s t room (byOwner x)) (format-directory s .back rows (g, n) rest) ∙ simp o)
+      (ap (scanned s t room) (owner-verdict (readDirectory s t) _ true (format-directory s .back rows (g, n) rest) o))
       in (
         ap (λ (x : DirectoryEnd). readDirectory s (x .room)) end
             ∙ ap (λ (b : List ℕ). readDirectory s (b ++ drop (directorySize s) room)) (take-at (writeDirectory s rows) rest (directorySize s) w)

@@ -1,6 +1,6 @@
 -- A pointer with another client than its row's is refused 14, wherever it is lent.
 use mathlib.Core.Path.{_≡_, ap, ap₂, _∙_}
-use mathlib.Core.Bool.{Bool, true, false, cond, _&&_}
+use mathlib.Core.Bool.{Bool, true, false, _&&_}
 use mathlib.Core.List.{List, []}
 use mathlib.Core.Option.{Option, some}
 use Prim.Native.Nat.{ℕ, _≤_, _<_}
@@ -11,17 +11,18 @@ use Rattle.parties.specs.protocol.Format.{Read}
 use Rattle.parties.specs.protocol.Measures.{passes}
 use Rattle.parties.specs.protocol.Directory.{Content, Row, readDirectory}
 use Rattle.parties.specs.protocol.Owner.{ownFields, ownRows}
-use Rattle.parties.specs.protocol.Verdict.{sound, broken, byOwner, recordVerdict, rowsVerdict}
+use Rattle.parties.specs.protocol.Verdict.{sound, broken, recordVerdict, rowsVerdict}
 use Rattle.parties.specs.protocol.Client.{Client, readClient, clientSize}
 use Rattle.parties.specs.protocol.Answer.{refused, refuses}
 use Rattle.parties.specs.protocol.DirectoryEvents.{directorySize, onTable, directoryUpdate, scanned, directoryScan}
 use Rattle.parties.specs.protocol.ClientEvents.{roomSize, unchanged, after, onClient, onRows, scannedAt, scanAnswer}
 use Rattle.parties.specs.protocol.Foreign.{HasForeign, Foreign}
 use Rattle.parties.proofs.protocol.model.Cells.{and-none}
+use Rattle.parties.proofs.protocol.formats.OwnerLaws.{owner-verdict}
 
 -- its verdict
 foreign-verdict : (s : Measures) (table : List ℕ) → HasForeign s table → rowsVerdict s table ≡ broken 14
-foreign-verdict s table h = ap byOwner (h .1) ∙ ap (λ (b : Bool). cond b (sound (h .0)) (broken 14)) (h .2)
+foreign-verdict s table h = owner-verdict (readDirectory s table) (h .0) false (h .1) (h .2)
 
 module _ (s : Measures) (p : passes s ≡ true) where
   -- where the table reads and the record is sound, the owners decide

@@ -1,6 +1,6 @@
 -- Answers of directory calls: what an update's and a scan's answer do where record and rows read, their refusals, and messages sent to nodes.
 use mathlib.Core.Path.{_≡_, refl, sym, ap, _∙_}
-use mathlib.Core.Bool.{Bool, true, cond}
+use mathlib.Core.Bool.{Bool, true}
 use mathlib.Core.List.{List, [], _∷_, _++_, map-append}
 use mathlib.Core.Option.{Option, some}
 use Prim.Native.Nat.{ℕ, _≤_, _<_}
@@ -8,15 +8,16 @@ use borrow.Author.Tests.{ne-eqb, le-leb, lt-leb, lt-ltb}
 use lib.ListN.{length}
 use Rattle.parties.specs.declared.Measures.{Measures}
 use Rattle.parties.specs.protocol.Measures.{passes}
-use Rattle.parties.specs.protocol.Directory.{writeDirectory}
+use Rattle.parties.specs.protocol.Directory.{readDirectory, writeDirectory}
 use Rattle.parties.specs.protocol.Owner.{ownRows}
-use Rattle.parties.specs.protocol.Verdict.{sound, broken, byOwner, rowsVerdict}
+use Rattle.parties.specs.protocol.Verdict.{rowsVerdict}
 use Rattle.parties.specs.protocol.Message.{ToNode, writeToNode}
 use Rattle.parties.specs.protocol.Answer.{refused}
 use Rattle.parties.specs.protocol.ClientEvents.{ClientEnd, acknowledgedAt, scannedAt, after, unchanged, onClient}
 use Rattle.parties.specs.protocol.ClientEvents.{onRows, roomSize, updateAnswer, scanAnswer, messageTo}
 use Rattle.parties.specs.protocol.Run.{State, Event, hand, Return, byClient, returned, sends, sentTo, upd}
 use Rattle.parties.proofs.protocol.formats.EachLaws.{each-append}
+use Rattle.parties.proofs.protocol.formats.OwnerLaws.{owner-verdict}
 use Rattle.parties.proofs.protocol.formats.MessageLaws.{GoodToNode}
 use Rattle.parties.proofs.protocol.model.Model.{Rows, Turn, Model, turned}
 use Rattle.parties.proofs.protocol.steps.View.{Shows, Follows, ClientShows, ToNodeShows, GoodRows, phaseOf, clientAt, rowsAt}
@@ -74,11 +75,8 @@ module _ (z : Measures) (honest : ℕ → Bool) (passed : passes z ≡ true) (st
         (ap (λ r. onClient z (st .clients c) room [] r
         (λ x. onRows (rowsVerdict z (writeDirectory z (rowsAt z a))) (λ rows. scannedAt z c x room rows (x .phase))))
         (record-reads z honest st s o passed c l)
-        ∙ ap (λ r. after z (st .clients c) room [] []
-        (onRows (byOwner r) (λ rows. scannedAt z c (clientAt z (s .c) c) room rows (phaseOf z (s .c .turn c))))) (read-rows z a good)
-        ∙ ap (λ (x : Bool). after z (st .clients c) room [] []
-        (onRows (cond x (sound (record { value = rowsAt z a; rest = [] })) (broken 14))
-        (λ rows. scannedAt z c (clientAt z (s .c) c) room rows (phaseOf z (s .c .turn c))))) own)
+        ∙ ap (λ v. after z (st .clients c) room [] [] (onRows v (λ rows. scannedAt z c (clientAt z (s .c) c) room rows (phaseOf z (s .c .turn c)))))
+        (owner-verdict (readDirectory z (writeDirectory z (rowsAt z a))) _ true (read-rows z a good) own))
 
     pub scan-short : (a : Rows) → GoodRows z a → length room < roomSize z
         → scanAnswer z c (st .clients c) (writeDirectory z (rowsAt z a)) room ≡ unchanged (refused 2) (st .clients c) room []

@@ -6,7 +6,7 @@ use mathlib.Core.List.{List, [], _∷_}
 use mathlib.Core.Option.{Option, some, none}
 use Prim.Native.Nat.{ℕ, zero, suc, _+_, _^_, _<_}
 use native.Mathlib.Omega.{arith}
-use borrow.Author.Tests.{eqb-true, leb-true}
+use borrow.Author.Tests.{eq-eqb, eqb-true, leb-true}
 use lib.Dec.{leb, eqb, ltb}
 use lib.ListN.{length, getD, set, replicate, length-set}
 use lib.Seq.{getD-set-same, getD-set-other}
@@ -54,6 +54,14 @@ row-pointers test r = go (test (r .written)) (allPointers test (r .frozen))
     go true true = refl
     go true false = refl
     go false b = refl
+
+-- a client's own
+pub client-own : (p : ℕ) (x : Pointer) → x .version .client ≡ p → ownPointer p x ≡ true
+client-own p x e = go (isNone x) (eqb (x .version .client) p) (eq-eqb (x .version .client) p e)
+  where
+    go : (a b : Bool) → b ≡ true → (a || b) ≡ true
+    go true b q = refl
+    go false b q = q
 
 -- ---- row by row
 
@@ -202,8 +210,13 @@ module _ (s : Measures) (l : List Row) (good : Each (FitsRow s) l) (own : ownRow
             let ky = kept-candidate q c i b in both-none s p q _ _ (kx .0) (ky .0) (kx .1) (ky .1) e (λ d. omega arith);
       }
 
+-- rows that read
+pub owner-verdict : (o : Option (Read (List Row))) (r : Read (List Row)) (b : Bool) → o ≡ some r → ownRows 0 (r .value) ≡ b
+    → byOwner o ≡ cond b (sound r) (broken 14)
+owner-verdict o r b e f = ap byOwner e ∙ ap (λ (c : Bool). cond c (sound r) (broken 14)) f
+
 -- rows that are not refused
-pub verdict-own : (o : Option (Read (List Row))) (r : Read (List Row)) → byOwner o ≡ sound r → (o ≡ some r) × (ownRows 0 (r .value) ≡ true)
+verdict-own : (o : Option (Read (List Row))) (r : Read (List Row)) → byOwner o ≡ sound r → (o ≡ some r) × (ownRows 0 (r .value) ≡ true)
 verdict-own none r e = absurd (none≢some (ap shown e))
 verdict-own (some x) r e = go (ownRows 0 (x .value)) refl e
   where

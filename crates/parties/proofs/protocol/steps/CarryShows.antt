@@ -18,8 +18,8 @@ use Rattle.parties.specs.protocol.Format.{whole}
 use Rattle.parties.specs.protocol.Measures.{passes}
 use Rattle.parties.specs.protocol.Pointer.{Pointer, allPointers}
 use Rattle.parties.specs.protocol.Directory.{Content, Row, noRow, readRecord, writeRecord, readDirectory, writeDirectory, updateRow, merge, mapOf, allFields}
-use Rattle.parties.specs.protocol.Owner.{ownPointer, ownFields, ownRows}
-use Rattle.parties.specs.protocol.Verdict.{byOwner, recordVerdict}
+use Rattle.parties.specs.protocol.Owner.{ownFields, ownRows}
+use Rattle.parties.specs.protocol.Verdict.{recordVerdict}
 use Rattle.parties.specs.protocol.Client.{Phase, Client, writeClient}
 use Rattle.parties.specs.protocol.Deposit.{depositFields}
 use Rattle.parties.specs.protocol.Reading.{readingFields}
@@ -29,12 +29,11 @@ use Rattle.parties.specs.protocol.DirectoryEvents.{DirectoryEnd, directo
 use Rattle.parties.specs.protocol.Run.{History, Call, scanCall, updateCall, Return, updated, rows, State, byServer, upd}
 use Rattle.parties.specs.protocol.Run.{tick, putBy as putsOf, putIn, stays, carries, carry, carryOut}
 use Rattle.parties.proofs.protocol.model.Cells.{by-eq}
-use Rattle.parties.proofs.protocol.formats.EachLaws.{each-tabulate}
 use Rattle.parties.proofs.protocol.formats.PointerLaws.{GoodPointer}
 use Rattle.parties.proofs.protocol.formats.DirectoryLaws.{GoodIndex, GoodRecord, format-record}
 use Rattle.parties.proofs.protocol.formats.VerdictLaws.{as-before}
 use Rattle.parties.proofs.protocol.formats.RowLaws.{GoodRow, update-good}
-use Rattle.parties.proofs.protocol.formats.OwnerLaws.{pointers-pass}
+use Rattle.parties.proofs.protocol.formats.OwnerLaws.{owner-verdict}
 use Rattle.parties.proofs.protocol.formats.MessageLaws.{message-whole}
 use Rattle.parties.proofs.protocol.formats.ClientLaws.{GoodClient}
 use Rattle.parties.proofs.protocol.model.Model.{Rows, Turn, Shown, Model, Next, Marks, Quiet, rowsOf, turned, published, putBy, raisedTo}
@@ -42,7 +41,7 @@ use Rattle.parties.proofs.protocol.invariants.Invariants.{Own}
 use Rattle.parties.proofs.protocol.invariants.OwnedKept.{forming-known, rows-known}
 use Rattle.parties.proofs.protocol.invariants.Invariant.{Invariant}
 use Rattle.parties.proofs.protocol.steps.View.{Shows, Follows, ClientShows, DirectoryShows, GoodRows, GoodTurn, phaseOf, clientAt, rowAt, rowsAt, callsOf, returnsOf}
-use Rattle.parties.proofs.protocol.steps.ViewLaws.{sane-quiet, others-turned, rows-turned, read-rows, length-rows, own-pointer, rows-own}
+use Rattle.parties.proofs.protocol.steps.ViewLaws.{sane-quiet, others-turned, rows-turned, read-rows, length-rows, own-pointer, own-pointers, rows-own}
 use Rattle.parties.proofs.protocol.steps.ViewLaws.{ordinary, silent-follows, refused-follows, quiet-shown}
 
 -- ---- an update of a row
@@ -191,7 +190,7 @@ module _ (z : Measures) (honest : ℕ → Bool) (passed : passes z ≡ true) (st
     unfolding directoryScan answered
     scan-long h =
         simp (passed, long, le-leb (directorySize z) (length room) h)
-        (ap (λ r. scanned z (st .directory) room (byOwner r)) table-read ∙ simp table-own)
+        (ap (scanned z (st .directory) room) (owner-verdict (readDirectory z (st .directory)) _ true table-read table-own))
 
     scan-short : length room < directorySize z
         → directoryScan z (st .directory) room ≡ record { answer = refuses 2; table = st .directory; room = room }
@@ -313,11 +312,7 @@ module _ (z : Measures) (honest : ℕ → Bool) (passed : passes z ≡ true) (st
   unfolding allFields allPointers
   deposit-owns x l e =
       let k = forming-known (s .p) (s .c) c x (subst (Own z (s .p) (s .c) c) e (inv .owned .own c l)) in
-      simp (
-        own-pointer (s .p) c x k,
-        pointers-pass (ownPointer c) (tabulate (z .m) (s .c .frozen c))
-            (each-tabulate (λ y. ownPointer c y ≡ true) (z .m) (s .c .frozen c) (λ q b. own-pointer (s .p) c (s .c .frozen c q) (inv .owned .frozen c q l .0))),
-      )
+      simp (own-pointer (s .p) c x k, own-pointers (s .p) c (z .m) (s .c .frozen c) (λ q. inv .owned .frozen c q l .0))
 
   reading-owns : (i : ReadingIndex) → ownFields c (readingFields i) ≡ true
   unfolding allFields allPointers

@@ -1,7 +1,7 @@
 -- How the bytes of a run show a model: records and rows read back, and what all events have in common.
 use mathlib.Core.Path.{_≡_, refl, sym, ap, subst, _∙_}
 use mathlib.Core.Bool.{Bool, true, false, cond, not, _&&_, _||_, true≢false}
-use mathlib.Core.List.{List, [], _∷_, _++_, append-nil}
+use mathlib.Core.List.{List, [], _++_, append-nil}
 use mathlib.Core.Option.{Option, some, none}
 use Prim.Native.Nat.{ℕ, _+_, _≤_, _<_}
 use native.Mathlib.Omega.{arith}
@@ -13,7 +13,7 @@ use Rattle.coding.proofs.BytesLaws.{length-tabulate, getD-tabulate}
 use Rattle.coding.proofs.PageLaws.{none≢some, some-eq}
 use Rattle.parties.specs.declared.Measures.{Measures}
 use Rattle.parties.specs.protocol.Measures.{passes, rowSize}
-use Rattle.parties.specs.protocol.Pointer.{Pointer, isNone, allPointers}
+use Rattle.parties.specs.protocol.Pointer.{Pointer, allPointers}
 use Rattle.parties.specs.protocol.Directory.{noRow, writeRow, readDirectory, writeDirectory}
 use Rattle.parties.specs.protocol.Owner.{ownPointer, ownRow, ownRows}
 use Rattle.parties.specs.protocol.Client.{Client, readClient, writeClient, clientSize}
@@ -27,7 +27,7 @@ use Rattle.parties.proofs.protocol.model.Cells.{by-eq, upd-same}
 use Rattle.parties.proofs.protocol.formats.FormatLaws.{Each}
 use Rattle.parties.proofs.protocol.formats.EachLaws.{each-tabulate}
 use Rattle.parties.proofs.protocol.formats.RowLaws.{FitsRow, format-directory, length-directory, row-fits}
-use Rattle.parties.proofs.protocol.formats.OwnerLaws.{pointers-pass, own-rows}
+use Rattle.parties.proofs.protocol.formats.OwnerLaws.{client-own, pointers-pass, own-rows}
 use Rattle.parties.proofs.protocol.formats.ClientLaws.{GoodPhase, GoodClient, client-back, length-client}
 use Rattle.parties.proofs.protocol.model.Model.{Rows, Turn, Clients, Nodes, Past, Model, Next, Quiet, rowsOf, turned, raisedBy}
 use Rattle.parties.proofs.protocol.model.Model.{frozenBy, putBy, raisedTo, shownWritten, shownReading}
@@ -66,11 +66,11 @@ module _ (z : Measures) (a : Rows) (good : GoodRows z a) where
 
 pub own-pointer : (p : Past) (w : ℕ) (x : Pointer) → Known p w x → ownPointer w x ≡ true
 own-pointer p w x (Known.absent e) = ap (ownPointer w) e
-own-pointer p w x (Known.formed d e c h) = go (isNone x) (eqb (x .version .client) w) (eq-eqb (x .version .client) w c)
-  where
-    go : (a b : Bool) → b ≡ true → (a || b) ≡ true
-    go true b q = refl
-    go false b q = q
+own-pointer p w x (Known.formed d e c h) = client-own w x c
+
+pub own-pointers : (p : Past) (w n : ℕ) (f : ℕ → Pointer) → ((q : ℕ) → Known p w (f q)) → allPointers (ownPointer w) (tabulate n f) ≡ true
+own-pointers p w n f h =
+    pointers-pass (ownPointer w) (tabulate n f) (each-tabulate (λ x. ownPointer w x ≡ true) n f (λ q b. own-pointer p w (f q) (h q)))
 
 pub rows-own : (z : Measures) (p : Past) (a : Rows) → KnownRows z p a → ownRows 0 (rowsAt z a) ≡ true
 unfolding allPointers
@@ -79,10 +79,7 @@ rows-own z p a h =
     let l : w < z .m = rw (length-tabulate (z .m) (rowAt z a)) at b in
     let k = h w l in
     ap (ownRow w) (getD-tabulate (z .m) (rowAt z a) w noRow l)
-    ∙ pointers-pass (ownPointer w) (a .written w ∷ tabulate (z .m) (a .frozen w)) (
-      own-pointer p w (a .written w) (k .0),
-      each-tabulate (λ x. ownPointer w x ≡ true) (z .m) (a .frozen w) (λ q i. own-pointer p w (a .frozen w q) (k .1 q)),
-    ))
+    ∙ simp (own-pointer p w (a .written w) (k .0), own-pointers p w (z .m) (a .frozen w) (k .1)))
 
 -- ---- an event that changes nothing
 
