@@ -21,4 +21,4 @@ pub mod RoundTrip
 pub mod CutAlone
 pub mod EdgeCases
 pub mod Sha256Laws
-pub mod DigestLaws
+pub mod PlacedLaws

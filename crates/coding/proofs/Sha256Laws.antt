@@ -1,16 +1,16 @@
 -- Laws of the definitions of specs/Sha256, over plain numbers and lists, that the functions' proofs cite.
 use mathlib.Core.Path.{_≡_, refl, sym, ap, _∙_}
-use mathlib.Core.List.{List, [], _∷_, _++_}
+use mathlib.Core.List.{List, [], _∷_, _++_, append-assoc}
 use Prim.{Dec, yes, no}
 use Prim.Native.Nat.{ℕ, zero, suc, _+_, _*_, _-_, _/_, _%_, _^_, _≤_, _<_}
 use native.Mathlib.Nat.{add-assoc}
 use native.Mathlib.Numerals.{add-one}
 use native.Mathlib.Decide.{decLt}
 use native.Mathlib.Omega.{arith}
-use lib.ListN.{length, take, set, replicate, length-append, length-replicate, getD-replicate, List·getD-append}
+use lib.ListN.{length, take, set, replicate, length-append, length-replicate, getD-replicate, List·getD-append, List·getD-eq-default}
 use lib.Pow.{shr-shr}
-use lib.Seq.{take-suc-set, getD-take, getD-set-same, getD-set-other, getD-append-seam, getD-append-add, length-take-le}
-use Rattle.coding.specs.Sha256.{_!_, bytes, padded, word, words, scheduled, extended, schedule, K, round, rounds, compress, hash, joined, H₀, sha256}
+use lib.Seq.{take-suc-set, getD-take, getD-set-same, getD-set-other, getD-append-add, length-take-le}
+use Rattle.coding.specs.Sha256.{_!_, bytes, padding, padded, word, words, scheduled, extended, schedule, K, round, rounds, compress, hash, joined, H₀, sha256}
 
 -- a store right behind the first i elements
 stored : (l : List ℕ) (i a : ℕ) → i < length l → take (i + 1) (set l i a) ≡ take i l ++ (a ∷ [])
@@ -66,7 +66,7 @@ pub hash-turn : (h s g m r : List ℕ) (i : ℕ) → g ≡ hash h s i → m ≡ 
 unfolding hash
 hash-turn h s g m r i o b e = rw add-one (e ∙ rw (o, b) refl)
 
-beyond : (a b : List ℕ) (i k : ℕ) → i ≡ length a + k → (a ++ b) ! i ≡ b ! k
+pub beyond : (a b : List ℕ) (i k : ℕ) → i ≡ length a + k → (a ++ b) ! i ≡ b ! k
 beyond a b i k q = rw q (getD-append-add a b k 0)
 
 -- bytes, the highest first
@@ -114,40 +114,88 @@ length-joined (x ∷ h) =
     length-append (bytes 4 x) (joined h) ∙ omega (arith, length-bytes 4 x, length-joined h)
 
 -- 5.1.1
-module _ (m : List ℕ) where
-  pub length-padded : length (padded m) ≡ length m + 9 + (119 - length m % 64) % 64
-  unfolding padded
-  length-padded = simp (length-append, length-replicate, length-bytes) (omega arith)
+module _ (n : ℕ) where
+  pub length-padding : length (padding n) ≡ 9 + (119 - n % 64) % 64
+  unfolding padding
+  length-padding = simp (length-append, length-replicate, length-bytes) (omega arith)
 
-  pub padded-message : (i : ℕ) → i < length m → padded m ! i ≡ m ! i
-  unfolding padded
-  padded-message i h = List·getD-append m _ 0 i h
+  padding-one : padding n ! 0 ≡ 0x80
+  unfolding padding
+  padding-one = refl
 
-  pub padded-one : padded m ! length m ≡ 0x80
-  unfolding padded
-  padded-one = getD-append-seam m _ _ 0
+  padding-zero : (i : ℕ) → 0 < i → i + 8 < length (padding n) → padding n ! i ≡ 0
+  unfolding padding
+  padding-zero zero g h = absurd (omega arith)
+  padding-zero (suc i) g h =
+      let z = (119 - n % 64) % 64 in
+      let l : i < z = omega (arith, length-padding) in
+      List·getD-append (replicate z 0) _ 0 i (rw length-replicate l) ∙ getD-replicate z i 0 0 l
 
-  zero-at : (k : ℕ) → k < (119 - length m % 64) % 64 → padded m ! (length m + suc k) ≡ 0
-  unfolding padded
-  zero-at k h =
-      let z = (119 - length m % 64) % 64 in
-      getD-append-add m _ (suc k) 0
-      ∙ List·getD-append (replicate z 0) _ 0 k (rw length-replicate h)
-      ∙ getD-replicate z k 0 0 h
+  padding-length : (i j : ℕ) → i + j + 1 ≡ length (padding n) → j < 8
+      → padding n ! i ≡ (n * 8) % 2 ^ 64 / 2 ^ (8 * j) % 256
+  unfolding padding
+  padding-length zero j q h = absurd (omega (arith, length-padding))
+  padding-length (suc i) j q h =
+      let z = (119 - n % 64) % 64 in
+      let e : i ≡ z + (7 - j) = omega (arith, length-padding) in
+      beyond (replicate z 0) _ i (7 - j) (rw length-replicate e)
+      ∙ bytes-at 8 ((n * 8) % 2 ^ 64) (7 - j) j (omega arith)
 
-  pub padded-zero : (i : ℕ) → length m < i → i + 8 < length (padded m) → padded m ! i ≡ 0
-  padded-zero i g h =
-      let q : length m + suc (i - length m - 1) ≡ i = omega arith in
-      rw q at (zero-at (i - length m - 1) (omega (arith, length-padded)))
+  -- it ends a block
+  padding-whole : (a : ℕ) → n % 64 ≡ a % 64 → (a % 64 + length (padding n)) % 64 ≡ 0
+  padding-whole a h = omega (arith, length-padding)
 
-  pub padded-length : (i j : ℕ) → i + j + 1 ≡ length (padded m) → j < 8
-      → padded m ! i ≡ (length m * 8) % 2 ^ 64 / 2 ^ (8 * j) % 256
-  unfolding padded
-  padded-length i j q h =
-      let z = (119 - length m % 64) % 64 in
-      beyond m _ i (suc (z + (7 - j))) (omega (arith, length-padded))
-      ∙ beyond (replicate z 0) _ (z + (7 - j)) (7 - j) (rw length-replicate refl)
-      ∙ bytes-at 8 ((length m * 8) % 2 ^ 64) (7 - j) j (omega arith)
+  -- the length counts modulo 2 ^ 64
+  padding-wraps : padding (n % 2 ^ 64) ≡ padding n
+  unfolding padding
+  padding-wraps =
+      let a : n % 2 ^ 64 % 64 ≡ n % 64 = omega arith in
+      let b : n % 2 ^ 64 * 8 % 2 ^ 64 ≡ n * 8 % 2 ^ 64 = omega arith in
+      rw (a, b)
+
+-- what follows the whole blocks of s
+pub rest-law : (s b : List ℕ) (from n : ℕ) → length s ≡ from + n → ((j : ℕ) → j < n → b ! j ≡ s ! (from + j))
+    → ((j : ℕ) → n ≤ j → b ! j ≡ 0) → (j : ℕ) → b ! j ≡ s ! (from + j)
+rest-law s b from n q o z j = go (decLt j n)
+  where
+    go : Dec (j < n) → b ! j ≡ s ! (from + j)
+    go (yes y) = o j y
+    go (no h) =
+        let e : length s ≤ from + j = omega arith in
+        z j (omega arith) ∙ sym (List·getD-eq-default s 0 e)
+
+-- and the padding behind it: all but the length stands once the one bit is stored
+module _ (s : List ℕ) (n e : ℕ) (ends : e ≡ length s % 64 + length (padding n)) where
+  pub last-start : (b : List ℕ) → length b ≡ 128 → ((j : ℕ) → b ! j ≡ s ! (length s / 64 * 64 + j))
+      → (j : ℕ) → j < e - 8 → set b (length s % 64) 0x80 ! j ≡ (s ++ padding n) ! (length s / 64 * 64 + j)
+  last-start b l o j h = go (decLt j r) (decLt r j)
+    where
+      r : ℕ
+      r = length s % 64
+
+      i : ℕ
+      i = length s / 64 * 64 + j
+
+      go : Dec (j < r) → Dec (r < j) → set b r 0x80 ! j ≡ (s ++ padding n) ! i
+      go (yes y) d = getD-set-other b r j 0x80 0 (λ q. omega arith) ∙ o j ∙ sym (List·getD-append s (padding n) 0 i (omega arith))
+      go (no a) (yes y) =
+          let f : length s ≤ i = omega arith in
+          getD-set-other b r j 0x80 0 (λ q. omega arith)
+          ∙ o j
+          ∙ List·getD-eq-default s 0 f
+          ∙ sym (beyond s (padding n) i (j - r) (omega arith) ∙ padding-zero n (j - r) (omega arith) (omega arith))
+      go (no a) (no d) =
+          let q : j ≡ r = omega arith in
+          ap (λ (x : ℕ). set b r 0x80 ! x) q
+          ∙ getD-set-same b r 0x80 0 (omega arith)
+          ∙ sym (beyond s (padding n) i 0 (omega arith) ∙ padding-one n)
+
+  pub last-length : (j : ℕ) → e ≤ j + 8 → j < e
+      → (s ++ padding n) ! (length s / 64 * 64 + j) ≡ (n * 8) % 2 ^ 64 / 2 ^ (8 * (e - 1 - j)) % 256
+  last-length j g h =
+      let i = j - length s % 64 in
+      let r : length s % 64 ≤ j = omega (arith, length-padding n) in
+      beyond s (padding n) (length s / 64 * 64 + j) i (omega arith) ∙ padding-length n i (e - 1 - j) (omega arith) (omega arith)
 
 -- words of the same bytes are the same
 words-same : (a b : List ℕ) (x y n : ℕ) → ((j : ℕ) → j < 4 * n → a ! (x + j) ≡ b ! (y + j)) → words a x n ≡ words b y n
@@ -178,22 +226,43 @@ hash-more h m b q (suc n) e =
     (words-same m b (64 * (q + n)) (64 * n) 16
     (λ j l. let f : 64 * (q + n) + j ≡ 64 * q + (64 * n + j) = omega arith in rw f (e (64 * n + j) (omega arith)))))
 
--- the hash value of a message whose bytes after the whole blocks, with the padding, are the first e of b
-pub digest-law : (s b : List ℕ) (e : ℕ) → length s / 64 * 64 + e ≡ length (padded s) → length b ≡ 128
-    → ((j : ℕ) → j < e → b ! j ≡ padded s ! (length s / 64 * 64 + j))
-    → joined (hash (hash H₀ s (length s / 64)) (take e b) (length (take e b) / 64)) ≡ sha256 s
-unfolding sha256 hash
-digest-law s b e p l o =
+-- the hash value after n blocks that two messages share
+hash-same : (h m b : List ℕ) (n : ℕ) → ((j : ℕ) → j < 64 * n → m ! j ≡ b ! j) → hash h m n ≡ hash h b n
+unfolding hash
+hash-same h m b n e =
+    let z : 0 + n ≡ n = omega arith in
+    rw z at (hash-more h m b 0 n (λ j l. let f : 64 * 0 + j ≡ j = omega arith in rw f (e j l)))
+
+-- whole blocks, and then n blocks of what follows them
+hash-append : (h b u : List ℕ) (n : ℕ) → length b % 64 ≡ 0
+    → hash h (b ++ u) (length b / 64 + n) ≡ hash (hash h b (length b / 64)) u n
+hash-append h b u n w =
+    let q = length b / 64 in
+    hash-more h (b ++ u) u q n (λ j l. beyond b u (64 * q + j) j (omega arith))
+    ∙ ap (λ (g : List ℕ). hash g u n) (hash-same h (b ++ u) b q (λ j l. List·getD-append b u 0 j (omega arith)))
+
+blocks-of : (a s e x : ℕ) → a % 64 ≡ 0 → e % 64 ≡ 0 → x ≡ a + (s / 64 * 64 + e) → x / 64 ≡ a / 64 + (s / 64 + e / 64)
+blocks-of a s e x h k q = omega arith
+
+-- the digest of whole blocks b and then s, where the first e bytes of t are what follows the whole blocks of s, with the padding
+pub digest-law : (b s t : List ℕ) (n e : ℕ) → length b % 64 ≡ 0 → n ≡ (length b + length s) % 2 ^ 64
+    → e ≡ length s % 64 + length (padding n) → length t ≡ 128
+    → ((j : ℕ) → j < e → t ! j ≡ (s ++ padding n) ! (length s / 64 * 64 + j))
+    → joined (hash (hash (hash H₀ b (length b / 64)) s (length s / 64)) (take e t) (length (take e t) / 64)) ≡ sha256 (b ++ s)
+unfolding sha256 padded
+digest-law b s t n e w m p l o =
     let q = length s / 64 in
-    let n = e / 64 in
-    let f : e ≤ length b = omega (arith, length-padded s) in
-    let c : length (padded s) / 64 ≡ q + n = omega (arith, length-padded s) in
-    let w : hash H₀ (padded s) (0 + q) ≡ hash H₀ s q =
-    hash-more H₀ (padded s) s 0 q
-    (λ j h. let z : 64 * 0 + j ≡ j = omega arith in rw z (padded-message s j (omega arith))) in
-    let z : 0 + q ≡ q = omega arith in
+    let u = s ++ padding n in
+    let f : e ≤ length t = omega (arith, length-padding n) in
+    let g : padding (length (b ++ s)) ≡ padding n = rw (length-append b s, m) (sym (padding-wraps (length b + length s))) in
+    let k : e % 64 ≡ 0 = rw p (padding-whole n (length s) (omega arith)) in
+    let c : length (b ++ u) / 64 ≡ length b / 64 + (q + e / 64) =
+    blocks-of (length b) (length s) e (length (b ++ u)) w k (omega (arith, length-append b u, length-append s (padding n))) in
     ap joined
-    (rw (length-take-le e b f, c, ← w, z)
-    (sym (hash-more H₀ (padded s) (take e b) q n
-    (λ j h. let m : length s / 64 * 64 + j ≡ 64 * q + j = omega arith in
-    sym (getD-take e b j 0 (omega arith) ∙ o j (omega arith) ∙ ap (λ (x : ℕ). padded s ! x) m)))))
+    (rw (g, append-assoc b s (padding n), c, length-take-le e t f)
+    (sym (hash-append H₀ b u (q + e / 64) w
+    ∙ hash-more (hash H₀ b (length b / 64)) u (take e t) q (e / 64)
+    (λ j h. let d : length s / 64 * 64 + j ≡ 64 * q + j = omega arith in
+    sym (getD-take e t j 0 (omega arith) ∙ o j (omega arith) ∙ ap (λ (x : ℕ). u ! x) d))
+    ∙ ap (λ (x : List ℕ). hash x (take e t) (e / 64))
+    (hash-same (hash H₀ b (length b / 64)) u s q (λ j h. List·getD-append s (padding n) 0 j (omega arith))))))

@@ -14,5 +14,5 @@ pub mod Output
 pub mod Join
 pub mod Alone
 pub mod Sha256
-pub mod Digest
+pub mod Placed
 pub mod Edges

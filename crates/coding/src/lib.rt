@@ -8,7 +8,9 @@ mod lanes;
 mod measures;
 mod nodes;
 mod output;
+mod placed;
 mod sha256;
 pub mod split;
 
+pub use placed::digest_placed;
 pub use sha256::digest;

@@ -5,13 +5,13 @@ use coding::answer::Refusal;
 use coding::answer::SplitAnswer;
 ghost use mathlib.Core.Path.{_≡_};
 ghost use Prim.Native.Nat.{_≤_};
-ghost use lib.ListN.{length};
+ghost use lib.ListN.{length, take};
 ghost use lib.Seq.{paste};
 ghost use Rattle.coding.specs.Answer.{refuses, number, splitOutcome, joinOutcome};
 ghost use Rattle.coding.specs.Split.{split, cut};
 ghost use Rattle.coding.specs.Join.{join};
 ghost use Rattle.coding_export.specs.Code.{code};
-ghost use Rattle.coding_export.specs.Digest.{digest};
+ghost use Rattle.coding_export.specs.Digest.{digest, digestPlaced};
 
 fn refused(r: Refusal) -> u64
     ensures { λ c. ⌜ c ≡ code (refuses (number r)) ⌝ }
@@ -51,6 +51,13 @@ fn put(d: [u8; 32], out: &mut [u8])
     for i in 0..32 {
         out[i] = d[i];
     }
+}
+
+fn version_bytes(version: &[u8]) -> [u8; 5]
+    requires { ⌜ 5 ≤ length (now version) ⌝ }
+    ensures { λ r. ⌜ r ≡ take 5 (now (version .entry)) ⌝ }
+{
+    [version[0], version[1], version[2], version[3], version[4]]
 }
 
 #[no_mangle]
@@ -101,5 +108,28 @@ pub extern "C" fn coding_digest(s: &[u8], out: &mut [u8]) -> u64
         return refused(Refusal::Short);
     }
     put(coding::digest(s), out);
+    0
+}
+
+#[no_mangle]
+pub extern "C" fn coding_digest_placed(
+    version: &[u8],
+    node: u8,
+    piece: &[u8],
+    out: &mut [u8],
+) -> u64
+    ensures { λ c. ⌜ (c ≡ code (digestPlaced (now (version .entry)) node (now (piece .entry)) (now (out .entry)) .outcome))
+        × (now (out .exit) ≡ digestPlaced (now (version .entry)) node (now (piece .entry)) (now (out .entry)) .out) ⌝ }
+{
+    if version.len() < 5 {
+        return refused(Refusal::Short);
+    }
+    if out.len() < 32 {
+        return refused(Refusal::Short);
+    }
+    put(
+        coding::digest_placed(version_bytes(version), node, piece),
+        out,
+    );
     0
 }

@@ -9,17 +9,20 @@ use Rattle.sha256_vectors.proofs.first.Tie as tie
 pattern-requires : tie.Need-pattern-requires
 pattern-requires c κs = search needs
 
-print-decimal-requires : tie.Need-print-decimal-requires
-print-decimal-requires c κs = search needs
+number-requires : tie.Need-number-requires
+number-requires c κs = search needs
 
 array-share-prefix-p : tie.Need-array-share-prefix-p
 array-share-prefix-p c = search needs
 
-slice-aggregate-end-line : tie.Need-slice-aggregate-end-line
-slice-aggregate-end-line c =
+slice-aggregate-digest : tie.Need-slice-aggregate-digest
+slice-aggregate-digest c =
     let p = c .before .before .pattern .result in
     let l : length p ≡ 5000 = search needs in
     sym (length-take-le (c .before .before .before .args .n) p (omega arith))
+
+digest-requires : tie.Need-digest-requires
+digest-requires c κs = search needs
 
 end-line-requires : tie.Need-end-line-requires
 end-line-requires c κs = search needs
@@ -32,8 +35,9 @@ first-spec =
     tie.close
     (tie.spec
     pattern-requires
-    print-decimal-requires
+    number-requires
     array-share-prefix-p
-    slice-aggregate-end-line
+    slice-aggregate-digest
+    digest-requires
     end-line-requires
     returns)
