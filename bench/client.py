@@ -1,11 +1,12 @@
 #!/usr/bin/env python3
-"""An independent account of the client of documents 01 and 02 (k), and the vectors that the proved one is held to.
+"""An independent account of the client of documents 01 and 02 (i), (k), and the vectors that the proved one is held to.
 
     client.py FOLDER    writes FOLDER/stdin (calls, in binary) and FOLDER/stdout (what each must print)
 
 Written from document 01 and the source's Algorithms 1 and 2, with the bytes of records, messages and rooms from docs/DECISIONS.md (21 to 33) and the
 record's layout from crates/parties/specs/protocol/Client.antt. It shares no code with the definitions or the proved client, joins pieces by Lagrange's form
 and takes SHA-256 from Python; directory and nodes are reference.py's.
+By document 02 (i) a digest is taken over version, node and piece, in deposits and in readings; one over the piece alone, as before, never matches.
 Eight records of 71,680 bytes, at first `poison`, are kept from call to call: step (1 byte), reading index (4), then the area. A call in stdin, high
 bytes first: kind (1 byte), whether the record after it is kept (1), the record's number (1), m n k t F, the client's and the node's number (2 each),
 the lengths lent of the area, of a room and of an output filled with `poison` (4 each), a place of the record (4) and what its byte is changed by (1;
@@ -116,8 +117,9 @@ def join(s, pieces):
     return frame[4:4 + size]
 
 
-def digest(piece):
-    return hashlib.sha256(piece).digest()
+def digest(version, node, piece):
+    """Of a piece in its place: the version (5 bytes), the node (1), the piece."""
+    return hashlib.sha256(struct.pack('>IBB', *version, node) + piece).digest()
 
 
 # The record
@@ -291,7 +293,7 @@ def draw(s, own, c, rows, room):
     if highest == LAST:
         return 'spent', room
     version, pieces = (highest + 1, own), cut(s, page)
-    c.step, c.work = STORING, [version, set(), [digest(p) for p in pieces]]
+    c.step, c.work = STORING, [version, set(), [digest(version, i, p) for i, p in enumerate(pieces, 1)]]
     room = front(room, b'\1' + write_version(version))
     for i, p in enumerate(pieces):
         at = 6 + i * s.f
@@ -362,7 +364,7 @@ def reply(s, node, c, version, piece, out):
     if version != pointer[:2] or node not in named or node in counted:
         return 'waits', out
     counted.add(node)
-    if piece is not None and 1 <= len(piece) <= s.f and digest(piece) == pointer[3][sorted(named).index(node)]:
+    if piece is not None and 1 <= len(piece) <= s.f and digest(version, node, piece) == pointer[3][sorted(named).index(node)]:
         matching.add(node)
         pieces[node - 1] = piece
         if len(matching) == s.k:
@@ -753,7 +755,7 @@ def probed(v, r, s, stride):
 
 def pointer_to(s, version, nodes, pieces):
     """Pieces go by node."""
-    return (*version, sum(1 << i - 1 for i in nodes), [digest(pieces[i]) for i in sorted(nodes)])
+    return (*version, sum(1 << i - 1 for i in nodes), [digest(version, i, pieces[i]) for i in sorted(nodes)])
 
 
 def reading_at(v, s, c, pointer):
@@ -1215,6 +1217,186 @@ def owner_vectors(v, r):
     assert w.answer(5) == 'empty'
 
 
+# Digests that know their place
+
+
+def place(version, i):
+    """What stands before node i's piece where its digest is taken."""
+    sequence, c = version
+    return bytes([sequence >> 24, sequence >> 16 & 255, sequence >> 8 & 255, sequence & 255, c, i])
+
+
+def taken(string):
+    return hashlib.sha256(string).digest()
+
+
+def pointed(version, digests):
+    """Digests go by node."""
+    return (*version, sum(1 << i - 1 for i in digests), [digests[i] for i in sorted(digests)])
+
+
+def sound(version, nodes, pieces):
+    """The digests that a deposit of these pieces takes."""
+    return {i: taken(place(version, i) + pieces[i]) for i in nodes}
+
+
+def other_ways(s, version, own, i, piece):
+    """What else a digest of node i's piece might be taken over, in a reading of client own, by what is done otherwise."""
+    (sequence, c), right = version, place(version, i)
+    number, writer, node = right[:4], right[4:5], right[5:]
+    return {
+        'the piece alone': piece,
+        'without the version': node + piece,
+        'without the node': number + writer + piece,
+        'without the sequence': writer + node + piece,
+        'without the client': number + node + piece,
+        'without the piece': right,
+        'node before version': node + number + writer + piece,
+        'client before sequence': writer + number + node + piece,
+        'client and node exchanged': number + node + writer + piece,
+        'node after the piece': number + writer + piece + node,
+        'all after the piece': piece + right,
+        'low byte first': number[::-1] + writer + node + piece,
+        'the sequence before': place((sequence - 1, c), i) + piece,
+        'the sequence after': place(((sequence + 1) % 2 ** 32, c), i) + piece,
+        'the version none': place(NONE[:2], i) + piece,
+        'another client': place((sequence, (c + 1) % 8), i) + piece,
+        'the reader': place((sequence, own), i) + piece,
+        'another node': place(version, i % 16 + 1) + piece,
+        'nodes from 0': place(version, i - 1) + piece,
+        'a node of two bytes': number + writer + b'\0' + node + piece,
+        'the length as well': right + struct.pack('>H', len(piece)) + piece,
+        'the whole area': right + piece.ljust(s.f, b'\0'),
+        'a digest of the piece': right + taken(piece),
+        'the message': replied(version, piece)}
+
+
+def fetching(v, s, own, pointer):
+    """A client that picked this pointer; no reply has come."""
+    c = fresh(s)
+    c.step, c.reading, c.work = FETCHING, 1, [pointer, set(), set(), [b''] * s.n]
+    v.put(s, own, write_client(s, c))
+
+
+def comes(v, s, own, version, pairs, page=None):
+    """Pieces come under this version: all are awaited but the last, which ends the reading with the page, or at 9 if there is none."""
+    what = [replies(v, s, own, version, [pair]) for pair in pairs]
+    assert what[:-1] == ['waits'] * (len(pairs) - 1) and v.step(own) == IDLE
+    assert what[-1] == ('failed' if page is None else 'page %s %d' % (shown(version), len(page)))
+    assert page is None or v.out[:len(page)] == page
+
+
+def of_each(nodes, pieces):
+    return [(i, pieces[i]) for i in nodes]
+
+
+def some_place(s, r, version, size=None):
+    """A page, its pieces, and nodes to name, the writer's number not among them if they can do without."""
+    page = r.randbytes(min(3, longest(s)) if size is None else size)
+    apart = [i for i in range(1, s.n + 1) if i != version[1]]
+    return page, dict(enumerate(cut(s, page), 1)), r.sample(apart if len(apart) >= s.t + s.k else range(1, s.n + 1), s.t + s.k)
+
+
+def taken_otherwise(v, r, s, version, own):
+    """The digests in the pointer are taken in another way, and the sound pieces come: none matches, and the last reply brings 9. Where only t nodes'
+    are, the others make the page, and so they do where none is. Answers what was done otherwise; at these numbers it may be no other string."""
+    page, pieces, nodes = some_place(s, r, version)
+    right, met = sound(version, nodes, pieces), set()
+    ways = {i: other_ways(s, version, own, i, pieces[i]) for i in nodes}
+    for way in ways[nodes[0]]:
+        if any(ways[i][way] == place(version, i) + pieces[i] for i in nodes):
+            continue
+        met.add(way)
+        wrong = {i: taken(ways[i][way]) for i in nodes}
+        fetching(v, s, own, pointed(version, wrong))
+        comes(v, s, own, version, of_each(nodes, pieces))
+        if s.t:
+            fetching(v, s, own, pointed(version, {**wrong, **{i: right[i] for i in nodes[s.t:]}}))
+            comes(v, s, own, version, of_each(nodes, pieces), page)
+    fetching(v, s, own, pointed(version, right))
+    comes(v, s, own, version, of_each(nodes[:s.k], pieces), page)
+    return met
+
+
+def exchanged(v, r, s, version, own):
+    """The digests of two named nodes are exchanged: a sound piece of either does not match, come from the one or from the other, though all pieces
+    are equal if k is 1. The others match. Then each named node has the digest of the next, and none matches."""
+    page, pieces, nodes = some_place(s, r, version)
+    right, (a, b) = sound(version, nodes, pieces), nodes[:2]
+    assert (pieces[a] == pieces[b]) == (s.k == 1)
+    rest = of_each(nodes[2:2 + s.k], pieces)
+    for first in [[(a, pieces[a]), (b, pieces[b])], [(a, pieces[b]), (b, pieces[a])]][:1 if s.k == 1 else 2]:
+        fetching(v, s, own, pointed(version, {**right, a: right[b], b: right[a]}))
+        comes(v, s, own, version, first + rest, page if s.t > 1 else None)
+    fetching(v, s, own, pointed(version, dict(zip(nodes, [right[i] for i in nodes[1:] + nodes[:1]]))))
+    comes(v, s, own, version, of_each(nodes, pieces))
+    fetching(v, s, own, pointed(version, right))
+    comes(v, s, own, version, of_each(nodes[-s.k:], pieces), page)
+
+
+def out_of_place(v, r, s, version, own):
+    """The digests are the deposit's. A named node's sound piece is passed over under another version, and so it is from a node that is not named. Under
+    this version a piece of another node, and of another page, is counted and does not match: the node has had its turn. Then k others make the page.
+    If k is 1 another node's piece has the same bytes, and is this node's too."""
+    page, pieces, nodes = some_place(s, r, version)
+    old, right = dict(enumerate(cut(s, spoiled(page, (0, 1))), 1)), pointed(version, sound(version, nodes, pieces))
+    (a, b), unnamed = nodes[:2], [i for i in range(1, s.n + 1) if i not in nodes]
+    sequence, c = version
+    fetching(v, s, own, right)
+    before = v.records[own]
+    for number in [(x, c) for x in (sequence - 1, sequence + 1) if x] + [(sequence, d) for d in others(s, c)]:
+        assert replies(v, s, own, number, [(a, pieces[a])]) == 'waits'
+    for i in unnamed:
+        assert replies(v, s, own, version, [(i, pieces[a])]) == 'waits'
+    assert v.records[own] == before
+    for piece in dict.fromkeys([pieces[b], pieces[unnamed[0]], old[a], old[b]]):
+        fetching(v, s, own, right)
+        if piece == pieces[a]:
+            assert s.k == 1
+            comes(v, s, own, version, [(a, piece)], page)
+            continue
+        assert replies(v, s, own, version, [(a, piece)]) == 'waits' and read_client(s, v.records[own]).work[1:3] == [{a}, set()]
+        comes(v, s, own, version, of_each(nodes[:1 + s.k], pieces), page)
+
+
+def drawn(v, r, s, own, sequence, size=None):
+    """A deposit that draws this sequence: the digests that it keeps, those in its pointer, and a reading with them."""
+    version, rows, client = (sequence, own), [reference.fresh_row(s) for _ in range(s.m)], fresh(s)
+    page, _, nodes = some_place(s, r, version, size)
+    if sequence > 1:
+        rows[0][0] = [(sequence - 1, 0, *some_pointer(s, r, 0)[2:])]
+    client.step, client.work = SCANNING, page
+    v.put(s, own, write_client(s, client))
+    what = handed(v, s, own, rows, 'stores ' + shown(version), keep=True)
+    pieces = {i: v.room[6 + (i - 1) * s.f:][:int(what.split()[2])] for i in range(1, s.n + 1)}
+    assert read_client(s, v.records[own]).work[2] == list(sound(version, pieces, pieces).values())
+    what = [v.add(MESSAGE, s, own, stored(version), i, keep=True) for i in nodes]
+    pointer = write_pointer(pointed(version, sound(version, nodes, pieces)))
+    assert what[-1].startswith('update') and v.room[1:1 + len(pointer)] == pointer
+    fetching(v, s, own, read_pointer(s, Input(pointer)))
+    comes(v, s, own, version, of_each(nodes[-s.k:], pieces), page)
+
+
+def place_vectors(v, r):
+    """Document 02 (i): digests over version, node and piece."""
+    one, two, three = Measures(3, 3, 1, 1, 8), Measures(3, 4, 2, 1, 8), Measures(2, 5, 3, 1, 4)
+    far, met = 0x01020304, set()
+    for s, version, own in [(one, (far, 2), 1), (two, (far, 1), 0), (three, (far, 0), 1), (Measures(3, 2, 2, 0, 8), (1, 0), 2),
+                            (Measures(1, 1, 1, 0, 8), (LAST, 0), 0), (Measures(8, 16, 1, 1, 8), (256, 7), 6)]:
+        met |= taken_otherwise(v, r, s, version, own)
+    assert met == set(other_ways(one, (1, 0), 0, 1, b'x'))
+    for s in (one, two, three, Measures(3, 5, 1, 2, 8), Measures(2, 6, 2, 2, 6), Measures(2, 7, 3, 2, 4)):
+        for version in ((far, s.m - 1), (1, 0)):
+            exchanged(v, r, s, version, r.randrange(s.m))
+            out_of_place(v, r, s, version, r.randrange(s.m))
+        for sequence in (1, far, LAST):
+            drawn(v, r, s, r.randrange(s.m), sequence)
+    drawn(v, r, Measures(8, 16, 1, 1, 8), 7, far + 1)
+    # where blocks of the digest end
+    for size in (48, 49, 50, 51, 57, 58, 59, 113, 114, 121, 122, 123):
+        drawn(v, r, Measures(1, 2, 1, 0, 128), 0, far, size - 4)
+
+
 SMALL = [Measures(3, 4, 2, 1, 8), Measures(1, 1, 1, 0, 4), Measures(2, 16, 16, 0, 1), Measures(2, 5, 1, 2, 20)]
 IMPROPER = [(0, 4, 2, 1, 8), (9, 4, 2, 1, 8), (3, 0, 2, 1, 8), (3, 17, 2, 1, 8), (3, 4, 0, 1, 8), (3, 3, 2, 1, 8), (3, 4, 2, 1, 0), (3, 4, 2, 1, 4097),
             (3, 4, 3, 0, 1), (65535, 65535, 65535, 65535, 65535), (3, 16, 1, 8, 8), (3, 4, 2, 65535, 8)]
@@ -1265,6 +1447,7 @@ def main(folder):
     v, r = Vectors(), random.Random(1)
     vectors(v, r)
     owner_vectors(v, random.Random(2))
+    place_vectors(v, random.Random(3))
     open(folder + '/stdin', 'wb').write(b''.join(v.calls))
     open(folder + '/stdout', 'w').write('\n'.join(v.lines) + '\n')
     kinds = {}

@@ -647,7 +647,7 @@ def piled_up():
     return stand.joined(parts + [b'show %d' % i for i in range(1, 17)])
 
 
-TOLD = [os.path.join(os.path.dirname(os.path.abspath(__file__)), '..', 'docs', 'replay', name) for name in ('slow-reader.txt', 'two-writers.txt')]
+TOLD = [os.path.join(os.path.dirname(os.path.abspath(__file__)), '..', 'docs', 'replay', name) for name in ('slow-reader.txt', 'two-writers.txt', 'other-places.txt')]
 
 
 def scripts():

@@ -636,7 +636,7 @@ module _ (s : Measures) (ok : passes s ≡ true) (honest : ℕ → Bool) (es : L
       u .toClient i c ∙ first-own 3 c i (h .parcels) at end f
       ∙ ap (λ (y : List ℕ). y ∷ q) (sym (found-body s 3 c i (h .parcels) used post at end (h .listed) f)) in
       let o = shown .clients c (found-client 3 c i at end f) in
-      goes-by (deliver i c room out) (told s c b (upd₂ (st .toClient) i c q) e st) result memory′ after room′ out′ (head-to-client s honest st i c room out b q first)
+      goes-by (deliver i c room out) (told s c i b (upd₂ (st .toClient) i c q) e st) result memory′ after room′ out′ (head-to-client s honest st i c room out b q first)
       (subst⁻¹ (λ (y : List (List ℕ)). Delivered s c i room out y memory memory′) first p)
       (takes-outcome s (h .parcels) st post used (h .listed) u c a room′ after e _ _
       (k ∙ ap (λ (y : List ℕ). clientMessage s c i y b room out .answer) o) (m ∙ ap (λ (y : List ℕ). clientMessage s c i y b room out .room) o)
@@ -665,8 +665,8 @@ module _ (s : Measures) (ok : passes s ≡ true) (honest : ℕ → Bool) (es : L
       let st = run s honest es (fresh s) in
       let e = clientMessage s c i (st .clients c) bytes room out in
       let o = shown .clients c v in
-      goes-by (lie i c bytes room out) (told s c bytes (st .toClient) e st) result memory′ after room′ out′
-      (ap (λ (x : Bool). cond x (stays nothing (tick (st .history)) st) (told s c bytes (st .toClient) e st)) t)
+      goes-by (lie i c bytes room out) (told s c i bytes (st .toClient) e st) result memory′ after room′ out′
+      (ap (λ (x : Bool). cond x (stays nothing (tick (st .history)) st) (told s c i bytes (st .toClient) e st)) t)
       (subst⁻¹ (λ (x : Bool). Lied s x c i bytes room out memory memory′) t p)
       (sends-outcome s (h .parcels) st post used (h .listed) (h .underWay) c a room′ after e _ _
       (k ∙ ap (λ (y : List ℕ). clientMessage s c i y bytes room out .answer) o) (m ∙ ap (λ (y : List ℕ). clientMessage s c i y bytes room out .room) o)
@@ -681,7 +681,7 @@ module _ (s : Measures) (ok : passes s ≡ true) (honest : ℕ → Bool) (es : L
       let st = run s honest es (fresh s) in
       let e = clientMessage s c i (st .clients c) bytes room out in
       goes-by (lie i c bytes room out) (stays nothing (tick (st .history)) st) (record { used = used; what = Happened.Nothing }) memory post room out
-      (ap (λ (x : Bool). cond x (stays nothing (tick (st .history)) st) (told s c bytes (st .toClient) e st)) t)
+      (ap (λ (x : Bool). cond x (stays nothing (tick (st .history)) st) (told s c i bytes (st .toClient) e st)) t)
       (subst⁻¹ (λ (x : Bool). Lied s x c i bytes room out memory memory) t refl)
       (stays-outcome s (h .parcels) st post used (h .listed) (h .underWay) nothing (tick (st .history)) _ post refl refl refl)
       (sym (ap (λ (x : Bool). cond x room (e .room)) t))

@@ -11,7 +11,7 @@ use Rattle.parties.specs.protocol.Measures.{passes}
 use Rattle.parties.specs.protocol.Format.{writeMany}
 use Rattle.parties.specs.protocol.Nodes.{stands}
 use Rattle.parties.specs.protocol.Run.{Event, Answered, carryOut, run, fresh}
-use Rattle.parties.specs.protocol.Claim.{AllLent, Differ, RunPiece, dishonest, numberOf}
+use Rattle.parties.specs.protocol.Claim.{AllLent, Differ, RunString, dishonest, numberOf}
 use Rattle.parties.proofs.protocol.formats.NodeMapLaws.{stands-none}
 use Rattle.title.specs.Service.{Serves}
 use Rattle.title.specs.ServiceClaim.{ServiceClaim}
@@ -25,7 +25,7 @@ use Rattle.runs.specs.Oldest.{honestAll}
 
 module _ (s : Measures) (ok : passes s ≡ true) where
   -- for every list of events after which memory and parcels are as they are
-  pub after-demand-3 : (honest : ℕ → Bool) → dishonest honest (s .n) ≤ s .t → (es : List Event) → AllLent es → Differ (RunPiece s honest es (fresh s))
+  pub after-demand-3 : (honest : ℕ → Bool) → dishonest honest (s .n) ≤ s .t → (es : List Event) → AllLent es → Differ (RunString s honest es (fresh s))
       → (memory post : List ℕ) (used : ℕ) → After s honest es memory post used → ServiceClaim s honest memory (run s honest es (fresh s))
   after-demand-3 honest few es l d memory post used h = service-demand-3 s ok honest few es l d memory (h .serves)
 

@@ -7,7 +7,7 @@ use lib.ListN.{length}
 use Rattle.parties.specs.declared.Measures.{Measures}
 use Rattle.parties.specs.protocol.Measures.{passes}
 use Rattle.parties.specs.protocol.Run.{State, Event, run, fresh}
-use Rattle.parties.specs.protocol.Claim.{Claim, AllLent, Differ, RunPiece, dishonest}
+use Rattle.parties.specs.protocol.Claim.{Claim, AllLent, Differ, RunString, dishonest}
 use Rattle.parties.proofs.protocol.events.RunLaws.{run-last}
 use Rattle.parties.proofs.protocol.claim.Demand.{demand-3}
 use Rattle.title.specs.Memory.{memorySize, memoryFresh}
@@ -30,6 +30,7 @@ shown-claim s honest memory st o claim =
       held = λ x p a b e.
           let h = claim .held x p a b e in
           (h .0, h .1, h .2, h .3, λ i g lo up w. rw (o .nodes i lo up) (h .4 i g lo up w));
+      matched = claim .matched;
       few = λ i w g lo up l. rw (o .nodes i lo up) (claim .few i w g lo up l);
     }
 
@@ -47,7 +48,7 @@ module _ (s : Measures) (ok : passes s ≡ true) (honest : ℕ → Bool) where
   fresh-serves memory long = Serves.begins (memoryFresh s memory .memory) (fresh-shows s ok memory long)
 
   -- Demand 3 over the service: for every list of events, from fresh tables and records in lent memory
-  pub service-demand-3 : dishonest honest (s .n) ≤ s .t → (es : List Event) → AllLent es → Differ (RunPiece s honest es (fresh s))
+  pub service-demand-3 : dishonest honest (s .n) ≤ s .t → (es : List Event) → AllLent es → Differ (RunString s honest es (fresh s))
       → (memory : List ℕ) → Serves s honest es memory → ServiceClaim s honest memory (run s honest es (fresh s))
   service-demand-3 few es l d memory v =
       let o = serves-shows es memory v in

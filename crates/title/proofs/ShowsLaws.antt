@@ -161,7 +161,7 @@ module _ (s : Measures) (ok : passes s ≡ true) (memory after : List ℕ) (st :
   lie-shows i c bytes room out honest = go (honest i)
     where
       go : (h : Bool) → Lied s h c i bytes room out memory after
-          → MemoryShows s after (cond h (stays nothing (tick (st .history)) st) (told s c bytes (st .toClient) (clientMessage s c i (st .clients c) bytes room out) st) .state)
+          → MemoryShows s after (cond h (stays nothing (tick (st .history)) st) (told s c i bytes (st .toClient) (clientMessage s c i (st .clients c) bytes room out) st) .state)
       go true p = same-shows p _ refl refl refl
       go false p = turn-shows c (λ b. clientMessage s c i b bytes room out) (message-guarded s c i bytes room out) p _ _ _ _ _
 

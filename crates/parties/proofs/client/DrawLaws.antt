@@ -16,10 +16,10 @@ use Rattle.coding.specs.declared.answer.SplitAnswer.{SplitAnswer}
 use Rattle.coding.specs.Answer.{Outcome, splitOutcome}
 use Rattle.coding.specs.Split.{SplitEnd, written, split}
 use Rattle.coding.proofs.SplitLaws.{split-done}
-use Rattle.coding.specs.Digest.{pieceDigest}
+use Rattle.coding.specs.Placed.{pieceDigest}
 use Rattle.coding.proofs.BytesLaws.{length-tabulate, getD-tabulate, tabulate-ext}
 use Rattle.coding.proofs.PageLaws.{some-eq}
-use Rattle.coding.proofs.DigestLaws.{length-digest}
+use Rattle.coding.proofs.PlacedLaws.{length-digest}
 use Rattle.parties.specs.declared.Measures.{Measures}
 use Rattle.parties.specs.declared.Sequence.{Sequence}
 use Rattle.parties.specs.declared.Version.{Version}

@@ -8,7 +8,7 @@ use borrow.Author.Tests.{eq-eqb, ne-eqb, le-leb, lt-leb, not-true}
 use lib.Dec.{eqb}
 use lib.ListN.{length, getD, take, drop, length-append, drop-of-length-le}
 use lib.Seq.{drop-cons}
-use Rattle.coding.specs.Digest.{pieceDigest}
+use Rattle.coding.specs.Placed.{pieceDigest}
 use Rattle.coding.specs.Nodes.{all, nodesOf}
 use Rattle.coding.proofs.Cases.{and-true}
 use Rattle.coding.proofs.NodesLaws.{nodes-start, nodes-skip, nodes-more, nodes-split, nodes-within, all-none, all-one, all-append}

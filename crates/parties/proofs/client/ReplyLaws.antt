@@ -11,7 +11,7 @@ use lib.ListN.{length, getD, take, drop, set, replicate, length-append, length-s
 use lib.Seq.{paste, take-at, drop-at, take-all, drop-drop, ext-getD}
 use Rattle.coding.specs.Answer.{Outcome}
 use Rattle.coding.specs.Bytes.{Bytes, tabulate}
-use Rattle.coding.specs.Digest.{pieceDigest}
+use Rattle.coding.specs.Placed.{pieceDigest}
 use Rattle.coding.specs.Join.{JoinEnd, join}
 use Rattle.coding.specs.Nodes.{all, nodesOf}
 use Rattle.coding.proofs.BytesLaws.{length-tabulate, getD-tabulate, tabulate-ext}

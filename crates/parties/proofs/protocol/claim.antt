@@ -2,5 +2,5 @@ pub mod EdgeCases
 pub mod ClaimHolds
 pub mod Demand
 pub mod ExampleRun
-pub mod PieceLaws
+pub mod StringLaws
 pub mod ExampleClaim

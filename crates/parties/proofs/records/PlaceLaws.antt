@@ -1,9 +1,9 @@
 -- One place of a node table: what its reader tells, as a test on its bytes.
 use mathlib.Core.Path.{_≡_, refl, sym, ap, _∙_}
 use mathlib.Core.Bool.{Bool, true, false, cond, _&&_, and-false, true≢false}
-use mathlib.Core.List.{List, _++_}
+use mathlib.Core.List.{List, [], _∷_, _++_}
 use mathlib.Core.Option.{Option, some, none}
-use Prim.Native.Nat.{ℕ, suc, _+_, _-_, _*_, _^_, _<_, _≤_}
+use Prim.Native.Nat.{ℕ, suc, _+_, _-_, _*_, _/_, _%_, _^_, _<_, _≤_}
 use native.Mathlib.Decide.{decLe}
 use native.Mathlib.Omega.{arith}
 use borrow.Author.Tests.{le-leb, lt-leb, eq-eqb, ne-eqb, eqb-true}
@@ -59,6 +59,16 @@ pub version-there : (t : List ℕ) (at : ℕ) (v : Version) (y : List ℕ) → G
 version-there t at v y g e =
     let l : at + 5 ≤ length t = omega (arith, ap length e, length-drop at t, length-append (writeVersion v) y, length-version v) in
     (l, ap (λ (r : Read Version). r .value) (some-eq (sym (read-version t at l) ∙ ap readVersion e ∙ format-version .back v g y)))
+
+-- a version's five bytes, one by one
+pub version-five : (v : Version) → v .client < 256
+    → v .sequence .0 / 256 / 256 / 256 % 256 ∷ v .sequence .0 / 256 / 256 % 256 ∷ v .sequence .0 / 256 % 256 ∷ v .sequence .0 % 256 ∷ v .client ∷ []
+    ≡ writeVersion v
+unfolding writeVersion writeNumber
+version-five v h =
+    let q = v .sequence .0 in
+    let m : v .client ≡ v .client % 256 = omega arith in
+    ap (λ (c : ℕ). q / 256 / 256 / 256 % 256 ∷ q / 256 / 256 % 256 ∷ q / 256 % 256 ∷ q % 256 ∷ c ∷ []) m
 
 -- ---- a place
 

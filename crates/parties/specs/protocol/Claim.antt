@@ -1,24 +1,26 @@
 -- The claim about every run, in document 01's words, read off the history and the tables.
 use mathlib.Core.Path.{_≡_}
 use mathlib.Core.Bool.{Bool, true, false, cond}
-use mathlib.Core.Logic.{_⊎_}
+use mathlib.Core.Logic.{_⊎_, _↔_}
 use mathlib.Core.List.{List, [], _∷_}
 use mathlib.Core.Option.{Option, some, none}
 use Prim.Native.Nat.{ℕ, zero, suc, _+_, _*_, _≤_, _<_}
 use lib.Dec.{eqb}
 use Rattle.coding.specs.Bytes.{Bytes}
 use Rattle.coding.specs.Pieces.{piece}
-use Rattle.coding.specs.Digest.{pieceDigest}
+use Rattle.coding.specs.Placed.{digestInput}
+use Rattle.coding.specs.Sha256.{sha256}
 use Rattle.parties.specs.declared.Measures.{Measures}
 use Rattle.parties.specs.declared.Version.{Version}
 use Rattle.parties.specs.protocol.Version.{below}
 use Rattle.parties.specs.protocol.Format.{Read}
 use Rattle.parties.specs.protocol.Nodes.{stands}
-use Rattle.parties.specs.protocol.Pointer.{Pointer, nonePointer}
+use Rattle.parties.specs.protocol.Pointer.{Pointer, nonePointer, writeVersion}
 use Rattle.parties.specs.protocol.NodeTable.{Held, readTable}
 use Rattle.parties.specs.protocol.Node.{handBack}
+use Rattle.parties.specs.protocol.Reading.{matches}
 use Rattle.parties.specs.protocol.Answer.{Served, refuses, serves, number}
-use Rattle.parties.specs.protocol.Run.{Put, History, State, Event, deposit, reading, carry, hand, bring, deliver, lie, Answered, nothing, byClient, byServer, carryOut}
+use Rattle.parties.specs.protocol.Run.{Put, Reply, History, State, Event, deposit, reading, carry, hand, bring, deliver, lie, Answered, nothing, byClient, byServer, carryOut}
 
 -- ---- operations
 
@@ -58,6 +60,11 @@ FoundNothing h o = IsReading h o × (h .operation o .pointer ≡ some nonePointe
 abbrev pub Alike : History → ℕ → ℕ → Type 0
 Alike h o p = ((d : ℕ) × Concerns h o d × Concerns h p d) ⊎ (FoundNothing h o × FoundNothing h p)
 
+-- one of a list
+pub data Member {A : Type 0} (a : A) : List A → Type 0 where
+  here : (l : List A) → Member a (a ∷ l)
+  there : (b : A) (l : List A) → Member a l → Member a (b ∷ l)
+
 -- ---- tables
 
 -- what a node's table shows: its filled places, or nothing if it does not read
@@ -93,6 +100,12 @@ pub record Claim (s : Measures) (honest : ℕ → Bool) (st : State) : Type 0 wh
       → (d : ℕ) × (bytes : List ℕ) × Concerns (st .history) o d × IsDeposit (st .history) d bytes
       × ((i : ℕ) → honest i ≡ true → 1 ≤ i → i ≤ s .n → stands (p .named .nodes) i ≡ true
       → handBack (p .version) (places s st i) ≡ some (piece (s .k) bytes i))
+  -- a named node's piece that comes with a reading's version matches exactly when it is that deposit's piece at that node (document 02, i)
+  pub matched : (o : ℕ) (p : Pointer) → o < st .history .begun → IsReading (st .history) o → st .history .operation o .pointer ≡ some p
+      → (p ≡ nonePointer → ⊥)
+      → (d : ℕ) × (bytes : List ℕ) × Concerns (st .history) o d × IsDeposit (st .history) d bytes
+      × ((r : Reply) → Member r (st .history .replied) → r .version ≡ p .version → 1 ≤ r .node → r .node ≤ s .n → stands (p .named .nodes) (r .node) ≡ true
+      → (matches s p (r .node) (r .piece) ≡ true) ↔ (r .piece ≡ piece (s .k) bytes (r .node)))
   -- no honest node holds over 2m pieces of one writer among m clients
   pub few : (i w : ℕ) → honest i ≡ true → 1 ≤ i → i ≤ s .n → w < s .m → piecesOf w (places s st i) ≤ 2 * s .m
 
@@ -117,23 +130,22 @@ abbrev pub AllLent : List Event → Type 0
 AllLent [] = Unit {0}
 AllLent (e ∷ es) = Lent e × AllLent es
 
-pub data Among (x : List ℕ) : List (List ℕ) → Type 0 where
-  here : (l : List (List ℕ)) → Among x (x ∷ l)
-  there : (y : List ℕ) (l : List (List ℕ)) → Among x l → Among x (y ∷ l)
+-- the strings that are digested: version, node and piece (document 02, i). The pieces of a run are those that its deposits cut and those that come
+-- in its replies, a reply's piece being taken with its version and sender
+pub data StringOf (s : Measures) (h : History) (x : List ℕ) : Type 0 where
+  cut : (o i : ℕ) (v : Version) (bytes : List ℕ) → Bears h o v → IsDeposit h o bytes → 1 ≤ i → i ≤ s .n
+      → x ≡ digestInput (writeVersion v) i (piece (s .k) bytes i) → StringOf s h x
+  came : (r : Reply) → Member r (h .replied) → 1 ≤ r .node → r .node ≤ s .n
+      → x ≡ digestInput (writeVersion (r .version)) (r .node) (r .piece) → StringOf s h x
 
--- the pieces of a run are those that its deposits cut and those that come in its replies
-pub data PieceOf (s : Measures) (h : History) (x : List ℕ) : Type 0 where
-  cut : (o i : ℕ) (v : Version) (bytes : List ℕ) → Bears h o v → IsDeposit h o bytes → 1 ≤ i → i ≤ s .n → x ≡ piece (s .k) bytes i → PieceOf s h x
-  came : Among x (h .replied) → PieceOf s h x
+-- a string of the history at the beginning, at the end, or at some event between
+abbrev pub RunString : Measures → (ℕ → Bool) → List Event → State → List ℕ → Type 0
+RunString s honest [] st x = StringOf s (st .history) x
+RunString s honest (e ∷ es) st x = StringOf s (st .history) x ⊎ RunString s honest es (carryOut s honest e st .state) x
 
--- a piece of the history at the beginning, at the end, or at some event between
-abbrev pub RunPiece : Measures → (ℕ → Bool) → List Event → State → List ℕ → Type 0
-RunPiece s honest [] st x = PieceOf s (st .history) x
-RunPiece s honest (e ∷ es) st x = PieceOf s (st .history) x ⊎ RunPiece s honest es (carryOut s honest e st .state) x
-
--- no two different pieces share a digest
+-- no two different ones share a digest
 abbrev pub Differ : (List ℕ → Type 0) → Type 0
-Differ pieces = (x y : List ℕ) → pieces x → pieces y → (v : List ℕ) (i : ℕ) → pieceDigest v i x ≡ pieceDigest v i y → x ≡ y
+Differ strings = (x y : List ℕ) → strings x → strings y → sha256 x ≡ sha256 y → x ≡ y
 
 -- ---- what keeps the claim from being empty
 

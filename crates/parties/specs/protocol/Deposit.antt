@@ -7,7 +7,7 @@ use lib.Dec.{ltb, eqb}
 use lib.ListN.{getD}
 use Rattle.coding.specs.Bytes.{tabulate}
 use Rattle.coding.specs.Pieces.{piece}
-use Rattle.coding.specs.Digest.{pieceDigest}
+use Rattle.coding.specs.Placed.{pieceDigest}
 use Rattle.parties.specs.declared.Measures.{Measures}
 use Rattle.parties.specs.declared.Sequence.{Sequence}
 use Rattle.parties.specs.declared.Version.{Version}

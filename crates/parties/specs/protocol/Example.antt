@@ -8,7 +8,7 @@ use mathlib.Core.Option.{Option, some, none}
 use Prim.Native.Nat.{ℕ, _-_, _*_, _≤_}
 use lib.Dec.{eqb}
 use lib.ListN.{length, replicate}
-use Rattle.coding.specs.Digest.{pieceDigest}
+use Rattle.coding.specs.Placed.{pieceDigest}
 use Rattle.coding.specs.Pieces.{piece}
 use Rattle.parties.specs.declared.Measures.{Measures}
 use Rattle.parties.specs.declared.Version.{Version}
@@ -20,12 +20,13 @@ use Rattle.parties.specs.protocol.Node.{handBack}
 use Rattle.parties.specs.protocol.Message.{ToClient, writeToClient}
 use Rattle.parties.specs.protocol.Client.{Client, readClient}
 use Rattle.parties.specs.protocol.Deposit.{stillRetained}
+use Rattle.parties.specs.protocol.Reading.{matches}
 use Rattle.parties.specs.protocol.Answer.{waits, scan, update, stores, requests, deposited, page, serves}
 use Rattle.parties.specs.protocol.ClientEvents.{roomSize}
 use Rattle.parties.specs.protocol.DirectoryEvents.{directorySize}
 use Rattle.parties.specs.protocol.NodeEvents.{answerSize}
-use Rattle.parties.specs.protocol.Run.{Operation, Put, State, Event, deposit, reading, carry, hand, bring, deliver, lie, Answered, nothing, byClient, byServer, carryOut, fresh, run}
-use Rattle.parties.specs.protocol.Claim.{Bears, IsDeposit, Open, Precedes, Concerns, Alike, places, piecesOf, Claim, dishonest, AllLent, RunPiece, Differ}
+use Rattle.parties.specs.protocol.Run.{Operation, Put, Reply, State, Event, deposit, reading, carry, hand, bring, deliver, lie, Answered, nothing, byClient, byServer, carryOut, fresh, run}
+use Rattle.parties.specs.protocol.Claim.{Bears, IsDeposit, Open, Precedes, Concerns, Alike, places, piecesOf, Claim, dishonest, AllLent, RunString, Differ}
 
 -- ---- measures, pages and lent memory
 
@@ -205,12 +206,12 @@ pub record Ending : Type 0 where
   pub retained : List Version
   -- before the last event: how many operations have begun, and the reading
   pub asking : ℕ × Operation
-  -- the history: how many events and operations, each operation, the versions put in as written with their operations, the pieces in replies
+  -- the history: how many events and operations, each operation, the versions put in as written with their operations, the replies with a piece
   pub time : ℕ
   pub begun : ℕ
   pub operations : List Operation
   pub puts : List (Version × ℕ)
-  pub replied : List (List ℕ)
+  pub replied : List Reply
 
 abbrev pub retainedIn : Option (Read Client) → List Version
 retainedIn none = []
@@ -272,6 +273,10 @@ ofReading ended given =
       given = given;
     }
 
+-- a reply that client 2 was handed, at some event
+abbrev pub replyOf : ℕ → ℕ → List ℕ → Reply
+replyOf i time bytes = record { client = 2; node = i; version = version 2 1; piece = bytes; time = time; refused = false }
+
 unfoldable pub expected : Ending
 unfolding opening
 expected =
@@ -316,8 +321,11 @@ expected =
       puts = (version 1 0, 0) ∷ (version 2 1, 1) ∷ (version 3 1, 3) ∷ (version 4 1, 4) ∷ (version 5 1, 5) ∷ [];
       -- A's piece and B's from node 4, B's from nodes 2 and 3
       replied =
-          (0x00 ∷ 0x04 ∷ 0x41 ∷ []) ∷ (0x00 ∷ 0x18 ∷ 0xD7 ∷ 0xD7 ∷ 0xD7 ∷ [])
-          ∷ (0x00 ∷ 0x0C ∷ 0x86 ∷ 0x86 ∷ 0x86 ∷ []) ∷ (0x00 ∷ 0x0A ∷ 0xE4 ∷ 0xE4 ∷ 0xE4 ∷ []) ∷ [];
+          replyOf 4 98 (0x00 ∷ 0x04 ∷ 0x41 ∷ [])
+          ∷ replyOf 4 99 (0x00 ∷ 0x18 ∷ 0xD7 ∷ 0xD7 ∷ 0xD7 ∷ [])
+          ∷ replyOf 2 100 (0x00 ∷ 0x0C ∷ 0x86 ∷ 0x86 ∷ 0x86 ∷ [])
+          ∷ replyOf 3 101 (0x00 ∷ 0x0A ∷ 0xE4 ∷ 0xE4 ∷ 0xE4 ∷ [])
+          ∷ [];
     }
 
 -- the run answers and ends so; at most t nodes are dishonest, and lent memory has bytes in it
@@ -329,8 +337,8 @@ pub record Worked : Type 0 where
 -- ---- what demand 3 says of it
 
 pub record Claimed : Type 0 where
-  -- its premise: no two different pieces of the run share a digest
-  pub differ : Differ (RunPiece measures honest events (fresh measures))
+  -- its premise: no two different strings of the run share a digest
+  pub differ : Differ (RunString measures honest events (fresh measures))
   -- its conclusion, at the end and before the last event
   pub claim : Claim measures honest ended
   pub claim-open : Claim measures honest opened
@@ -352,5 +360,9 @@ pub record Claimed : Type 0 where
       × ((d : ℕ) × (bytes : List ℕ) × Concerns (opened .history) 2 d × IsDeposit (opened .history) d bytes
       × (handBack (version 2 1) (places measures opened 2) ≡ some (piece 2 bytes 2))
       × (handBack (version 2 1) (places measures opened 3) ≡ some (piece 2 bytes 3)))
+  -- of the pieces that came to it, A's from node 4 does not match, and those of B from node 4 and node 2 do
+  pub matched : (matches measures pointerB 4 (0x00 ∷ 0x04 ∷ 0x41 ∷ []) ≡ true → ⊥)
+      × (matches measures pointerB 4 (0x00 ∷ 0x18 ∷ 0xD7 ∷ 0xD7 ∷ 0xD7 ∷ []) ≡ true)
+      × (matches measures pointerB 2 (0x00 ∷ 0x0C ∷ 0x86 ∷ 0x86 ∷ 0x86 ∷ []) ≡ true)
   -- node 1 holds three pieces of client 1, and may hold six
   pub few : (piecesOf 1 (places measures ended 1) ≡ 3) × (piecesOf 1 (places measures ended 1) ≤ 2 * 3)

@@ -38,6 +38,16 @@ pub record Put : Type 0 where
   pub pointer : Pointer
   pub operation : ℕ
 
+-- A reply with a piece was handed to a client. Its sender, its version and its piece are what a digest is taken over (document 02, i).
+pub record Reply : Type 0 where
+  pub client : ℕ
+  pub node : ℕ
+  pub version : Version
+  pub piece : List ℕ
+  -- the number of the event, and whether it was refused, so that the message is still under way
+  pub time : ℕ
+  pub refused : Bool
+
 pub record History : Type 0 where
   -- events so far
   pub time : ℕ
@@ -47,8 +57,8 @@ pub record History : Type 0 where
   pub latest : ℕ → ℕ
   -- the pointers put in as written, oldest first
   pub puts : List Put
-  -- the pieces that came in replies
-  pub replied : List (List ℕ)
+  -- the replies with a piece, oldest first
+  pub replied : List Reply
 
 -- ---- the state
 
@@ -201,23 +211,24 @@ begin c bytes h =
       replied = h .replied;
     }
 
--- the pieces that come in replies
-abbrev pub pieceOf : Option ToClient → List (List ℕ) → List (List ℕ)
-pieceOf none l = l
-pieceOf (some (ToClient.stored v)) l = l
-pieceOf (some ToClient.freed) l = l
-pieceOf (some (ToClient.reply v x)) l = l ++ (x ∷ [])
-pieceOf (some (ToClient.missing v)) l = l
+-- a message that client c is handed by node i: if it is a reply with a piece, it is one more
+abbrev pub replying : ℕ → ℕ → ℕ → Bool → Option ToClient → List Reply → List Reply
+replying c i time b none l = l
+replying c i time b (some (ToClient.stored v)) l = l
+replying c i time b (some ToClient.freed) l = l
+replying c i time b (some (ToClient.reply v x)) l =
+    l ++ (record { client = c; node = i; version = v; piece = x; time = time; refused = b } ∷ [])
+replying c i time b (some (ToClient.missing v)) l = l
 
-abbrev pub heard : Measures → List ℕ → History → History
-heard s message h =
+abbrev pub heard : Measures → ℕ → ℕ → List ℕ → Bool → History → History
+heard s c i message b h =
     record {
       time = h .time;
       begun = h .begun;
       operation = h .operation;
       latest = h .latest;
       puts = h .puts;
-      replied = pieceOf (readToClient s message) (h .replied);
+      replied = replying c i (h .time) b (readToClient s message) (h .replied);
     }
 
 -- the written pointer of an update's record, if its bit stands
@@ -317,15 +328,15 @@ handed s c room [] st = stays nothing (tick (st .history)) st
 handed s c room (updated ∷ q) st = returned s c q (updateAnswer s c (st .clients c) room) st
 handed s c room (rows b ∷ q) st = returned s c q (scanAnswer s c (st .clients c) b room) st
 
--- a message to a client, with the messages that are then under way to clients
-abbrev pub told : Measures → ℕ → List ℕ → (ℕ → ℕ → List (List ℕ)) → ClientEnd → State → Result
-told s c message toClient e st =
-    cond (isRefused (e .answer)) (stays (byClient (e .answer)) (tick (heard s message (st .history))) st)
-    (goes s c e (st .returns) toClient (mark s c e (heard s message (st .history))) st)
+-- a message of node i to client c, with the messages that are then under way to clients
+abbrev pub told : Measures → ℕ → ℕ → List ℕ → (ℕ → ℕ → List (List ℕ)) → ClientEnd → State → Result
+told s c i message toClient e st =
+    cond (isRefused (e .answer)) (stays (byClient (e .answer)) (tick (heard s c i message true (st .history))) st)
+    (goes s c e (st .returns) toClient (mark s c e (heard s c i message false (st .history))) st)
 
 abbrev pub delivered : Measures → ℕ → ℕ → List ℕ → List ℕ → List (List ℕ) → State → Result
 delivered s i c room out [] st = stays nothing (tick (st .history)) st
-delivered s i c room out (m ∷ q) st = told s c m (upd₂ (st .toClient) i c q) (clientMessage s c i (st .clients c) m room out) st
+delivered s i c room out (m ∷ q) st = told s c i m (upd₂ (st .toClient) i c q) (clientMessage s c i (st .clients c) m room out) st
 
 -- a directory call: its table, the calls and answers that are then under way
 abbrev pub carried : ℕ → List Call → Return → DirectoryEnd → History → History → Served → State → Result
@@ -415,7 +426,7 @@ carryOut s honest (hand c room) st = handed s c room (st .returns c) st
 carryOut s honest (bring c i room) st = brought s honest c i room (st .toNode c i) st
 carryOut s honest (deliver i c room out) st = delivered s i c room out (st .toClient i c) st
 carryOut s honest (lie i c bytes room out) st =
-    cond (honest i) (stays nothing (tick (st .history)) st) (told s c bytes (st .toClient) (clientMessage s c i (st .clients c) bytes room out) st)
+    cond (honest i) (stays nothing (tick (st .history)) st) (told s c i bytes (st .toClient) (clientMessage s c i (st .clients c) bytes room out) st)
 
 -- fresh tables and client records, no message under way, no operation
 abbrev pub fresh : Measures → State

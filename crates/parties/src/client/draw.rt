@@ -12,8 +12,9 @@ use crate::records::bytes::put_u16;
 use crate::records::bytes::put_u32;
 use crate::records::bytes::u32_at;
 use crate::records::form::row_size;
+use crate::records::version::version_bytes;
 use coding::answer::SplitAnswer;
-use coding::digest;
+use coding::digest_placed;
 use coding::split::split;
 ghost use mathlib.Core.Path.{_≡_};
 ghost use mathlib.Core.Bool.{true, cond};
@@ -23,7 +24,7 @@ ghost use lib.Dec.{ltb};
 ghost use lib.ListN.{length, getD, take, drop};
 ghost use lib.Seq.{paste};
 ghost use Rattle.coding.specs.Pieces.{columns};
-ghost use Rattle.coding.specs.Digest.{pieceDigest};
+ghost use Rattle.coding.specs.Placed.{pieceDigest};
 ghost use Rattle.parties.specs.protocol.Measures.{passes, rowSize};
 ghost use Rattle.parties.specs.protocol.Pointer.{writeVersion};
 ghost use Rattle.parties.specs.protocol.Directory.{readDirectory, noRow};
@@ -88,11 +89,12 @@ fn put_digest(t: &mut [u8], at: usize, d: [u8; 32])
     }
 }
 
-// The digest of a node's piece of a version. It goes by the piece; version and node are for the contract alone.
+// The digest of a node's piece of a version.
 pub fn digest_piece(v: Version, node: usize, piece: &[u8]) -> [u8; 32]
+    requires { ⌜ node ≤ 16 ⌝ }
     ensures { λ r. ⌜ r ≡ pieceDigest (writeVersion v) node (now (piece .entry)) ⌝ }
 {
-    digest(piece)
+    digest_placed(version_bytes(v), node as u8, piece)
 }
 
 fn put_piece_digest(
@@ -104,7 +106,7 @@ fn put_piece_digest(
     area: &mut [u8],
     at: usize,
 )
-    requires { ⌜ (from + len ≤ length (now room)) × (at + 32 ≤ length (now area)) ⌝ }
+    requires { ⌜ (node ≤ 16) × (from + len ≤ length (now room)) × (at + 32 ≤ length (now area)) ⌝ }
     ensures { λ _. ⌜ now (area .exit) ≡ paste (now (area .entry)) at (pieceDigest (writeVersion v) node (take len (drop from (now (room .entry))))) 32 ⌝ }
 {
     let to = from + len;

@@ -114,9 +114,9 @@ fn same_bytes(d: [u8; 32], t: &[u8], at: usize) -> bool
     true
 }
 
-// A piece of 1 to f bytes whose digest stands at a place.
+// A piece of 1 to f bytes whose digest, as node i's of version v, stands at a place.
 fn matches(f: usize, v: Version, i: usize, piece: &[u8], area: &[u8], at: usize) -> bool
-    requires { ⌜ at + 32 ≤ length (now area) ⌝ }
+    requires { ⌜ (i ≤ 16) × (at + 32 ≤ length (now area)) ⌝ }
     ensures { λ r. ⌜ r ≡ matchesAt f v i (now (piece .entry)) (now (area .entry)) at ⌝ }
 {
     if piece.len() < 1 {

@@ -6,6 +6,7 @@ use crate::records::bytes::u32_at;
 ghost use mathlib.Core.Path.{_≡_};
 ghost use Prim.Native.Nat.{_+_, _≤_};
 ghost use lib.ListN.{length};
+ghost use Rattle.parties.specs.protocol.Pointer.{writeVersion};
 ghost use Rattle.parties.specs.protocol.Reading.{sameVersion};
 ghost use Rattle.parties.specs.records.Places.{versionAt, properAt, versionAlone};
 
@@ -29,6 +30,20 @@ pub(crate) fn version_at(t: &[u8], at: usize) -> Version
         sequence: Sequence(q),
         client: t[at + 4],
     }
+}
+
+// The five bytes of a version.
+pub(crate) fn version_bytes(v: Version) -> [u8; 5]
+    ensures { λ r. ⌜ r ≡ writeVersion v ⌝ }
+{
+    let q = v.sequence.0;
+    [
+        (q / 256 / 256 / 256 % 256) as u8,
+        (q / 256 / 256 % 256) as u8,
+        (q / 256 % 256) as u8,
+        (q % 256) as u8,
+        v.client,
+    ]
 }
 
 // A version that a message or a place names is proper.

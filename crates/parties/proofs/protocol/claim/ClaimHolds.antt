@@ -1,7 +1,7 @@
 -- The claim follows from the invariants, on the state that shows the model.
 use mathlib.Core.Path.{_≡_, refl, sym, ap, subst, _∙_}
 use mathlib.Core.Bool.{Bool, true}
-use mathlib.Core.Logic.{_⊎_, inl, inr}
+use mathlib.Core.Logic.{_⊎_, inl, inr, _↔_}
 use mathlib.Core.List.{List, [], _∷_, append-nil}
 use mathlib.Core.Option.{Option, some, none}
 use Prim.Native.Nat.{ℕ, _%_, _≤_, _<_}
@@ -9,20 +9,22 @@ use native.Mathlib.Omega.{arith}
 use native.Mathlib.Decide.{ℕ-discrete}
 use borrow.Author.Tests.{le-ltb, lt-ltb}
 use Rattle.coding.specs.Pieces.{piece}
+use Rattle.coding.specs.Placed.{digestInput}
 use Rattle.coding.proofs.PageLaws.{none≢some, some-eq}
 use Rattle.parties.specs.declared.Measures.{Measures}
 use Rattle.parties.specs.declared.Version.{Version}
 use Rattle.parties.specs.protocol.Measures.{passes}
 use Rattle.parties.specs.protocol.Nodes.{stands}
-use Rattle.parties.specs.protocol.Pointer.{Pointer, nonePointer}
+use Rattle.parties.specs.protocol.Pointer.{Pointer, nonePointer, writeVersion}
 use Rattle.parties.specs.protocol.NodeTable.{readTable, writeTable}
 use Rattle.parties.specs.protocol.Node.{handBack}
-use Rattle.parties.specs.protocol.Run.{Put, State}
-use Rattle.parties.specs.protocol.Claim.{Bears, IsDeposit, IsReading, Open, Precedes, FirstPut, Concerns, Alike, shown, places, Claim}
+use Rattle.parties.specs.protocol.Reading.{matches}
+use Rattle.parties.specs.protocol.Run.{Put, Reply, History, State}
+use Rattle.parties.specs.protocol.Claim.{Member, Bears, IsDeposit, IsReading, Open, Precedes, FirstPut, Concerns, Alike, shown, places, Claim, StringOf, Differ}
 use Rattle.parties.proofs.protocol.formats.MeasureLaws.{passed}
 use Rattle.parties.proofs.protocol.formats.NodeTableLaws.{format-table}
 use Rattle.parties.proofs.protocol.model.Model.{num, ver, Turn, Past, Model}
-use Rattle.parties.proofs.protocol.invariants.Invariants.{Known, Keeps, Member, Pointed, unnum}
+use Rattle.parties.proofs.protocol.invariants.Invariants.{Known, Keeps, Pointed, unnum}
 use Rattle.parties.proofs.protocol.invariants.Chronicle.{Rightly, ShownPointer, Listed, Draws, Doing, Busy}
 use Rattle.parties.proofs.protocol.model.VersionNumbers.{unnum-num, below-num}
 use Rattle.parties.proofs.protocol.model.MemberLaws.{member-cases}
@@ -30,6 +32,7 @@ use Rattle.parties.proofs.protocol.model.PastLaws.{pointed-version, som
 use Rattle.parties.proofs.protocol.invariants.StockLaws.{held-few, kept-held, held-piece}
 use Rattle.parties.proofs.protocol.invariants.RetainingKept.{safe-keeps}
 use Rattle.parties.proofs.protocol.invariants.Invariant.{Invariant}
+use Rattle.parties.proofs.protocol.events.ReplyLaws.{known-picked, own-matched, matched-own}
 use Rattle.parties.proofs.protocol.steps.View.{Shows}
 
 -- a pointer that is put in was first put in for its version's deposit
@@ -194,24 +197,34 @@ module _ (z : Measures) (honest : ℕ → Bool) (ok : passes z ≡ true) (s : Mo
           held-piece z (s .p) i (p .version) (s .n .held i) (kept-held z honest s (v .stocking) i hi lo up (p .version) (w .1) k arrived)
           (v .stocking .stocked i hi lo up)
 
-  -- a reading's pointer that is not none: its deposit, with its page
+  -- a reading's pointer is shown
+  pointer-shown : (o : ℕ) (x : Pointer) → o < s .h .begun → IsReading (s .h) o → s .h .operation o .pointer ≡ some x → ShownPointer (s .h) (s .p) x
+  pointer-shown o x l e p =
+      let r = v .recording .reads o (x .version) l e (v .recording .pointer o x l p .1) in
+      subst (ShownPointer (s .h) (s .p)) (some-eq (sym (r .1) ∙ p)) (r .3)
+
+  -- one that is not none: its deposit, with its page
   deposit-of : (o : ℕ) (x : Pointer) → o < s .h .begun → IsReading (s .h) o → s .h .operation o .pointer ≡ some x → 256 ≤ ver x
       → (d : ℕ) × Concerns (s .h) o d × IsDeposit (s .h) d (s .p .pages (ver x))
-  deposit-of o x l e p b = go (r .3)
+  deposit-of o x l e p b = go (pointer-shown o x l e p)
     where
-      r : (y : Pointer) × (s .h .operation o .pointer ≡ some y) × (y .version ≡ x .version) × ShownPointer (s .h) (s .p) y
-      r = v .recording .reads o (x .version) l e (v .recording .pointer o x l p .1)
+      go : ShownPointer (s .h) (s .p) x → (d : ℕ) × Concerns (s .h) o d × IsDeposit (s .h) d (s .p .pages (ver x))
+      go (ShownPointer.absent n) = let f : ver x ≡ 255 = ap ver n in absurd (omega arith)
+      go (ShownPointer.put d k c m) = (s .p .deposits (ver x), shows-deposit o x e p k b m, v .recording .deposited (ver x) d .page)
 
-      a : r .0 ≡ x
-      a = some-eq (sym (r .1) ∙ p)
-
-      go : ShownPointer (s .h) (s .p) (r .0) → (d : ℕ) × Concerns (s .h) o d × IsDeposit (s .h) d (s .p .pages (ver x))
-      go (ShownPointer.absent n) = let f : ver x ≡ 255 = ap ver (sym a ∙ n) in absurd (omega arith)
-      go (ShownPointer.put d k c m) =
-          let d′ : s .p .drawn (ver x) ≡ true = rw a at d in
-          let k′ : s .p .pointers (ver x) ≡ x = rw a at k in
-          let m′ : Listed (s .h) x = rw a at m in
-          (s .p .deposits (ver x), shows-deposit o x e p k′ b m′, v .recording .deposited (ver x) d′ .page)
+  -- which pieces match it: its deposit's
+  pieces-match : (x : Pointer) → ShownPointer (s .h) (s .p) x → 256 ≤ ver x → Differ (StringOf z (s .h)) → (r : Reply) → Member r (s .h .replied)
+      → r .version ≡ x .version → 1 ≤ r .node → r .node ≤ z .n → stands (x .named .nodes) (r .node) ≡ true
+      → (matches z x (r .node) (r .piece) ≡ true) ↔ (r .piece ≡ piece (z .k) (s .p .pages (ver x)) (r .node))
+  pieces-match x (ShownPointer.absent n) b differ r a q lo up named = let f : ver x ≡ 255 = ap ver n in absurd (omega arith)
+  pieces-match x (ShownPointer.put d k c m) b differ r a q lo up named =
+      let e : x .version .client ≡ ver x % 256 = ap (λ (y : Version). y .client) (shown-version x (ShownPointer.put d k c m)) in
+      let l : x .version .client < z .m = omega (arith, e, v .drawing (ver x) d .writer) in
+      let pick = known-picked z (passed z ok) s (v .drawing) x l (Known.formed d k refl b) b in
+      let came = StringOf.came r a lo up (ap (λ (y : Version). digestInput (writeVersion y) (r .node) (r .piece)) (sym q)) in (
+        matched-own z (passed z ok) s x pick (r .node) lo up named (s .h) (v .recording .deposited (ver x) d) differ (r .piece) came,
+        own-matched z (passed z ok) s x pick (r .node) lo up named (r .piece),
+      )
 
   module _ (st : State) (o : Shows z honest st s) where
     reads-held : (i : ℕ) → honest i ≡ true → 1 ≤ i → i ≤ z .n → readTable z (st .nodes i) ≡ some (record { value = s .n .held i; rest = [] })
@@ -246,9 +259,24 @@ module _ (z : Measures) (honest : ℕ → Bool) (ok : passes z ≡ true) (s : Mo
         let r = v .recording .gives j given l e in
         let f = deposit-of j (r .0) l (r .1) (r .2) (r .3) in (f .0, f .1, f .2 ∙ ap some (sym (r .4)))
 
-    -- demand 3 of the state
-    pub claim-holds : Claim z honest st
-    claim-holds =
+    matched-in : Differ (StringOf z (s .h)) → (j : ℕ) (p : Pointer) → j < s .h .begun → IsReading (s .h) j → s .h .operation j .pointer ≡ some p
+        → (p ≡ nonePointer → ⊥)
+        → (d : ℕ) × (bytes : List ℕ) × Concerns (s .h) j d × IsDeposit (s .h) d bytes
+        × ((r : Reply) → Member r (s .h .replied) → r .version ≡ p .version → 1 ≤ r .node → r .node ≤ z .n → stands (p .named .nodes) (r .node) ≡ true
+        → (matches z p (r .node) (r .piece) ≡ true) ↔ (r .piece ≡ piece (z .k) bytes (r .node)))
+    matched-in differ j p l e q present = go (pointer-shown j p l e q)
+      where
+        go : ShownPointer (s .h) (s .p) p
+            → (d : ℕ) × (bytes : List ℕ) × Concerns (s .h) j d × IsDeposit (s .h) d bytes
+            × ((r : Reply) → Member r (s .h .replied) → r .version ≡ p .version → 1 ≤ r .node → r .node ≤ z .n → stands (p .named .nodes) (r .node) ≡ true
+            → (matches z p (r .node) (r .piece) ≡ true) ↔ (r .piece ≡ piece (z .k) bytes (r .node)))
+        go (ShownPointer.absent n) = absurd (present n)
+        go (ShownPointer.put d k b m) =
+            let f = deposit-of j p l e q b in (f .0, s .p .pages (ver p), f .1, f .2, pieces-match p (ShownPointer.put d k b m) b differ)
+
+    -- demand 3 of the state, under the premise on digests
+    pub claim-holds : Differ (StringOf z (st .history)) → Claim z honest st
+    claim-holds differ =
         record {
           equal = rw (o .history) (λ j p u w b c e. same-deposit j p u (borne j u b) (subst (Borne p) (sym e) (borne p w c)));
           alike = rw (o .history) same-version;
@@ -259,5 +287,6 @@ module _ (z : Measures) (honest : ℕ → Bool) (ok : passes z ≡ true) (s : Mo
           exact = rw (o .history) exact-in;
           reads = λ i hi lo up. rw (shown-places i hi lo up) (reads-held i hi lo up);
           held = rw (o .history) held-in;
+          matched = rw (o .history) (matched-in (subst (λ (h : History). Differ (StringOf z h)) (o .history) differ));
           few = λ i w hi lo up l. rw (shown-places i hi lo up) (held-few z honest s (passed z ok) (v .owned) (v .stocking) i hi lo up w l);
         }

@@ -1,7 +1,7 @@
--- Demand 3 of the worked run. Its premise holds: the digests of its nine pieces differ in their first bytes.
+-- Demand 3 of the worked run. Its premise holds: the digests of its 21 strings differ in their first bytes.
 use mathlib.Core.Path.{_≡_, refl, sym, ap, subst, _∙_}
 use mathlib.Core.Bool.{Bool, true, false, not, _&&_, false≢true}
-use mathlib.Core.Logic.{_⊎_, inl, inr}
+use mathlib.Core.Logic.{_⊎_, inl, inr, _↔_}
 use mathlib.Core.List.{List, [], _∷_, map}
 use mathlib.Core.Option.{Option, some, none}
 use Prim.Native.Nat.{ℕ, zero, suc, _≤_, _<_}
@@ -10,51 +10,55 @@ use borrow.Author.Tests.{eq-eqb}
 use lib.Dec.{eqb}
 use lib.ListN.{length, getD}
 use Rattle.coding.specs.Bytes.{tabulate}
-use Rattle.coding.specs.Digest.{pieceDigest}
+use Rattle.coding.specs.Placed.{digestInput}
 use Rattle.coding.specs.Field.{polyProduct, polyRemainder, product, power, sum}
 use Rattle.coding.specs.Pieces.{columns, frame, pieceByte, piece}
-use Rattle.coding.specs.Sha256.{K, bytes, padded, words, H₀, extended, schedule, turned, round, rounds, added, compress, hash, joined, sha256}
+use Rattle.coding.specs.Sha256.{K, bytes, padding, padded, words, H₀, extended, schedule, turned, round, rounds, added, compress, hash, joined, sha256}
 use Rattle.coding.proofs.Cases.{and-true}
-use Rattle.coding.proofs.DigestLaws.{digest-is}
 use Rattle.coding.proofs.PageLaws.{none≢some, some-eq}
 use Rattle.parties.specs.declared.Version.{Version}
 use Rattle.parties.specs.protocol.Measures.{passes}
+use Rattle.parties.specs.protocol.Format.{writeNumber}
 use Rattle.parties.specs.protocol.Nodes.{stands}
-use Rattle.parties.specs.protocol.Run.{Operation, fresh}
-use Rattle.parties.specs.protocol.Claim.{IsDeposit, Among, PieceOf, RunPiece, Differ, Bears, Open, Claim, piecesOf}
-use Rattle.parties.specs.protocol.Example.{measures, honest, version, pageA, pageB, pageC, last, front, events, opened, ended, pointerB, ofReading, Ending, expected, Claimed}
+use Rattle.parties.specs.protocol.Pointer.{Pointer, writeVersion}
+use Rattle.parties.specs.protocol.Reading.{matches}
+use Rattle.parties.specs.protocol.Run.{Operation, Put, Reply, History, fresh}
+use Rattle.parties.specs.protocol.Claim.{IsDeposit, IsReading, FirstPut, Concerns, Member, StringOf, RunString, Differ, Bears, Open, Claim, piecesOf}
+use Rattle.parties.specs.protocol.Example.{measures, honest, version, pageA, pageB, pageC, last, front, events, opened, ended, pointerB, ofReading, replyOf, Ending, expected, Claimed}
+use Rattle.parties.proofs.protocol.formats.FormatLaws.{Each}
+use Rattle.parties.proofs.protocol.model.MemberLaws.{member-cases}
 use Rattle.parties.proofs.protocol.claim.Demand.{demand-3}
-use Rattle.parties.proofs.protocol.claim.ExampleRun.{worked}
-use Rattle.parties.proofs.protocol.claim.PieceLaws.{differ-run, front-pieces, front-lent}
+use Rattle.parties.proofs.protocol.claim.ExampleRun.{worked, borne-once}
+use Rattle.parties.proofs.protocol.claim.StringLaws.{differ-run, front-strings, front-lent}
 
--- ---- the pieces of the run
+-- ---- the strings of the run: version, node and piece
 
--- A's and E's, B's and D's, and C's
-pieces : List (List ℕ)
-pieces =
-    (0x00 ∷ 0x01 ∷ 0x41 ∷ []) ∷ (0x00 ∷ 0x02 ∷ 0x41 ∷ []) ∷ (0x00 ∷ 0x03 ∷ 0x41 ∷ []) ∷ (0x00 ∷ 0x04 ∷ 0x41 ∷ [])
-    ∷ (0x00 ∷ 0x06 ∷ 0x20 ∷ 0x20 ∷ 0x20 ∷ []) ∷ (0x00 ∷ 0x0C ∷ 0x86 ∷ 0x86 ∷ 0x86 ∷ []) ∷ (0x00 ∷ 0x0A ∷ 0xE4 ∷ 0xE4 ∷ 0xE4 ∷ [])
-    ∷ (0x00 ∷ 0x18 ∷ 0xD7 ∷ 0xD7 ∷ 0xD7 ∷ []) ∷ (0x00 ∷ 0x00 ∷ []) ∷ []
+abbrev placed : ℕ → ℕ → ℕ → List ℕ → List ℕ
+placed q c i x = digestInput (writeVersion (version q c)) i x
 
-among-cases : (x y : List ℕ) (l : List (List ℕ)) → Among x (y ∷ l) → (x ≡ y) ⊎ Among x l
-among-cases x y l (Among.here r) = inl refl
-among-cases x y l (Among.there c r m) = inr m
+-- those of A and E, of B and D, and of C: each version's pieces by node
+ofA : ℕ → ℕ → List (List ℕ) → List (List ℕ)
+ofA q c l =
+    placed q c 1 (0x00 ∷ 0x01 ∷ 0x41 ∷ []) ∷ placed q c 2 (0x00 ∷ 0x02 ∷ 0x41 ∷ []) ∷ placed q c 3 (0x00 ∷ 0x03 ∷ 0x41 ∷ [])
+    ∷ placed q c 4 (0x00 ∷ 0x04 ∷ 0x41 ∷ []) ∷ l
 
-abbrev Each : (List ℕ → Type 0) → List (List ℕ) → Type 0
-Each p [] = Unit {0}
-Each p (y ∷ l) = p y × Each p l
+ofB : ℕ → ℕ → List (List ℕ) → List (List ℕ)
+ofB q c l =
+    placed q c 1 (0x00 ∷ 0x06 ∷ 0x20 ∷ 0x20 ∷ 0x20 ∷ []) ∷ placed q c 2 (0x00 ∷ 0x0C ∷ 0x86 ∷ 0x86 ∷ 0x86 ∷ [])
+    ∷ placed q c 3 (0x00 ∷ 0x0A ∷ 0xE4 ∷ 0xE4 ∷ 0xE4 ∷ []) ∷ placed q c 4 (0x00 ∷ 0x18 ∷ 0xD7 ∷ 0xD7 ∷ 0xD7 ∷ []) ∷ l
 
-among-each : (x : List ℕ) (l : List (List ℕ)) → Each (λ y. Among y pieces) l → Among x l → Among x pieces
-among-each x (y ∷ l) h m = go (among-each x l (h .1)) (among-cases x y l m)
-  where
-    go : (Among x l → Among x pieces) → (x ≡ y) ⊎ Among x l → Among x pieces
-    go rest (inl e) = subst (λ z. Among z pieces) (sym e) (h .0)
-    go rest (inr n) = rest n
+ofC : ℕ → ℕ → List (List ℕ) → List (List ℕ)
+ofC q c l =
+    placed q c 1 (0x00 ∷ 0x00 ∷ []) ∷ placed q c 2 (0x00 ∷ 0x00 ∷ []) ∷ placed q c 3 (0x00 ∷ 0x00 ∷ []) ∷ placed q c 4 (0x00 ∷ 0x00 ∷ []) ∷ l
 
-nth : (l : List (List ℕ)) (j : ℕ) → j < length l → Among (getD l j []) l
+-- and A's piece from node 4 under the number of B
+strings : List (List ℕ)
+strings = ofA 1 0 (ofB 2 1 (ofC 3 1 (ofB 4 1 (ofA 5 1 (placed 2 1 4 (0x00 ∷ 0x04 ∷ 0x41 ∷ []) ∷ [])))))
+
+nth : (l : List (List ℕ)) (j : ℕ) → j < length l → Member (getD l j []) l
 nth [] j h = absurd (omega arith)
-nth (y ∷ l) zero h = Among.here l
-nth (y ∷ l) (suc j) h = Among.there y l (nth l j (omega arith))
+nth (y ∷ l) zero h = Member.here l
+nth (y ∷ l) (suc j) h = Member.there y l (nth l j (omega arith))
 
 -- for nodes 1 to 4
 four : (p : ℕ → Type 0) → p 1 → p 2 → p 3 → p 4 → (i : ℕ) → 1 ≤ i → i ≤ 4 → p i
@@ -65,23 +69,35 @@ four p a b c d (suc (suc (suc zero))) lo up = c
 four p a b c d (suc (suc (suc (suc zero)))) lo up = d
 four p a b c d (suc (suc (suc (suc (suc i))))) lo up = absurd (omega arith)
 
-abbrev Cut : List ℕ → ℕ → Type 0
-Cut bytes i = Among (piece 2 bytes i) pieces
+-- a deposit's strings
+abbrev Cut : Version → List ℕ → ℕ → Type 0
+Cut v bytes i = Member (digestInput (writeVersion v) i (piece 2 bytes i)) strings
 
-cut-A : (i : ℕ) → 1 ≤ i → i ≤ 4 → Cut pageA i
-unfolding pieces tabulate polyProduct polyRemainder product power sum columns frame pieceByte piece
+-- A's, B's, C's, D's and E's
+cut-A : (i : ℕ) → 1 ≤ i → i ≤ 4 → Cut (version 1 0) pageA i
+unfolding strings ofA ofB ofC tabulate polyProduct polyRemainder product power sum columns frame pieceByte piece
 cut-A =
-    four (Cut pageA) (nth pieces 0 (omega arith)) (nth pieces 1 (omega arith)) (nth pieces 2 (omega arith)) (nth pieces 3 (omega arith))
+    four (Cut (version 1 0) pageA) (nth strings 0 (omega arith)) (nth strings 1 (omega arith)) (nth strings 2 (omega arith)) (nth strings 3 (omega arith))
 
-cut-B : (i : ℕ) → 1 ≤ i → i ≤ 4 → Cut pageB i
-unfolding pieces tabulate polyProduct polyRemainder product power sum columns frame pieceByte piece
+cut-B : (i : ℕ) → 1 ≤ i → i ≤ 4 → Cut (version 2 1) pageB i
+unfolding strings ofA ofB ofC tabulate polyProduct polyRemainder product power sum columns frame pieceByte piece
 cut-B =
-    four (Cut pageB) (nth pieces 4 (omega arith)) (nth pieces 5 (omega arith)) (nth pieces 6 (omega arith)) (nth pieces 7 (omega arith))
+    four (Cut (version 2 1) pageB) (nth strings 4 (omega arith)) (nth strings 5 (omega arith)) (nth strings 6 (omega arith)) (nth strings 7 (omega arith))
 
-cut-C : (i : ℕ) → 1 ≤ i → i ≤ 4 → Cut pageC i
-unfolding pieces tabulate polyProduct polyRemainder product power sum columns frame pieceByte piece
+cut-C : (i : ℕ) → 1 ≤ i → i ≤ 4 → Cut (version 3 1) pageC i
+unfolding strings ofA ofB ofC tabulate polyProduct polyRemainder product power sum columns frame pieceByte piece
 cut-C =
-    four (Cut pageC) (nth pieces 8 (omega arith)) (nth pieces 8 (omega arith)) (nth pieces 8 (omega arith)) (nth pieces 8 (omega arith))
+    four (Cut (version 3 1) pageC) (nth strings 8 (omega arith)) (nth strings 9 (omega arith)) (nth strings 10 (omega arith)) (nth strings 11 (omega arith))
+
+cut-D : (i : ℕ) → 1 ≤ i → i ≤ 4 → Cut (version 4 1) pageB i
+unfolding strings ofA ofB ofC tabulate polyProduct polyRemainder product power sum columns frame pieceByte piece
+cut-D =
+    four (Cut (version 4 1) pageB) (nth strings 12 (omega arith)) (nth strings 13 (omega arith)) (nth strings 14 (omega arith)) (nth strings 15 (omega arith))
+
+cut-E : (i : ℕ) → 1 ≤ i → i ≤ 4 → Cut (version 5 1) pageA i
+unfolding strings ofA ofB ofC tabulate polyProduct polyRemainder product power sum columns frame pieceByte piece
+cut-E =
+    four (Cut (version 5 1) pageA) (nth strings 16 (omega arith)) (nth strings 17 (omega arith)) (nth strings 18 (omega arith)) (nth strings 19 (omega arith))
 
 -- ---- what the run left behind it
 
@@ -89,37 +105,51 @@ begun : ended .history .begun ≡ 6
 unfolding expected
 begun = ap (λ (x : Ending). x .begun) (worked .ends)
 
-deposit-cut : (o : ℕ) (bytes : List ℕ) → o < 6 → IsDeposit (ended .history) o bytes → (i : ℕ) → 1 ≤ i → i ≤ 4 → Cut bytes i
+-- an operation at the end
+operation : (j : ℕ) → getD (map (ended .history .operation) (0 ∷ 1 ∷ 2 ∷ 3 ∷ 4 ∷ 5 ∷ [])) j (ofReading none none)
+    ≡ getD (expected .operations) j (ofReading none none)
+operation j = ap (λ (x : Ending). getD (x .operations) j (ofReading none none)) (worked .ends)
+
+deposit-cut : (o : ℕ) (v : Version) (bytes : List ℕ) → o < 6 → ended .history .operation o .version ≡ some v → IsDeposit (ended .history) o bytes
+    → (i : ℕ) → 1 ≤ i → i ≤ 4 → Cut v bytes i
 unfolding expected
-deposit-cut o bytes l d = go o l d
+deposit-cut o v bytes l b d = go o l b d
   where
-    is : (a : List ℕ) → some a ≡ some bytes → ((i : ℕ) → 1 ≤ i → i ≤ 4 → Cut a i) → (i : ℕ) → 1 ≤ i → i ≤ 4 → Cut bytes i
-    is a e h i lo up = subst (λ b. Cut b i) (some-eq e) (h i lo up)
+    is : (w : Version) (a : List ℕ) → some w ≡ some v → some a ≡ some bytes → ((i : ℕ) → 1 ≤ i → i ≤ 4 → Cut w a i)
+        → (i : ℕ) → 1 ≤ i → i ≤ 4 → Cut v bytes i
+    is w a e f h i lo up = subst (λ x. Cut x bytes i) (some-eq e) (subst (λ b. Cut w b i) (some-eq f) (h i lo up))
 
-    page : (j : ℕ) → getD (map (λ o. ended .history .operation o .page) (0 ∷ 1 ∷ 2 ∷ 3 ∷ 4 ∷ 5 ∷ [])) j none
-        ≡ getD (map (λ (x : Operation). x .page) (expected .operations)) j none
-    page j = ap (λ (x : Ending). getD (map (λ (y : Operation). y .page) (x .operations)) j none) (worked .ends)
+    go : (o : ℕ) → o < 6 → ended .history .operation o .version ≡ some v → IsDeposit (ended .history) o bytes → (i : ℕ) → 1 ≤ i → i ≤ 4 → Cut v bytes i
+    go zero l b d = is (version 1 0) pageA (sym (ap (λ (x : Operation). x .version) (operation 0)) ∙ b) (sym (ap (λ (x : Operation). x .page) (operation 0)) ∙ d) cut-A
+    go (suc zero) l b d = is (version 2 1) pageB (sym (ap (λ (x : Operation). x .version) (operation 1)) ∙ b) (sym (ap (λ (x : Operation). x .page) (operation 1)) ∙ d) cut-B
+    go (suc (suc zero)) l b d = absurd (none≢some (sym (ap (λ (x : Operation). x .page) (operation 2)) ∙ d))
+    go (suc (suc (suc zero))) l b d = is (version 3 1) pageC (sym (ap (λ (x : Operation). x .version) (operation 3)) ∙ b) (sym (ap (λ (x : Operation). x .page) (operation 3)) ∙ d) cut-C
+    go (suc (suc (suc (suc zero)))) l b d = is (version 4 1) pageB (sym (ap (λ (x : Operation). x .version) (operation 4)) ∙ b) (sym (ap (λ (x : Operation). x .page) (operation 4)) ∙ d) cut-D
+    go (suc (suc (suc (suc (suc zero))))) l b d = is (version 5 1) pageA (sym (ap (λ (x : Operation). x .version) (operation 5)) ∙ b) (sym (ap (λ (x : Operation). x .page) (operation 5)) ∙ d) cut-E
+    go (suc (suc (suc (suc (suc (suc o)))))) l b d = absurd (omega arith)
 
-    go : (o : ℕ) → o < 6 → IsDeposit (ended .history) o bytes → (i : ℕ) → 1 ≤ i → i ≤ 4 → Cut bytes i
-    go zero l d = is pageA (sym (page 0) ∙ d) cut-A
-    go (suc zero) l d = is pageB (sym (page 1) ∙ d) cut-B
-    go (suc (suc zero)) l d = absurd (none≢some (sym (page 2) ∙ d))
-    go (suc (suc (suc zero))) l d = is pageC (sym (page 3) ∙ d) cut-C
-    go (suc (suc (suc (suc zero)))) l d = is pageB (sym (page 4) ∙ d) cut-B
-    go (suc (suc (suc (suc (suc zero))))) l d = is pageA (sym (page 5) ∙ d) cut-A
-    go (suc (suc (suc (suc (suc (suc o)))))) l d = absurd (omega arith)
+-- a reply's string
+abbrev Came : Reply → Type 0
+Came r = Member (digestInput (writeVersion (r .version)) (r .node) (r .piece)) strings
 
-reply-cut : (x : List ℕ) → Among x (ended .history .replied) → Among x pieces
-unfolding expected pieces
-reply-cut x a =
+member-each : (r : Reply) (l : List Reply) → Each Came l → Member r l → Came r
+member-each r (y ∷ l) h m = go (member-each r l (h .1)) (member-cases r y l m)
+  where
+    go : (Member r l → Came r) → (r ≡ y) ⊎ Member r l → Came r
+    go rest (inl e) = subst Came (sym e) (h .0)
+    go rest (inr n) = rest n
+
+reply-came : (r : Reply) → Member r (ended .history .replied) → Came r
+unfolding expected strings ofA ofB ofC
+reply-came r a =
     let e = ap (λ (y : Ending). y .replied) (worked .ends) in
-    among-each x (expected .replied)
-    (nth pieces 3 (omega arith), (nth pieces 7 (omega arith), (nth pieces 5 (omega arith), (nth pieces 6 (omega arith), tt)))) (rw e at a)
+    member-each r (expected .replied)
+    (nth strings 20 (omega arith), (nth strings 7 (omega arith), (nth strings 5 (omega arith), (nth strings 6 (omega arith), tt)))) (rw e at a)
 
-piece-cut : (x : List ℕ) → PieceOf measures (ended .history) x → Among x pieces
-piece-cut x (PieceOf.cut o i v bytes b d lo up e) =
-    let l : o < 6 = omega (arith, begun, b .0) in rw e (deposit-cut o bytes l d i lo up)
-piece-cut x (PieceOf.came a) = reply-cut x a
+string-of : (x : List ℕ) → StringOf measures (ended .history) x → Member x strings
+string-of x (StringOf.cut o i v bytes b d lo up e) =
+    let l : o < 6 = omega (arith, begun, b .0) in rw e (deposit-cut o v bytes l (b .1) d i lo up)
+string-of x (StringOf.came r a lo up e) = rw e (reply-came r a)
 
 -- ---- their digests
 
@@ -134,36 +164,35 @@ distinct : List ℕ → Bool
 distinct [] = true
 distinct (a ∷ l) = absent a l && distinct l
 
-first-bytes : distinct (map first pieces) ≡ true
-unfolding pieces absent distinct K bytes padded words H₀ extended schedule turned round rounds added compress hash joined sha256
+first-bytes : distinct (map first strings) ≡ true
+unfolding strings ofA ofB ofC absent distinct digestInput writeVersion writeNumber K bytes padding padded words H₀ extended schedule turned round rounds added compress hash joined sha256
 first-bytes = refl
 
-absent-among : (a : ℕ) (l : List (List ℕ)) → absent a (map first l) ≡ true → (x : List ℕ) → Among x l → a ≡ first x → ⊥
+absent-member : (a : ℕ) (l : List (List ℕ)) → absent a (map first l) ≡ true → (x : List ℕ) → Member x l → a ≡ first x → ⊥
 unfolding absent
-absent-among a (y ∷ l) t x m e =
-    let u = and-true (not (eqb a (first y))) (absent a (map first l)) t in go (u .0) (λ n. absent-among a l (u .1) x n e) (among-cases x y l m)
+absent-member a (y ∷ l) t x m e =
+    let u = and-true (not (eqb a (first y))) (absent a (map first l)) t in go (u .0) (λ n. absent-member a l (u .1) x n e) (member-cases x y l m)
   where
-    go : not (eqb a (first y)) ≡ true → (Among x l → ⊥) → (x ≡ y) ⊎ Among x l → ⊥
+    go : not (eqb a (first y)) ≡ true → (Member x l → ⊥) → (x ≡ y) ⊎ Member x l → ⊥
     go u rest (inl q) = false≢true (sym (ap not (eq-eqb a (first y) (e ∙ ap first q))) ∙ u)
     go u rest (inr n) = rest n
 
-told-apart : (l : List (List ℕ)) → distinct (map first l) ≡ true → (x y : List ℕ) → Among x l → Among y l → first x ≡ first y → x ≡ y
+told-apart : (l : List (List ℕ)) → distinct (map first l) ≡ true → (x y : List ℕ) → Member x l → Member y l → first x ≡ first y → x ≡ y
 unfolding distinct
 told-apart (z ∷ l) t x y m n e =
     let u = and-true (absent (first z) (map first l)) (distinct (map first l)) t in
-    go (u .0) (λ m′ n′. told-apart l (u .1) x y m′ n′ e) (among-cases x z l m) (among-cases y z l n)
+    go (u .0) (λ m′ n′. told-apart l (u .1) x y m′ n′ e) (member-cases x z l m) (member-cases y z l n)
   where
-    go : absent (first z) (map first l) ≡ true → (Among x l → Among y l → x ≡ y) → (x ≡ z) ⊎ Among x l → (y ≡ z) ⊎ Among y l → x ≡ y
+    go : absent (first z) (map first l) ≡ true → (Member x l → Member y l → x ≡ y) → (x ≡ z) ⊎ Member x l → (y ≡ z) ⊎ Member y l → x ≡ y
     go u rest (inl p) (inl q) = p ∙ sym q
-    go u rest (inl p) (inr n) = absurd (absent-among (first z) l u y n (ap first (sym p) ∙ e))
-    go u rest (inr m) (inl q) = absurd (absent-among (first z) l u x m (ap first (sym q) ∙ sym e))
+    go u rest (inl p) (inr n) = absurd (absent-member (first z) l u y n (ap first (sym p) ∙ e))
+    go u rest (inr m) (inl q) = absurd (absent-member (first z) l u x m (ap first (sym q) ∙ sym e))
     go u rest (inr m) (inr n) = rest m n
 
-differ : Differ (RunPiece measures honest events (fresh measures))
+differ : Differ (RunString measures honest events (fresh measures))
 differ =
-    differ-run measures honest events (fresh measures) (λ x y p q v i e.
-    told-apart pieces first-bytes x y (piece-cut x p) (piece-cut y q)
-    (ap (λ (d : List ℕ). getD d 0 0) (digest-is v i x ∙ e ∙ sym (digest-is v i y))))
+    differ-run measures honest events (fresh measures) borne-once (λ x y p q e.
+    told-apart strings first-bytes x y (string-of x p) (string-of y q) (ap (λ (d : List ℕ). getD d 0 0) e))
 
 -- ---- the claim of this run
 
@@ -175,16 +204,56 @@ at-last : Claim measures honest opened
 unfolding passes
 at-last =
     demand-3 measures refl honest (worked .few) front (front-lent front (last .0 ∷ []) (worked .lent)) (λ x y p q.
-    differ x y (front-pieces measures honest front (last .0 ∷ []) (fresh measures) x p)
-    (front-pieces measures honest front (last .0 ∷ []) (fresh measures) y q))
-
--- an operation at the end
-operation : (j : ℕ) → getD (map (ended .history .operation) (0 ∷ 1 ∷ 2 ∷ 3 ∷ 4 ∷ 5 ∷ [])) j (ofReading none none)
-    ≡ getD (expected .operations) j (ofReading none none)
-operation j = ap (λ (x : Ending). getD (x .operations) j (ofReading none none)) (worked .ends)
+    differ x y (front-strings measures honest front (last .0 ∷ []) (fresh measures) x p)
+    (front-strings measures honest front (last .0 ∷ []) (fresh measures) y q))
 
 bears : (j : ℕ) (v : Version) → j < 6 → ended .history .operation j .version ≡ some v → Bears (ended .history) j v
 bears j v l e = let h : j < ended .history .begun = omega (arith, begun, l) in (h, e)
+
+-- what a reading concerns is one deposit
+first-one : (p : Pointer) (d e : ℕ) (l : List Put) → FirstPut p d l → FirstPut p e l → d ≡ e
+first-one p d e (x ∷ l) (inl a) (inl b) = sym (a .1) ∙ b .1
+first-one p d e (x ∷ l) (inl a) (inr b) = absurd (b .0 (a .0))
+first-one p d e (x ∷ l) (inr a) (inl b) = absurd (a .0 (b .0))
+first-one p d e (x ∷ l) (inr a) (inr b) = first-one p d e l (a .1) (b .1)
+
+concerns-one : (h : History) (o d e : ℕ) → IsReading h o → Concerns h o d → Concerns h o e → d ≡ e
+concerns-one h o d e r (Concerns.itself bytes f q) c = absurd (none≢some (sym r ∙ f))
+concerns-one h o d e r (Concerns.shows x f p n a) (Concerns.itself bytes g q) = absurd (none≢some (sym r ∙ g))
+concerns-one h o d e r (Concerns.shows x f p n a) (Concerns.shows y g q m b) =
+    first-one y d e (h .puts) (subst (λ (w : Pointer). FirstPut w d (h .puts)) (some-eq (sym p ∙ q)) a) b
+
+-- the replies that came to the reading, each matches exactly if it is B's piece at its node
+came-matches : (r : Reply) → Member r (expected .replied) → r .version ≡ version 2 1 → 1 ≤ r .node → r .node ≤ 4 → stands 14 (r .node) ≡ true
+    → (matches measures pointerB (r .node) (r .piece) ≡ true) ↔ (r .piece ≡ piece 2 pageB (r .node))
+unfolding expected
+came-matches r a q lo up n =
+    let pointer : ended .history .operation 2 .pointer ≡ some pointerB = ap (λ (o : Operation). o .pointer) (operation 2) in
+    let page : IsReading (ended .history) 2 = ap (λ (o : Operation). o .page) (operation 2) in
+    let given : ended .history .operation 2 .given ≡ some pageB = ap (λ (o : Operation). o .given) (operation 2) in
+    let l : 2 < ended .history .begun = omega (arith, begun) in
+    let m = at-end .matched 2 pointerB l page pointer (λ e. absurd (omega (arith, ap (λ (p : Pointer). p .named .nodes) e))) in
+    let x = at-end .exact 2 pageB l given in
+    let same : m .1 ≡ pageB =
+    some-eq (sym (m .3) ∙ ap (λ (j : ℕ). ended .history .operation j .page) (concerns-one (ended .history) 2 (m .0) (x .0) page (m .2) (x .1)) ∙ x .2)
+    in
+    subst (λ (b : List ℕ). (matches measures pointerB (r .node) (r .piece) ≡ true) ↔ (r .piece ≡ piece 2 b (r .node))) same
+    (m .4 r (subst (Member r) (sym (ap (λ (y : Ending). y .replied) (worked .ends))) a) q lo up n)
+
+matched-here : (matches measures pointerB 4 (0x00 ∷ 0x04 ∷ 0x41 ∷ []) ≡ true → ⊥)
+    × (matches measures pointerB 4 (0x00 ∷ 0x18 ∷ 0xD7 ∷ 0xD7 ∷ 0xD7 ∷ []) ≡ true)
+    × (matches measures pointerB 2 (0x00 ∷ 0x0C ∷ 0x86 ∷ 0x86 ∷ 0x86 ∷ []) ≡ true)
+unfolding expected stands tabulate polyProduct polyRemainder product power sum columns frame pieceByte piece
+matched-here =
+    let a = replyOf 4 98 (0x00 ∷ 0x04 ∷ 0x41 ∷ []) in
+    let b = replyOf 4 99 (0x00 ∷ 0x18 ∷ 0xD7 ∷ 0xD7 ∷ 0xD7 ∷ []) in
+    let c = replyOf 2 100 (0x00 ∷ 0x0C ∷ 0x86 ∷ 0x86 ∷ 0x86 ∷ []) in (
+      λ e.
+          let f = came-matches a (Member.here _) refl (omega arith) (omega arith) refl .0 e in
+          omega (arith, ap (λ (l : List ℕ). getD l 1 0) f),
+      came-matches b (Member.there a _ (Member.here _)) refl (omega arith) (omega arith) refl .1 refl,
+      came-matches c (Member.there a _ (Member.there b _ (Member.here _))) refl (omega arith) (omega arith) refl .1 refl,
+    )
 
 pub example-demand-3 : Claimed
 unfolding expected stands
@@ -222,5 +291,6 @@ example-demand-3 =
           let unended : Open (opened .history) 2 = (started, ap (λ (o : Operation). o .ended) asking) in
           let h = at-last .held 2 pointerB unended (ap (λ (o : Operation). o .page) asking) (ap (λ (o : Operation). o .pointer) asking) in
           (unended, (h .0, h .1, h .2, h .3, h .4 2 refl (omega arith) (omega arith) refl, h .4 3 refl (omega arith) (omega arith) refl));
+      matched = matched-here;
       few = (ap (λ (x : Ending). piecesOf 1 (x .node-1)) (worked .ends), at-end .few 1 1 refl (omega arith) (omega arith) (omega arith));
     }

@@ -1,5 +1,5 @@
 -- The worked run is as it is written down: one computation of its events by the definitions on bytes.
-use mathlib.Core.Path.{_≡_, refl, ap, ap₂, sym, _∙_}
+use mathlib.Core.Path.{_≡_, refl, ap, ap₂, sym, subst, _∙_}
 use mathlib.Core.Bool.{Bool, true, _&&_}
 use mathlib.Core.List.{List, [], _∷_, _++_}
 use Prim.Native.Nat.{ℕ}
@@ -7,13 +7,13 @@ use native.Mathlib.Omega.{arith}
 use borrow.Author.Tests.{ltb-true}
 use lib.Dec.{ltb}
 use Rattle.coding.specs.Bytes.{Bytes, tabulate}
-use Rattle.coding.specs.Digest.{digestInput, pieceDigest}
+use Rattle.coding.specs.Placed.{digestInput, pieceDigest}
 use Rattle.coding.specs.Field.{polyProduct, polyRemainder, product, power, inverse, sum}
 use Rattle.coding.specs.Join.{joined, pageOf, join}
 use Rattle.coding.specs.Nodes.{all as allOf, nodesOf, sound, firstLength}
 use Rattle.coding.specs.Pieces.{proper, columns, frame, pieceByte, piece}
 use Rattle.coding.specs.Polynomial.{value, plus, times, rootsAt, interpolate}
-use Rattle.coding.specs.Sha256.{K, bytes, padded, words, H₀, extended, schedule, turned, round, rounds, added, compress, hash, joined as digestJoined, sha256}
+use Rattle.coding.specs.Sha256.{K, bytes, padding, padded, words, H₀, extended, schedule, turned, round, rounds, added, compress, hash, joined as digestJoined, sha256}
 use Rattle.coding.specs.Split.{written as splitWritten, split}
 use Rattle.coding.proofs.BytesLaws.{bytes-cons}
 use Rattle.coding.proofs.Cases.{and-true}
@@ -40,14 +40,15 @@ use Rattle.parties.specs.protocol.Claim.{Lent, AllLent}
 use Rattle.parties.specs.protocol.Example.{measures, honest, last, opening, front, events, opened, ended, answers, Ending, ending, expected, Worked}
 use Rattle.parties.proofs.protocol.formats.BytesWritten.{bytes-nil}
 use Rattle.parties.proofs.protocol.events.RunLaws.{run-last}
+use Rattle.parties.proofs.protocol.claim.StringLaws.{unborne, firstly, clientOf, marksOnce, borneOnce, borne-last}
 
--- ---- answers and state at once, so that each event is computed once
+-- ---- answers, whether versions are borne once, and state at once, so that each event is computed once
 
-unfoldable play : Measures → (ℕ → Bool) → List Event → State → List Answered × State
-play s honest [] st = ([], st)
+unfoldable play : Measures → (ℕ → Bool) → List Event → State → List Answered × Bool × State
+play s honest [] st = ([], true, st)
 play s honest (e ∷ es) st =
     let r = carryOut s honest e st in
-    let q = play s honest es (r .state) in (r .answer ∷ q .0, q .1)
+    let q = play s honest es (r .state) in (r .answer ∷ q .0, marksOnce (clientOf e) (r .answer) (st .history) && q .1, q .2)
 
 play-answers : (s : Measures) (honest : ℕ → Bool) (es : List Event) (st : State) → play s honest es st .0 ≡ answers s honest es st
 unfolding play answers
@@ -55,7 +56,13 @@ play-answers s honest [] st = refl
 play-answers s honest (e ∷ es) st =
     ap (λ l. carryOut s honest e st .answer ∷ l) (play-answers s honest es (carryOut s honest e st .state))
 
-play-run : (s : Measures) (honest : ℕ → Bool) (es : List Event) (st : State) → play s honest es st .1 ≡ run s honest es st
+play-once : (s : Measures) (honest : ℕ → Bool) (es : List Event) (st : State) → play s honest es st .1 ≡ borneOnce s honest es st
+unfolding play borneOnce
+play-once s honest [] st = refl
+play-once s honest (e ∷ es) st =
+    ap (λ b. marksOnce (clientOf e) (carryOut s honest e st .answer) (st .history) && b) (play-once s honest es (carryOut s honest e st .state))
+
+play-run : (s : Measures) (honest : ℕ → Bool) (es : List Event) (st : State) → play s honest es st .2 ≡ run s honest es st
 unfolding play run
 play-run s honest [] st = refl
 play-run s honest (e ∷ es) st = play-run s honest es (carryOut s honest e st .state)
@@ -70,12 +77,12 @@ answers-last s honest (x ∷ es) e st = ap (λ l. carryOut s honest x st .answer
 abbrev lasting : Result → List Answered → State → Ending
 lasting r l st = ending (l ++ (r .answer ∷ [])) st (r .state)
 
-abbrev endOf : List Answered × State → Ending
-endOf (l, st) = lasting (carryOut measures honest (last .0) st) l st
+abbrev endOf : List Answered × Bool × State → Ending × Bool
+endOf (l, b, st) = let r = carryOut measures honest (last .0) st in (lasting r l st, marksOnce (clientOf (last .0)) (r .answer) (st .history) && b)
 
-played : endOf (play measures honest front (fresh measures)) ≡ expected
-unfolding expected play tabulate digestInput pieceDigest polyProduct polyRemainder product power inverse sum joined pageOf join allOf nodesOf sound
-    firstLength proper columns frame pieceByte piece value plus times rootsAt interpolate K bytes padded words H₀ extended schedule turned round
+played : endOf (play measures honest front (fresh measures)) ≡ (expected, true)
+unfolding expected play unborne firstly marksOnce tabulate digestInput pieceDigest polyProduct polyRemainder product power inverse sum joined pageOf join allOf nodesOf sound
+    firstLength proper columns frame pieceByte piece value plus times rootsAt interpolate K bytes padding padded words H₀ extended schedule turned round
     rounds added compress hash digestJoined sha256 splitWritten split readNumber writeNumber readMany writeMany readEach readBytes readZeros readArea
     writeArea passes ascending stands withNode readVersion writeVersion properPointer readNamed writeNamed readPointer writePointer readIndex
     writeIndex readContent writeContent readFields writeFields mapOf readRecord writeRecord readRow readDirectory writeDirectory merge updateRow
@@ -139,7 +146,16 @@ worked =
           (run-last measures honest front (last .0) (fresh measures))
           ∙ ap₂ (λ l st. lasting (carryOut measures honest (last .0) st) l st) (sym (play-answers measures honest front (fresh measures)))
           (sym (play-run measures honest front (fresh measures)))
-          ∙ played;
+          ∙ ap (λ (x : Ending × Bool). x .0) played;
       few = omega arith;
       lent = all-lent events lent-here;
     }
+
+-- and no operation of it bears a second version
+pub borne-once : borneOnce measures honest events (fresh measures) ≡ true
+borne-once =
+    let p = play measures honest front (fresh measures) in
+    let t = and-true (marksOnce 2 (carryOut measures honest (last .0) (p .2) .answer) (p .2 .history)) (p .1) (ap (λ (x : Ending × Bool). x .1) played) in
+    borne-last measures honest front (last .0) (fresh measures) (sym (play-once measures honest front (fresh measures)) ∙ t .1)
+    (subst (λ (st : State). marksOnce 2 (carryOut measures honest (last .0) st .answer) (st .history) ≡ true)
+    (play-run measures honest front (fresh measures)) (t .0))

@@ -1,8 +1,9 @@
 -- Laws of messages to clients on values: which replies match, how many must, and what the matching pieces join to.
-use mathlib.Core.Path.{_≡_, refl, sym, ap, _∙_}
+use mathlib.Core.Path.{_≡_, refl, sym, ap, subst, _∙_}
 use mathlib.Core.Bool.{Bool, true, false, cond, false≢true, true≢false}
 use mathlib.Core.Logic.{_⊎_, inl, inr}
 use mathlib.Core.List.{List, [], _∷_, _++_, map, append-assoc}
+use mathlib.Core.Option.{some}
 use Prim.Native.Nat.{ℕ, zero, suc, _+_, _-_, _*_, _^_, _<_, _≤_}
 use native.Mathlib.Nat.{suc-mul}
 use native.Mathlib.Decide.{ℕ-discrete}
@@ -13,7 +14,7 @@ use lib.ListN.{length, getD, take, drop, replicate, length-drop, length-map, Lis
 use lib.Seq.{take-append-seam, getD-drop, drop-append-add}
 use Rattle.coding.specs.Bytes.{Bytes}
 use Rattle.coding.specs.Pieces.{columns, piece}
-use Rattle.coding.specs.Digest.{pieceDigest}
+use Rattle.coding.specs.Placed.{digestInput, pieceDigest}
 use Rattle.coding.specs.Answer.{Outcome}
 use Rattle.coding.specs.Nodes.{nodesOf, sound, firstLength}
 use Rattle.coding.specs.Join.{join}
@@ -21,6 +22,7 @@ use Rattle.coding.proofs.BytesLaws.{getD-tabulate}
 use Rattle.coding.proofs.Cases.{and-true}
 use Rattle.coding.proofs.NodesLaws.{nodes-few, nodes-within, sound-rest, first-length}
 use Rattle.coding.proofs.PageLaws.{all-at, all-from}
+use Rattle.coding.proofs.PlacedLaws.{digest-is, input-apart}
 use Rattle.coding.proofs.RoundTripLaws.{piece-in, length-piece}
 use Rattle.coding.proofs.JoinEndLaws.{joined-page}
 use Rattle.parties.specs.declared.Measures.{Measures}
@@ -31,7 +33,8 @@ use Rattle.parties.specs.protocol.Pointer.{Pointer, nonePointer, writeVe
 use Rattle.parties.specs.protocol.Client.{lengths, areas}
 use Rattle.parties.specs.protocol.Deposit.{digestsOf, pointerOf}
 use Rattle.parties.specs.protocol.Reading.{sameBytes, digestAt, digestOf, matches, allCounted}
-use Rattle.parties.specs.protocol.Claim.{dishonest}
+use Rattle.parties.specs.protocol.Run.{History}
+use Rattle.parties.specs.protocol.Claim.{StringOf, Differ, dishonest}
 use Rattle.parties.proofs.protocol.formats.FormatLaws.{Each, length-area}
 use Rattle.parties.proofs.protocol.formats.MeasureLaws.{Passed}
 use Rattle.parties.proofs.protocol.formats.NodeMapLaws.{nodes-all, nodes-stand, stands-listed, count-step}
@@ -39,6 +42,7 @@ use Rattle.parties.proofs.protocol.formats.ClientLaws.{ShortPiece, leng
 use Rattle.parties.proofs.protocol.formats.BytesWritten.{bytes-areas}
 use Rattle.parties.proofs.protocol.model.Model.{ver, Model, pointed}
 use Rattle.parties.proofs.protocol.invariants.Invariants.{Known, Drawing, Pointed, unnum}
+use Rattle.parties.proofs.protocol.invariants.Chronicle.{Deposited}
 use Rattle.parties.proofs.protocol.model.VersionNumbers.{unnum-num}
 use Rattle.parties.proofs.protocol.model.PastLaws.{some-formed}
 use Rattle.parties.proofs.protocol.steps.GoodLaws.{proper-passed, piece-some, piece-short}
@@ -210,12 +214,11 @@ module _ (z : Measures) (p : Passed z) (page : List ℕ) (b : Bytes page) (short
       ∙ ap (λ (x : ℕ). take x (drop ((j - 1) * z .f) (areas z ps))) e
       ∙ sym (piece-in (z .f) (areas z ps) c j)))
 
--- ---- a piece more
-
 -- ---- the pointer that a reading has picked is its deposit's
 
 pub record Picked (z : Measures) (s : Model) (x : Pointer) : Type 0 where
   pub drawn : s .p .drawn (ver x) ≡ true
+  pub version : unnum (ver x) ≡ x .version
   pub pointer : x ≡ pointed z (x .version) (s .p .pages (ver x)) (x .named .nodes)
   pub within : x .named .nodes < 2 ^ z .n
   pub enough : count (x .named .nodes) ≡ z .t + z .k
@@ -237,9 +240,34 @@ known-picked z p s o x l (Known.formed d e c g) h = go (o (ver x) d .pointer)
         let n : x .named .nodes ≡ q .nodes = ap (λ (w : Pointer). w .named .nodes) f in
         record {
           drawn = d;
+          version = v;
           pointer = f ∙ ap (λ (w : Version). pointed z w (s .p .pages (ver x)) (q .nodes)) v ∙ ap (pointed z (x .version) (s .p .pages (ver x))) (sym n);
           within = rw n (q .within);
           enough = rw n (q .enough);
           bytes = y .bytes;
           long = y .long;
         }
+
+-- ---- which pieces match the pointer that a reading has picked (document 02, i)
+
+module _ (z : Measures) (p : Passed z) (s : Model) (x : Pointer) (pick : Picked z s x) (i : ℕ) (lo : 1 ≤ i) (up : i ≤ z .n)
+    (named : stands (x .named .nodes) i ≡ true) where
+  -- its deposit's piece at the node does
+  pub own-matched : (y : List ℕ) → y ≡ piece (z .k) (s .p .pages (ver x)) i → matches z x i y ≡ true
+  own-matched y e =
+      ap (matches z x i) e
+      ∙ subst (λ (w : Pointer). matches z w i (piece (z .k) (s .p .pages (ver x)) i) ≡ true) (sym (pick .pointer))
+      (own-matches z p (x .version) (s .p .pages (ver x)) (x .named .nodes) i lo up named (pick .long))
+
+  -- and no other that the premise on digests is about
+  pub matched-own : (h : History) → Deposited h (s .p) (ver x) → Differ (StringOf z h) → (y : List ℕ)
+      → StringOf z h (digestInput (writeVersion (x .version)) i y) → matches z x i y ≡ true → y ≡ piece (z .k) (s .p .pages (ver x)) i
+  matched-own h d differ y came same =
+      let g = s .p .pages (ver x) in
+      let v = writeVersion (x .version) in
+      let cut = StringOf.cut (s .p .deposits (ver x)) i (x .version) g (d .begun, d .version ∙ ap some (pick .version)) (d .page) lo up refl in
+      let e =
+      matches-digest z p (x .version) g (x .named .nodes) i lo up named y (subst (λ (w : Pointer). matches z w i y ≡ true) (pick .pointer) same)
+      in
+      input-apart v v i i y (piece (z .k) g i) refl
+      (differ (digestInput v i y) (digestInput v i (piece (z .k) g i)) came cut (digest-is v i y ∙ e ∙ sym (digest-is v i (piece (z .k) g i)))) .2

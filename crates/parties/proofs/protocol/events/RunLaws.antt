@@ -52,7 +52,7 @@ module _ (s : Measures) (honest : ℕ → Bool) (st : State) where
       ∙ ap (λ (b : Bool). cond b (keeps c i q (nodeMessage s i (st .nodes i) m room) (nodeMessage s i (st .nodes i) m room .answer) st) (lost c i q st)) h
 
   pub head-to-client : (i c : ℕ) (room out m : List ℕ) (q : List (List ℕ)) → st .toClient i c ≡ m ∷ q
-      → carryOut s honest (deliver i c room out) st ≡ told s c m (upd₂ (st .toClient) i c q) (clientMessage s c i (st .clients c) m room out) st
+      → carryOut s honest (deliver i c room out) st ≡ told s c i m (upd₂ (st .toClient) i c q) (clientMessage s c i (st .clients c) m room out) st
   unfolding carryOut
   head-to-client i c room out m q e = ap (λ (x : List (List ℕ)). delivered s i c room out x st) e
 

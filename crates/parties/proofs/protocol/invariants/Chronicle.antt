@@ -10,7 +10,8 @@ use Rattle.parties.specs.declared.Version.{Version}
 use Rattle.parties.specs.protocol.Pointer.{Pointer, nonePointer}
 use Rattle.parties.specs.protocol.Run.{History, Put}
 use Rattle.parties.proofs.protocol.model.Model.{num, ver, Turn, Clients, Past, Model, shownWritten, offer}
-use Rattle.parties.proofs.protocol.invariants.Invariants.{Member, unnum}
+use Rattle.parties.specs.protocol.Claim.{Member}
+use Rattle.parties.proofs.protocol.invariants.Invariants.{unnum}
 
 -- ---- operations
 

@@ -17,6 +17,7 @@ use Rattle.parties.specs.protocol.Node.{handBack, listed}
 use Rattle.parties.specs.protocol.NodeEvents.{isHeld}
 use Rattle.parties.specs.protocol.Message.{ToNode, ToClient}
 use Rattle.parties.specs.protocol.Reading.{sameVersion}
+use Rattle.parties.specs.protocol.Claim.{Member}
 use Rattle.parties.proofs.protocol.formats.FormatLaws.{Each}
 use Rattle.parties.proofs.protocol.model.Model.{num, ver, Rows, Turn, Clients, Nodes, Past, Model, shownReading, offer, last, pointed}
 
@@ -233,10 +234,6 @@ abbrev pub effect : ToNode → (Version → Bool) → Version → Bool
 effect (ToNode.store v x) f u = sameVersion u v || f u
 effect (ToNode.request v) f u = f u
 effect (ToNode.free l) f u = f u && not (listed u l)
-
-pub data Member {A : Type 0} (a : A) : List A → Type 0 where
-  here : (l : List A) → Member a (a ∷ l)
-  there : (b : A) (l : List A) → Member a l → Member a (b ∷ l)
 
 -- at most 2m versions of client w
 pub record Bounded (z : Measures) (w : ℕ) (f : Version → Bool) : Type 0 where

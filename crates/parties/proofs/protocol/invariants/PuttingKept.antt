@@ -14,7 +14,8 @@ use Rattle.parties.proofs.protocol.model.Cells.{by-eq, chosen}
 use Rattle.parties.proofs.protocol.formats.MeasureLaws.{Passed}
 use Rattle.parties.proofs.protocol.model.Model.{num, ver, Rows, Turn, Clients, Nodes, Past, Model, Picks, Next, putBy, rowsOf, offer}
 use Rattle.parties.proofs.protocol.model.Model.{notices, turned, raisedBy, frozenBy, published, drawnBy, pointedBy, pointed}
-use Rattle.parties.proofs.protocol.invariants.Invariants.{Member, Owned, Drawing}
+use Rattle.parties.specs.protocol.Claim.{Member}
+use Rattle.parties.proofs.protocol.invariants.Invariants.{Owned, Drawing}
 use Rattle.parties.proofs.protocol.invariants.Chronicle.{Listed, NoneOrListed, OffersListed, Rightly, Recording, Putting}
 use Rattle.parties.proofs.protocol.model.MemberLaws.{member-left, member-last, member-split}
 use Rattle.parties.proofs.protocol.model.PastLaws.{formed-kept, draw-fresh}

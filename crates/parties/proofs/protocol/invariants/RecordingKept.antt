@@ -18,7 +18,8 @@ use Rattle.parties.proofs.protocol.model.Cells.{by-eq}
 use Rattle.parties.proofs.protocol.formats.MeasureLaws.{Passed}
 use Rattle.parties.proofs.protocol.model.Model.{num, ver, Rows, Turn, Clients, Shown, Nodes, Past, Model, Marks, Quiet, Marked, Picks, Above, Next}
 use Rattle.parties.proofs.protocol.model.Model.{turned, raisedBy, frozenBy, published, drawnBy, pointedBy, begunBy, pointed, choosing}
-use Rattle.parties.proofs.protocol.invariants.Invariants.{Member, Known, Owned, Drawing}
+use Rattle.parties.specs.protocol.Claim.{Member}
+use Rattle.parties.proofs.protocol.invariants.Invariants.{Known, Owned, Drawing}
 use Rattle.parties.proofs.protocol.invariants.Chronicle.{Current, Doing, Busy, Listed, ShownPointer, Deposited, Recording, Putting}
 use Rattle.parties.proofs.protocol.model.MemberLaws.{member-left}
 use Rattle.parties.proofs.protocol.model.PastLaws.{pointed-version, known-offer, draw-fresh}

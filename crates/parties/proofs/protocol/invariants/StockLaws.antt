@@ -14,7 +14,7 @@ use Rattle.parties.specs.declared.Measures.{Measures}
 use Rattle.parties.specs.declared.Version.{Version}
 use Rattle.parties.specs.protocol.NodeTable.{Held, inOrder}
 use Rattle.parties.specs.protocol.Node.{handBack, listed}
-use Rattle.parties.specs.protocol.Claim.{piecesOf}
+use Rattle.parties.specs.protocol.Claim.{Member, piecesOf}
 use Rattle.parties.specs.protocol.NodeEvents.{isHeld}
 use Rattle.parties.specs.protocol.Message.{ToNode}
 use Rattle.parties.specs.protocol.Reading.{sameVersion}
@@ -25,7 +25,7 @@ use Rattle.parties.proofs.protocol.formats.MeasureLaws.{Passed}
 use Rattle.parties.proofs.protocol.formats.VersionLaws.{Below, true-below, below-trans, below-irrefl, not-below-self, not-below-back, same-eq, eq-same}
 use Rattle.parties.proofs.protocol.events.NodeLaws.{split-ascending, hand-more, hand-same}
 use Rattle.parties.proofs.protocol.model.Model.{num, Past, Model}
-use Rattle.parties.proofs.protocol.invariants.Invariants.{Owned, Keeps, Member, Plays, NoStore, Stocked, Stocking, effect, holding}
+use Rattle.parties.proofs.protocol.invariants.Invariants.{Owned, Keeps, Plays, NoStore, Stocked, Stocking, effect, holding}
 use Rattle.parties.proofs.protocol.model.QueueLaws.{hand-each}
 use Rattle.parties.proofs.protocol.model.PlaysLaws.{plays-few}
 

@@ -4,11 +4,11 @@ use mathlib.Core.List.{List}
 use mathlib.Core.Option.{Option, none}
 use Prim.Native.Nat.{ℕ, _+_}
 use borrow.Author.Tests.{eq-eqb}
-use Rattle.parties.specs.protocol.Run.{History, Operation, Put, begin, upd}
+use Rattle.parties.specs.protocol.Run.{History, Operation, Put, Reply, begin, upd}
 use Rattle.parties.proofs.protocol.model.Model.{Marks}
 
--- one event more, with these operations, puts and pieces that came
-abbrev pub after : History → (ℕ → Operation) → List Put → List (List ℕ) → History
+-- one event more, with these operations, puts and replies
+abbrev pub after : History → (ℕ → Operation) → List Put → List Reply → History
 after h operation puts replied =
     record { time = h .time + 1; begun = h .begun; operation = operation; latest = h .latest; puts = puts; replied = replied }
 
@@ -24,10 +24,10 @@ marks-after h h′ operation puts q =
     }
 
 -- client c's last operation is a now
-abbrev pub markedAt : History → ℕ → Operation → List (List ℕ) → History
+abbrev pub markedAt : History → ℕ → Operation → List Reply → History
 markedAt h c a replied = after h (upd (h .operation) (h .latest c) a) (h .puts) replied
 
-pub marked-last : (h : History) (c : ℕ) (a : Operation) (replied : List (List ℕ)) → markedAt h c a replied .operation (h .latest c) ≡ a
+pub marked-last : (h : History) (c : ℕ) (a : Operation) (replied : List Reply) → markedAt h c a replied .operation (h .latest c) ≡ a
 marked-last h c a replied = rw (eq-eqb (h .latest c) (h .latest c) refl) refl
 
 -- an operation that begins

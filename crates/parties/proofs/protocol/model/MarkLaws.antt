@@ -10,7 +10,7 @@ use lib.Dec.{eqb}
 use Rattle.coding.proofs.PageLaws.{none≢some, some-eq}
 use Rattle.parties.specs.declared.Version.{Version}
 use Rattle.parties.specs.protocol.Pointer.{Pointer}
-use Rattle.parties.specs.protocol.Run.{History, Operation, begin, bearing, ending, giving}
+use Rattle.parties.specs.protocol.Run.{Reply, History, Operation, begin, bearing, ending, giving}
 use Rattle.parties.proofs.protocol.model.Model.{num, ver, Past, drawnBy, choosing}
 use Rattle.parties.proofs.protocol.invariants.Invariants.{Known}
 use Rattle.parties.proofs.protocol.invariants.Chronicle.{Undrawn, Drawn, Unpicked, Picked, Current, Listed, ShownPointer, Deposited}
@@ -30,7 +30,7 @@ pub record Marking (b a : Operation) : Type 0 where
 pub unborne : (b : Operation) (w : Option Version) → b .version ≡ none → (v : Version) → b .version ≡ some v → w ≡ some v
 unborne b w n v e = absurd (none≢some (sym n ∙ e))
 
-module _ (h : History) (c : ℕ) (a : Operation) (b : Current h c) (replied : List (List ℕ)) where
+module _ (h : History) (c : ℕ) (a : Operation) (b : Current h c) (replied : List Reply) where
   -- the other clients' last operations are others
   pub marked-others : (j : ℕ) → (j ≡ c → ⊥) → Current h j → Same h (markedAt h c a replied) j
   marked-others j e i =
@@ -53,14 +53,14 @@ fair-ending h p o time a f = record { draws = f .draws; reads = f .reads; pointe
 -- ---- a deposit's version
 
 module _ (h : History) (p : Past) (c : ℕ) (bytes : List ℕ) (v : Version) (a : Undrawn h c bytes) where
-  pub drawn-bearing : (replied : List (List ℕ))
+  pub drawn-bearing : (replied : List Reply)
       → Drawn (markedAt h c (bearing v (h .operation (h .latest c))) replied) (drawnBy p (num v) bytes (h .latest c)) c v
   drawn-bearing replied =
       let y = marked-last h c (bearing v (h .operation (h .latest c))) replied in
       let same = eq-eqb (num v) (num v) refl in
       record { page = rw (y, same) (a .page); version = rw y refl; deposit = rw same refl }
 
-  pub deposited-bearing : (replied : List (List ℕ)) → h .latest c < h .begun → v .client < 256
+  pub deposited-bearing : (replied : List Reply) → h .latest c < h .begun → v .client < 256
       → Deposited (markedAt h c (bearing v (h .operation (h .latest c))) replied) (drawnBy p (num v) bytes (h .latest c)) (num v)
   deposited-bearing replied b l =
       let y = marked-last h c (bearing v (h .operation (h .latest c))) replied in
@@ -85,7 +85,7 @@ pub picked-shown : (h : History) (p : Past) (w : ℕ) (x : Pointer) → (ver x �
 picked-shown h p w x ne (Known.absent e) i = absurd (ne (ap ver e))
 picked-shown h p w x ne (Known.formed d q c n) i = ShownPointer.put d q n i
 
-pub picked-pointing : (h : History) (c : ℕ) (x : Pointer) → Unpicked h c → (replied : List (List ℕ))
+pub picked-pointing : (h : History) (c : ℕ) (x : Pointer) → Unpicked h c → (replied : List Reply)
     → Picked (markedAt h c (choosing x (h .operation (h .latest c))) replied) c x
 picked-pointing h c x a replied =
     let y = marked-last h c (choosing x (h .operation (h .latest c))) replied in record { page = rw y (a .page); version = rw y refl; pointer = rw y refl }

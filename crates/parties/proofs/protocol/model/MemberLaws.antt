@@ -2,7 +2,7 @@
 use mathlib.Core.Path.{_≡_, refl, subst}
 use mathlib.Core.Logic.{_⊎_, inl, inr}
 use mathlib.Core.List.{List, [], _∷_, _++_}
-use Rattle.parties.proofs.protocol.invariants.Invariants.{Member}
+use Rattle.parties.specs.protocol.Claim.{Member}
 
 module _ {A : Type 0} (x : A) where
   pub member-first : (a : A) (l : List A) → a ≡ x → Member x (a ∷ l)

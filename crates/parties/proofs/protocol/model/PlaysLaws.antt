@@ -20,7 +20,8 @@ use Rattle.parties.proofs.protocol.formats.MeasureLaws.{Passed}
 use Rattle.parties.proofs.protocol.formats.VersionLaws.{same-eq, eq-same}
 use Rattle.parties.proofs.protocol.events.NodeLaws.{hand-kept, hand-other, hand-released, hand-left}
 use Rattle.parties.proofs.protocol.model.Model.{Turn, Clients, Past, Model}
-use Rattle.parties.proofs.protocol.invariants.Invariants.{Owned, Depositing, Keeps, Member, Bounded, Plays, Sound, effect, holding}
+use Rattle.parties.specs.protocol.Claim.{Member}
+use Rattle.parties.proofs.protocol.invariants.Invariants.{Owned, Depositing, Keeps, Bounded, Plays, Sound, effect, holding}
 use Rattle.parties.proofs.protocol.model.MemberLaws.{member-first}
 
 -- ---- a node's table

@@ -20,7 +20,7 @@ use Rattle.parties.specs.declared.Measures.{Measures}
 use Rattle.parties.specs.declared.Version.{Version}
 use Rattle.parties.specs.protocol.Measures.{passes}
 use Rattle.parties.specs.protocol.Nodes.{count, stands, withNode}
-use Rattle.parties.specs.protocol.Pointer.{Pointer, writeVersion}
+use Rattle.parties.specs.protocol.Pointer.{Pointer}
 use Rattle.parties.specs.protocol.Directory.{writeRecord}
 use Rattle.parties.specs.protocol.Message.{ToClient, answer, readToClient, writeToClient}
 use Rattle.parties.specs.protocol.Client.{Phase, Client, writeClient, clientSize, lengths, areas}
@@ -29,10 +29,11 @@ use Rattle.parties.specs.protocol.Reading.{counts, matches, allCounted, 
 use Rattle.parties.specs.protocol.Answer.{ClientAnswer, refused, waits, scan, update, stores, requests, deposited, empty, page, spent, failed}
 use Rattle.parties.specs.protocol.ClientEvents.{ClientEnd, Step, after, unchanged, onClient, onMessage, withPhase, lay, roomSize, acknowledge, storedAt}
 use Rattle.parties.specs.protocol.ClientEvents.{goOn, joinedAt, ends, counted, repliedAt, messageAt, clientMessage, messageTo}
-use Rattle.parties.specs.protocol.Run.{History, Operation, Call, updateCall, State, Event, Result, Answered, byClient, upd, upd₂, tick, mark, marked, heard}
-use Rattle.parties.specs.protocol.Run.{pieceOf, ending, giving, stays, goes, called, isRefused, told, delivered, carryOut, deliver, lie}
-use Rattle.parties.specs.protocol.Claim.{Sane, Among, PieceOf, Differ, dishonest}
+use Rattle.parties.specs.protocol.Run.{Reply, History, Operation, Call, updateCall, State, Event, Result, Answered, byClient, upd, upd₂, tick, mark, marked, heard}
+use Rattle.parties.specs.protocol.Run.{replying, ending, giving, stays, goes, called, isRefused, told, delivered, carryOut, deliver, lie}
+use Rattle.parties.specs.protocol.Claim.{Sane, Member, StringOf, Differ, dishonest}
 use Rattle.parties.proofs.protocol.model.Cells.{by-eq, chosen}
+use Rattle.parties.proofs.protocol.model.MemberLaws.{member-last}
 use Rattle.parties.proofs.protocol.formats.FormatLaws.{Each}
 use Rattle.parties.proofs.protocol.formats.EachLaws.{each-set}
 use Rattle.parties.proofs.protocol.formats.MeasureLaws.{Passed, passed as measures}
@@ -48,11 +49,11 @@ use Rattle.parties.proofs.protocol.steps.View.{Shows, Follows, ToClient
 use Rattle.parties.proofs.protocol.steps.ViewLaws.{sane-number, sane-quiet, quiet-heard, stays-follows, goes-shows, unsent, others-turned}
 use Rattle.parties.proofs.protocol.steps.ViewLaws.{silent-follows, quiet-mark, record-reads, own-turned, rows-turned}
 use Rattle.parties.proofs.protocol.steps.GoodLaws.{pointed-good, ver-some, piece-short}
-use Rattle.parties.proofs.protocol.events.ReplyLaws.{own-matches, matches-digest, enough-match, all-counted, joined-reading, Picked, known-picked}
+use Rattle.parties.proofs.protocol.events.ReplyLaws.{enough-match, all-counted, joined-reading, Picked, known-picked, own-matched, matched-own}
 
--- no two different pieces of a history share a digest
+-- no two different strings of a history share a digest
 abbrev DigestsDiffer : Measures → History → Type 0
-DigestsDiffer s h = Differ (PieceOf s h)
+DigestsDiffer s h = Differ (StringOf s h)
 
 -- ---- the history after a message
 
@@ -125,15 +126,15 @@ after-leaves : (z : Measures) (client room out rest : List ℕ) (e : Step) → S
 after-leaves z client room out rest (Step.stays a) h = h
 after-leaves z client room out rest (Step.does a x r o) h = h
 
--- operations of the same pages and versions have the same pieces
+-- operations of the same pages and versions have the same strings
 module _ (z : Measures) (h h′ : History) (b : h′ .begun ≡ h .begun) (p : (o : ℕ) → h′ .operation o .page ≡ h .operation o .page)
     (v : (o : ℕ) → h′ .operation o .version ≡ h .operation o .version) (r : h′ .replied ≡ h .replied) where
-  same-piece : (x : List ℕ) → PieceOf z h x → PieceOf z h′ x
-  same-piece x (PieceOf.cut o i u bytes e d lo up q) = PieceOf.cut o i u bytes (rw b (e .0), v o ∙ e .1) (p o ∙ d) lo up q
-  same-piece x (PieceOf.came a) = PieceOf.came (rw r a)
+  same-string : (x : List ℕ) → StringOf z h x → StringOf z h′ x
+  same-string x (StringOf.cut o i u bytes e d lo up q) = StringOf.cut o i u bytes (rw b (e .0), v o ∙ e .1) (p o ∙ d) lo up q
+  same-string x (StringOf.came y a lo up q) = StringOf.came y (rw r a) lo up q
 
   same-differ : DigestsDiffer z h′ → DigestsDiffer z h
-  same-differ d x y e f = d x y (same-piece x e) (same-piece y f)
+  same-differ d x y e f = d x y (same-string x e) (same-string y f)
 
 module _ (f : ℕ → Operation) (i : ℕ) (x : Operation) where
   upd-page : x .page ≡ f i .page → (o : ℕ) → upd f i x o .page ≡ f o .page
@@ -143,41 +144,37 @@ module _ (f : ℕ → Operation) (i : ℕ) (x : Operation) where
   upd-version e o = by-eq o i (λ g q. rw g (rw q e)) (λ g q. rw g refl)
 
 -- the premise on digests, said of the history after the event, holds once the message is heard
-module _ (z : Measures) (c : ℕ) (message : List ℕ) (tc : ℕ → ℕ → List (List ℕ)) (st : State) where
+module _ (z : Measures) (c i : ℕ) (message : List ℕ) (tc : ℕ → ℕ → List (List ℕ)) (st : State) where
   answered-differ : (a : ClientAnswer) (client room out : List ℕ) → Leaves a
-      → DigestsDiffer z (told z c message tc (record { answer = a; client = client; room = room; out = out }) st .state .history)
-      → DigestsDiffer z (heard z message (st .history))
-  answered-differ (refused n) client room out l d = same-differ z (heard z message (st .history)) _ refl (λ o. refl) (λ o. refl) refl d
-  answered-differ waits client room out l d = same-differ z (heard z message (st .history)) _ refl (upd-page _ _ _ refl) (upd-version _ _ _ refl) refl d
+      → DigestsDiffer z (told z c i message tc (record { answer = a; client = client; room = room; out = out }) st .state .history)
+      → DigestsDiffer z (heard z c i message (isRefused a) (st .history))
+  answered-differ (refused n) client room out l d = same-differ z (heard z c i message true (st .history)) _ refl (λ o. refl) (λ o. refl) refl d
+  answered-differ waits client room out l d = same-differ z (heard z c i message false (st .history)) _ refl (upd-page _ _ _ refl) (upd-version _ _ _ refl) refl d
   answered-differ scan client room out l d = absurd l
-  answered-differ (update len) client room out l d = same-differ z (heard z message (st .history)) _ refl (upd-page _ _ _ refl) (upd-version _ _ _ refl) refl d
+  answered-differ (update len) client room out l d = same-differ z (heard z c i message false (st .history)) _ refl (upd-page _ _ _ refl) (upd-version _ _ _ refl) refl d
   answered-differ (stores v len) client room out l d = absurd l
   answered-differ (requests v nodes) client room out l d = absurd l
   answered-differ (deposited v len) client room out l d = absurd l
   answered-differ empty client room out l d = absurd l
-  answered-differ (page v len) client room out l d = same-differ z (heard z message (st .history)) _ refl (upd-page _ _ _ refl) (upd-version _ _ _ refl) refl d
+  answered-differ (page v len) client room out l d = same-differ z (heard z c i message false (st .history)) _ refl (upd-page _ _ _ refl) (upd-version _ _ _ refl) refl d
   answered-differ spent client room out l d = absurd l
-  answered-differ failed client room out l d = same-differ z (heard z message (st .history)) _ refl (upd-page _ _ _ refl) (upd-version _ _ _ refl) refl d
+  answered-differ failed client room out l d = same-differ z (heard z c i message false (st .history)) _ refl (upd-page _ _ _ refl) (upd-version _ _ _ refl) refl d
 
-  told-differ : (e : ClientEnd) → Leaves (e .answer) → DigestsDiffer z (told z c message tc e st .state .history)
-      → DigestsDiffer z (heard z message (st .history))
+  told-differ : (e : ClientEnd) → Leaves (e .answer) → DigestsDiffer z (told z c i message tc e st .state .history)
+      → DigestsDiffer z (heard z c i message (isRefused (e .answer)) (st .history))
   told-differ e l d = answered-differ (e .answer) (e .client) (e .room) (e .out) l d
 
 -- an answer that ends a reading
-given-mark : (z : Measures) (c : ℕ) (message : List ℕ) (e : ClientEnd) (v : Version) (bytes rest : List ℕ) (h : History)
+given-mark : (z : Measures) (c i : ℕ) (message : List ℕ) (e : ClientEnd) (v : Version) (bytes rest : List ℕ) (h : History)
     → e .answer ≡ page v (length bytes) → e .out ≡ bytes ++ rest
-    → Marked h (mark z c e (heard z message h)) c (λ k. ending (h .time) (giving bytes k))
-given-mark z c message e v bytes rest h f g =
+    → Marked h (mark z c e (heard z c i message false h)) c (λ k. ending (h .time) (giving bytes k))
+given-mark z c i message e v bytes rest h f g =
     record { time = refl; begun = refl; operations = rw (f, g, take-append-seam bytes rest) refl; latest = refl; put = refl }
-
-among-last : (x : List ℕ) (l : List (List ℕ)) → Among x (l ++ (x ∷ []))
-among-last x [] = Among.here []
-among-last x (y ∷ l) = Among.there y (l ++ (x ∷ [])) (among-last x l)
 
 -- ---- the client's event for a message that comes
 
 module _ (z : Measures) (honest : ℕ → Bool) (st : State) (s : Model) (o : Shows z honest st s) (ev : Event) (c : ℕ) (l : c < z .m)
-    (message : List ℕ) (q : ℕ → ℕ → List ToClient) (tc : ℕ → ℕ → List (List ℕ))
+    (i : ℕ) (message : List ℕ) (q : ℕ → ℕ → List ToClient) (tc : ℕ → ℕ → List (List ℕ))
     (shown : (j d : ℕ) → honest j ≡ true → 1 ≤ j → j ≤ z .n → d < z .m → ToClientShows z (tc j d) (q j d))
     (liars : (j d : ℕ) → honest j ≡ false → tc j d ≡ []) where
   -- the client's record
@@ -187,25 +184,25 @@ module _ (z : Measures) (honest : ℕ → Bool) (st : State) (s : Model) (o : Sh
   quiet : (e : ClientEnd)
       → marked z (st .history .time) (e .answer) (e .client) (e .out) (st .history .operation (st .history .latest c))
       ≡ st .history .operation (st .history .latest c)
-      → Quiet (s .h) (mark z c e (heard z message (st .history)))
+      → Quiet (s .h) (mark z c e (heard z c i message false (st .history)))
   quiet e f =
-      subst (λ (x : History). Quiet x (mark z c e (heard z message (st .history)))) (o .history)
-      (quiet-mark z c e (st .history) (heard z message (st .history) .replied) f)
+      subst (λ (x : History). Quiet x (mark z c e (heard z c i message false (st .history)))) (o .history)
+      (quiet-mark z c e (st .history) (heard z c i message false (st .history) .replied) f)
 
   -- it is passed over
-  passed-over : (i : ℕ) (m : ToClient) → Comes honest (s .n) i c m q → (room out : List ℕ)
-      → Follows z honest s ev (told z c message tc (unchanged waits (st .clients c) room out) st)
-  passed-over i m comes room out =
+  passed-over : (m : ToClient) → Comes honest (s .n) i c m q → (room out : List ℕ)
+      → Follows z honest s ev (told z c i message tc (unchanged waits (st .clients c) room out) st)
+  passed-over m comes room out =
       let e = unchanged waits (st .clients c) room out in
-      let h = mark z c e (heard z message (st .history)) in
+      let h = mark z c e (heard z c i message false (st .history)) in
       record {
         model = record { c = s .c; d = s .d; n = with-toClient (s .n) q; p = s .p; h = h };
         step = Next.passed i c m q h (quiet e refl) comes;
         shows =
             goes-shows z honest st s o c l e (st .returns) tc h (s .c) (with-toClient (s .n) q) (s .p)
             (o .client c l) (λ j ne lj. o .client j lj) refl refl
-            (λ i a lo up. unsent z e i (st .toNode c i) (s .n .toNode c i) refl (o .toNode c i l a lo up))
-            (λ j i ne. refl) shown liars;
+            (λ j a lo up. unsent z e j (st .toNode c j) (s .n .toNode c j) refl (o .toNode c j l a lo up))
+            (λ j k ne. refl) shown liars;
         sane = sane-quiet ev (byClient waits) refl;
       }
 
@@ -217,12 +214,12 @@ module _ (z : Measures) (honest : ℕ → Bool) (st : State) (s : Model) (o : Sh
     turns-follows : isRefused a ≡ false → ((j : ℕ) → messageTo z a room j ≡ none) → Sane ev (byClient a) → GoodPhase z (phaseOf z t) → GoodTurn z t
         → called a room (st .calls c) ≡ callsOf (withPhase (phaseOf z t) mine) t → st .returns c ≡ returnsOf z t
         → putBy t (s .c .written c) ≡ putBy (s .c .turn c) (s .c .written c) → raisedTo t (s .c .reading c) ≡ raisedTo (s .c .turn c) (s .c .reading c)
-        → Next z honest s (record { c = turned (s .c) c t; d = s .d; n = with-toClient (s .n) q; p = p; h = mark z c turns (heard z message (st .history)) })
-        → Follows z honest s ev (told z c message tc turns st)
+        → Next z honest s (record { c = turned (s .c) c t; d = s .d; n = with-toClient (s .n) q; p = p; h = mark z c turns (heard z c i message false (st .history)) })
+        → Follows z honest s ev (told z c i message tc turns st)
     unfolding turns
     turns-follows goes unsaid sane phase turn calls returns put raised next =
         let w = o .client c l in
-        let h = mark z c turns (heard z message (st .history)) in
+        let h = mark z c turns (heard z c i message false (st .history)) in
         rw goes
         (record {
           model = record { c = turned (s .c) c t; d = s .d; n = with-toClient (s .n) q; p = p; h = h };
@@ -233,15 +230,15 @@ module _ (z : Measures) (honest : ℕ → Bool) (st : State) (s : Model) (o : Sh
               (λ j ne lj. others-turned z (st .clients j) (st .calls j) (st .returns j) (s .c) c j ne (o .client j lj) t)
               (rows-turned s c t (with-toClient (s .n) q) p h put raised)
               refl
-              (λ i b lo up. unsent z turns i (st .toNode c i) (s .n .toNode c i) (unsaid i) (o .toNode c i l b lo up))
-              (λ j i ne. refl) shown liars;
+              (λ k b lo up. unsent z turns k (st .toNode c k) (s .n .toNode c k) (unsaid k) (o .toNode c k l b lo up))
+              (λ j k ne. refl) shown liars;
           sane = sane;
         })
 
-  module _ (p : Passed z) (inv : Invariant z honest s) (i : ℕ) (lo : 1 ≤ i) (up : i ≤ z .n) (room out : List ℕ) where
+  module _ (p : Passed z) (inv : Invariant z honest s) (lo : 1 ≤ i) (up : i ≤ z .n) (room out : List ℕ) where
     -- the event follows where it does this step on the record
     abbrev Goes : Step → Type 0
-    Goes e = Follows z honest s ev (told z c message tc (after z (st .clients c) room out [] e) st)
+    Goes e = Follows z honest s ev (told z c i message tc (after z (st .clients c) room out [] e) st)
 
     -- ---- acknowledgements
 
@@ -293,31 +290,31 @@ module _ (z : Measures) (honest : ℕ → Bool) (st : State) (s : Model) (o : Sh
     -- an acknowledgement counts if it is of the version that is being stored, and the node's first
     stored-follows : (v : Version) (t : Turn) → s .c .turn c ≡ t → Comes honest (s .n) i c (ToClient.stored v) q
         → Goes (storedAt z i mine room out v (phaseOf z t))
-    stored-follows v Turn.idle e comes = passed-over i (ToClient.stored v) comes room out
-    stored-follows v (Turn.scanning bytes) e comes = passed-over i (ToClient.stored v) comes room out
-    stored-follows v (Turn.scanned bytes a) e comes = passed-over i (ToClient.stored v) comes room out
+    stored-follows v Turn.idle e comes = passed-over (ToClient.stored v) comes room out
+    stored-follows v (Turn.scanning bytes) e comes = passed-over (ToClient.stored v) comes room out
+    stored-follows v (Turn.scanned bytes a) e comes = passed-over (ToClient.stored v) comes room out
     stored-follows v (Turn.storing w bytes a) e comes = go (sameVersion v w) refl (stands a i) refl
       where
         go : (b : Bool) → sameVersion v w ≡ b → (d : Bool) → stands a i ≡ d
             → Goes (cond (b && not d) (acknowledge z mine room out w (withNode a i) (digestsOf z w bytes)) (Step.stays waits))
-        go false f d g = passed-over i (ToClient.stored v) comes room out
-        go true f true g = passed-over i (ToClient.stored v) comes room out
+        go false f d g = passed-over (ToClient.stored v) comes room out
+        go true f true g = passed-over (ToClient.stored v) comes room out
         go true f false g =
             counted-in w bytes a e (subst (λ (x : Version). Comes honest (s .n) i c (ToClient.stored x) q) (same-eq v w f) comes) g
             (decLt (count (withNode a i)) (z .t + z .k))
-    stored-follows v (Turn.updating x) e comes = passed-over i (ToClient.stored v) comes room out
-    stored-follows v (Turn.updated x) e comes = passed-over i (ToClient.stored v) comes room out
-    stored-follows v (Turn.freezing x) e comes = passed-over i (ToClient.stored v) comes room out
-    stored-follows v (Turn.noticing x a) e comes = passed-over i (ToClient.stored v) comes room out
-    stored-follows v Turn.raising e comes = passed-over i (ToClient.stored v) comes room out
-    stored-follows v Turn.raised e comes = passed-over i (ToClient.stored v) comes room out
-    stored-follows v Turn.picking e comes = passed-over i (ToClient.stored v) comes room out
-    stored-follows v (Turn.picked a) e comes = passed-over i (ToClient.stored v) comes room out
-    stored-follows v (Turn.fetching x n m ps) e comes = passed-over i (ToClient.stored v) comes room out
+    stored-follows v (Turn.updating x) e comes = passed-over (ToClient.stored v) comes room out
+    stored-follows v (Turn.updated x) e comes = passed-over (ToClient.stored v) comes room out
+    stored-follows v (Turn.freezing x) e comes = passed-over (ToClient.stored v) comes room out
+    stored-follows v (Turn.noticing x a) e comes = passed-over (ToClient.stored v) comes room out
+    stored-follows v Turn.raising e comes = passed-over (ToClient.stored v) comes room out
+    stored-follows v Turn.raised e comes = passed-over (ToClient.stored v) comes room out
+    stored-follows v Turn.picking e comes = passed-over (ToClient.stored v) comes room out
+    stored-follows v (Turn.picked a) e comes = passed-over (ToClient.stored v) comes room out
+    stored-follows v (Turn.fetching x n m ps) e comes = passed-over (ToClient.stored v) comes room out
 
     -- ---- replies
 
-    module _ (few : dishonest honest (z .n) ≤ z .t) (long : z .k * z .f - 4 ≤ length out) (differ : DigestsDiffer z (heard z message (s .h)))
+    module _ (few : dishonest honest (z .n) ≤ z .t) (long : z .k * z .f - 4 ≤ length out) (b : Bool) (differ : DigestsDiffer z (heard z c i message b (s .h)))
         (x : Pointer) (n m : ℕ) (ps : List (List ℕ)) (e : s .c .turn c ≡ Turn.fetching x n m ps)
         (named : stands (x .named .nodes) i ≡ true) (new : stands n i ≡ false) where
       good-fetching : GoodPhase z (phaseOf z (Turn.fetching x n m ps))
@@ -379,12 +376,11 @@ module _ (z : Measures) (honest : ℕ → Bool) (st : State) (s : Model) (o : Sh
       module _ (y : List ℕ) (reads : readToClient z message ≡ some (ToClient.reply (x .version) y)) (same : matches z x i y ≡ true) where
         its-piece : y ≡ piece (z .k) (s .p .pages (ver x)) i
         its-piece =
-            let b = s .p .pages (ver x) in
             let d = inv .recording .deposited (ver x) (pick .drawn) in
-            let a : Among y (pieceOf (readToClient z message) (s .h .replied)) = rw reads (among-last y (s .h .replied)) in
-            differ y (piece (z .k) b i) (PieceOf.came a)
-            (PieceOf.cut (s .p .deposits (ver x)) i (unnum (ver x)) b (d .begun, d .version) (d .page) lo up refl) (writeVersion (x .version)) i
-            (matches-digest z p (x .version) b (x .named .nodes) i lo up named y (subst (λ (w : Pointer). matches z w i y ≡ true) (pick .pointer) same))
+            let r : Reply = record { client = c; node = i; version = x .version; piece = y; time = s .h .time; refused = b } in
+            let a : Member r (replying c i (s .h .time) b (readToClient z message) (s .h .replied)) = rw reads (member-last r (s .h .replied)) in
+            matched-own z p s x pick i lo up named (heard z c i message b (s .h)) (record { begun = d .begun; page = d .page; version = d .version })
+            differ y (StringOf.came r a lo up refl) same
 
       -- the pieces with one more
       module _ (y : List ℕ) (its : y ≡ piece (z .k) (s .p .pages (ver x)) i) where
@@ -434,8 +430,8 @@ module _ (z : Measures) (honest : ℕ → Bool) (st : State) (s : Model) (o : Sh
             (sane-quiet ev (byClient (page (x .version) (length b))) refl) tt tt
             (w .calls ∙ ap (callsOf mine) e) (w .returns ∙ ap (returnsOf z) e) (rw e refl) (rw e refl)
             (Next.ended i c x n m ps a q _
-            (subst (λ (h : History). Marked h (mark z c t (heard z message (st .history))) c (λ k. ending (h .time) (giving b k)))
-            (o .history) (given-mark z c message t (x .version) b (drop (length b) out) (st .history) refl refl)) l e comes))
+            (subst (λ (h : History). Marked h (mark z c t (heard z c i message false (st .history))) c (λ k. ending (h .time) (giving b k)))
+            (o .history) (given-mark z c i message t (x .version) b (drop (length b) out) (st .history) refl refl)) l e comes))
 
       -- a reply that counts
       counted-follows : (y : Option (List ℕ)) → readToClient z message ≡ some (answer (x .version) y) → Comes honest (s .n) i c (answer (x .version) y) q
@@ -461,46 +457,43 @@ module _ (z : Measures) (honest : ℕ → Bool) (st : State) (s : Model) (o : Sh
           go false f false h t = missed h (ToClient.reply (x .version) y) comes
           -- an honest node's piece matches
           go false f true h t =
-              absurd (false≢true (sym f
-              ∙ ap (matches z x i) (truth h .1)
-              ∙ subst (λ (w : Pointer). matches z w i (piece (z .k) (s .p .pages (ver x)) i) ≡ true) (sym (pick .pointer))
-              (own-matches z p (x .version) (s .p .pages (ver x)) (x .named .nodes) i lo up named (pick .long))))
+              absurd (false≢true (sym f ∙ own-matched z p s x pick i lo up named y (truth h .1)))
 
     -- a reply counts if it is the first of a named node with the version that is asked for
-    module _ (few : dishonest honest (z .n) ≤ z .t) (long : z .k * z .f - 4 ≤ length out) (differ : DigestsDiffer z (heard z message (s .h))) where
+    module _ (few : dishonest honest (z .n) ≤ z .t) (long : z .k * z .f - 4 ≤ length out) (b : Bool) (differ : DigestsDiffer z (heard z c i message b (s .h))) where
       replied-follows : (v : Version) (y : Option (List ℕ)) → readToClient z message ≡ some (answer v y) → Comes honest (s .n) i c (answer v y) q
           → (honest i ≡ true → Truthful z s i c (answer v y)) → (t : Turn) → s .c .turn c ≡ t
           → Goes (repliedAt z i mine room out v y (phaseOf z t))
-      replied-follows v y reads comes truth Turn.idle e = passed-over i (answer v y) comes room out
-      replied-follows v y reads comes truth (Turn.scanning bytes) e = passed-over i (answer v y) comes room out
-      replied-follows v y reads comes truth (Turn.scanned bytes a) e = passed-over i (answer v y) comes room out
-      replied-follows v y reads comes truth (Turn.storing w bytes a) e = passed-over i (answer v y) comes room out
-      replied-follows v y reads comes truth (Turn.updating x) e = passed-over i (answer v y) comes room out
-      replied-follows v y reads comes truth (Turn.updated x) e = passed-over i (answer v y) comes room out
-      replied-follows v y reads comes truth (Turn.freezing x) e = passed-over i (answer v y) comes room out
-      replied-follows v y reads comes truth (Turn.noticing x a) e = passed-over i (answer v y) comes room out
-      replied-follows v y reads comes truth Turn.raising e = passed-over i (answer v y) comes room out
-      replied-follows v y reads comes truth Turn.raised e = passed-over i (answer v y) comes room out
-      replied-follows v y reads comes truth Turn.picking e = passed-over i (answer v y) comes room out
-      replied-follows v y reads comes truth (Turn.picked a) e = passed-over i (answer v y) comes room out
+      replied-follows v y reads comes truth Turn.idle e = passed-over (answer v y) comes room out
+      replied-follows v y reads comes truth (Turn.scanning bytes) e = passed-over (answer v y) comes room out
+      replied-follows v y reads comes truth (Turn.scanned bytes a) e = passed-over (answer v y) comes room out
+      replied-follows v y reads comes truth (Turn.storing w bytes a) e = passed-over (answer v y) comes room out
+      replied-follows v y reads comes truth (Turn.updating x) e = passed-over (answer v y) comes room out
+      replied-follows v y reads comes truth (Turn.updated x) e = passed-over (answer v y) comes room out
+      replied-follows v y reads comes truth (Turn.freezing x) e = passed-over (answer v y) comes room out
+      replied-follows v y reads comes truth (Turn.noticing x a) e = passed-over (answer v y) comes room out
+      replied-follows v y reads comes truth Turn.raising e = passed-over (answer v y) comes room out
+      replied-follows v y reads comes truth Turn.raised e = passed-over (answer v y) comes room out
+      replied-follows v y reads comes truth Turn.picking e = passed-over (answer v y) comes room out
+      replied-follows v y reads comes truth (Turn.picked a) e = passed-over (answer v y) comes room out
       replied-follows v y reads comes truth (Turn.fetching x n m ps) e =
           go (sameVersion v (x .version)) refl (stands (x .named .nodes) i) refl (stands n i) refl
         where
           go : (a : Bool) → sameVersion v (x .version) ≡ a → (b : Bool) → stands (x .named .nodes) i ≡ b → (d : Bool) → stands n i ≡ d
               → Goes (cond (a && (b && not d)) (counted z i mine room out x (withNode n i) m ps y) (Step.stays waits))
-          go false f b g d h = passed-over i (answer v y) comes room out
-          go true f false g d h = passed-over i (answer v y) comes room out
-          go true f true g true h = passed-over i (answer v y) comes room out
+          go false f b g d h = passed-over (answer v y) comes room out
+          go true f false g d h = passed-over (answer v y) comes room out
+          go true f true g true h = passed-over (answer v y) comes room out
           go true f true g false h =
               let w = same-eq v (x .version) f in
-              counted-follows few long differ x n m ps e g h y (subst (λ (u : Version). readToClient z message ≡ some (answer u y)) w reads)
+              counted-follows few long b differ x n m ps e g h y (subst (λ (u : Version). readToClient z message ≡ some (answer u y)) w reads)
               (subst (λ (u : Version). Comes honest (s .n) i c (answer u y) q) w comes)
               (subst (λ (u : Version). honest i ≡ true → Truthful z s i c (answer u y)) w truth)
 
       message-follows : (m : ToClient) → readToClient z message ≡ some m → Comes honest (s .n) i c m q → (honest i ≡ true → Truthful z s i c m)
           → Goes (messageAt z i mine room out m)
       message-follows (ToClient.stored v) reads comes truth = stored-follows v (s .c .turn c) refl comes
-      message-follows ToClient.freed reads comes truth = passed-over i ToClient.freed comes room out
+      message-follows ToClient.freed reads comes truth = passed-over ToClient.freed comes room out
       message-follows (ToClient.reply v y) reads comes truth = replied-follows v (some y) reads comes truth (s .c .turn c) refl
       message-follows (ToClient.missing v) reads comes truth = replied-follows v none reads comes truth (s .c .turn c) refl
 
@@ -523,15 +516,15 @@ module _ (z : Measures) (honest : ℕ → Bool) (passed : passes z ≡ true) (fe
     (st : State) (s : Model) (o : Shows z honest st s) (inv : Invariant z honest s) (ev : Event) (i c : ℕ) (message room out : List ℕ) where
   -- what is refused
   told-refused : (tc : ℕ → ℕ → List (List ℕ)) (e : ClientEnd) (n : ℕ) → e .answer ≡ refused n → Sane ev (byClient (refused n))
-      → Follows z honest s ev (told z c message tc e st)
+      → Follows z honest s ev (told z c i message tc e st)
   told-refused tc e n q sane =
-      rw q (stays-follows z honest st s o ev (byClient (refused n)) (tick (heard z message (st .history))) (quiet-heard z message (st .history)) sane)
+      rw q (stays-follows z honest st s o ev (byClient (refused n)) (tick (heard z c i message true (st .history))) (quiet-heard z c i message (st .history)) sane)
 
   -- measures, slices and numbers come before the message
   guarded-follows : (tc : ℕ → ℕ → List (List ℕ)) (a b : Bool) → enough z (st .clients c) room out ≡ a → within z c i ≡ b
       → (enough z (st .clients c) room out ≡ true → within z c i ≡ true
-      → Follows z honest s ev (told z c message tc (clientMessage z c i (st .clients c) message room out) st))
-      → Follows z honest s ev (told z c message tc (clientMessage z c i (st .clients c) message room out) st)
+      → Follows z honest s ev (told z c i message tc (clientMessage z c i (st .clients c) message room out) st))
+      → Follows z honest s ev (told z c i message tc (clientMessage z c i (st .clients c) message room out) st)
   unfolding clientMessage
   guarded-follows tc false b e f inside =
       rw (passed, e)
@@ -560,22 +553,23 @@ module _ (z : Measures) (honest : ℕ → Bool) (passed : passes z ≡ true) (fe
       → ((j d : ℕ) → honest j ≡ true → 1 ≤ j → j ≤ z .n → d < z .m → ToClientShows z (tc j d) (q j d))
       → ((j d : ℕ) → honest j ≡ false → tc j d ≡ [])
       → enough z (st .clients c) room out ≡ true → within z c i ≡ true
-      → DigestsDiffer z (told z c message tc (clientMessage z c i (st .clients c) message room out) st .state .history)
-      → Follows z honest s ev (told z c message tc (clientMessage z c i (st .clients c) message room out) st)
+      → DigestsDiffer z (told z c i message tc (clientMessage z c i (st .clients c) message room out) st .state .history)
+      → Follows z honest s ev (told z c i message tc (clientMessage z c i (st .clients c) message room out) st)
   comes-follows m q tc reads comes truth shown liars e f differ =
       let x = clientAt z (s .c) c in
       let y = messageAt z i x room out m in
       let eq : clientMessage z c i (st .clients c) message room out ≡ after z (st .clients c) room out [] y = opened e f (some m) reads in
       let a = numbers z c i f in
       let long = and-true (leb (roomSize z) (length room)) _ (and-true (leb (clientSize z) (length (st .clients c))) _ e .1) .1 in
-      let d : DigestsDiffer z (heard z message (st .history)) =
-      told-differ z c message tc st (after z (st .clients c) room out [] y) (after-leaves z (st .clients c) room out [] y (message-leaves z i x room out m))
-      (subst (λ (w : ClientEnd). DigestsDiffer z (told z c message tc w st .state .history)) eq differ)
+      let f′ = isRefused (after z (st .clients c) room out [] y .answer) in
+      let d : DigestsDiffer z (heard z c i message f′ (st .history)) =
+      told-differ z c i message tc st (after z (st .clients c) room out [] y) (after-leaves z (st .clients c) room out [] y (message-leaves z i x room out m))
+      (subst (λ (w : ClientEnd). DigestsDiffer z (told z c i message tc w st .state .history)) eq differ)
       in
-      subst (λ (w : ClientEnd). Follows z honest s ev (told z c message tc w st)) (sym eq)
-      (message-follows z honest st s o ev c (a .0) message q tc shown liars (measures z passed) inv i (a .1) (a .2)
-      room out few (leb-true (z .k * z .f - 4) (length out) long)
-      (subst (λ (h : History). DigestsDiffer z (heard z message h)) (o .history) d) m reads comes truth)
+      subst (λ (w : ClientEnd). Follows z honest s ev (told z c i message tc w st)) (sym eq)
+      (message-follows z honest st s o ev c (a .0) i message q tc shown liars (measures z passed) inv (a .1) (a .2)
+      room out few (leb-true (z .k * z .f - 4) (length out) long) f′
+      (subst (λ (h : History). DigestsDiffer z (heard z c i message f′ h)) (o .history) d) m reads comes truth)
 
 -- ---- the events
 
@@ -647,8 +641,8 @@ module _ (z : Measures) (honest : ℕ → Bool) (passed : passes z ≡ true) (fe
     -- bytes of a dishonest node
     lied-follows : honest i ≡ false → enough z (st .clients c) room out ≡ true → within z c i ≡ true
         → (m : Option ToClient) → readToClient z bytes ≡ m
-        → DigestsDiffer z (told z c bytes (st .toClient) (clientMessage z c i (st .clients c) bytes room out) st .state .history)
-        → Follows z honest s (lie i c bytes room out) (told z c bytes (st .toClient) (clientMessage z c i (st .clients c) bytes room out) st)
+        → DigestsDiffer z (told z c i bytes (st .toClient) (clientMessage z c i (st .clients c) bytes room out) st .state .history)
+        → Follows z honest s (lie i c bytes room out) (told z c i bytes (st .toClient) (clientMessage z c i (st .clients c) bytes room out) st)
     lied-follows h f g none reads differ =
         let ev = lie i c bytes room out in
         told-refused z honest passed few st s o inv ev i c bytes room out (st .toClient) (clientMessage z c i (st .clients c) bytes room out) 4
@@ -674,7 +668,7 @@ module _ (z : Measures) (honest : ℕ → Bool) (passed : passes z ≡ true) (fe
         ev = lie i c bytes room out
 
         end : Result
-        end = told z c bytes (st .toClient) (clientMessage z c i (st .clients c) bytes room out) st
+        end = told z c i bytes (st .toClient) (clientMessage z c i (st .clients c) bytes room out) st
 
         go : (b : Bool) → honest i ≡ b → DigestsDiffer z (cond b (stays Answered.nothing (tick (st .history)) st) end .state .history)
             → Follows z honest s ev (cond b (stays Answered.nothing (tick (st .history)) st) end)

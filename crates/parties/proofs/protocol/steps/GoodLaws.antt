@@ -11,12 +11,12 @@ use borrow.Author.Tests.{le-leb, lt-ltb, eq-eqb, ne-eqb}
 use lib.ListN.{length, getD, replicate, length-replicate, length-map}
 use lib.Pow.{pow-pos}
 use Rattle.coding.specs.Pieces.{proper, piece}
-use Rattle.coding.specs.Digest.{pieceDigest}
+use Rattle.coding.specs.Placed.{pieceDigest}
 use Rattle.coding.specs.Nodes.{nodesOf}
 use Rattle.coding.proofs.BytesLaws.{length-tabulate}
 use Rattle.coding.proofs.MeasureLaws.{measures-proper}
 use Rattle.coding.proofs.NodesLaws.{nodes-none, nodes-within}
-use Rattle.coding.proofs.DigestLaws.{length-digest, bytes-digest}
+use Rattle.coding.proofs.PlacedLaws.{length-digest, bytes-digest}
 use Rattle.coding.proofs.RoundTripLaws.{length-piece}
 use Rattle.coding.proofs.RoundTrip.{piece-bytes, within, some-columns}
 use Rattle.parties.specs.declared.Measures.{Measures}

@@ -21,7 +21,7 @@ use Rattle.parties.specs.protocol.Answer.{refused}
 use Rattle.parties.specs.protocol.Message.{ToNode}
 use Rattle.parties.specs.protocol.ClientEvents.{ClientEnd, withPhase, messageTo}
 use Rattle.parties.specs.protocol.DirectoryEvents.{directorySize}
-use Rattle.parties.specs.protocol.Run.{History, marked, mark, State, Event, Call, Return, Answered, tick, heard, stays, goes, sends, sentTo, called}
+use Rattle.parties.specs.protocol.Run.{Reply, History, marked, mark, State, Event, Call, Return, Answered, tick, heard, stays, goes, sends, sentTo, called}
 use Rattle.parties.specs.protocol.Claim.{Sane, numberOf}
 use Rattle.parties.proofs.protocol.model.Cells.{by-eq, upd-same}
 use Rattle.parties.proofs.protocol.formats.FormatLaws.{Each}
@@ -115,11 +115,11 @@ sane-quiet e a q =
 pub quiet-tick : (h : History) → Quiet h (tick h)
 quiet-tick h = record { time = refl; begun = refl; operations = refl; latest = refl; put = refl }
 
-pub quiet-heard : (z : Measures) (m : List ℕ) (h : History) → Quiet h (tick (heard z m h))
-quiet-heard z m h = record { time = refl; begun = refl; operations = refl; latest = refl; put = refl }
+pub quiet-heard : (z : Measures) (c i : ℕ) (m : List ℕ) (h : History) → Quiet h (tick (heard z c i m true h))
+quiet-heard z c i m h = record { time = refl; begun = refl; operations = refl; latest = refl; put = refl }
 
 -- an answer that marks nothing, whatever is heard with it
-pub quiet-mark : (z : Measures) (c : ℕ) (e : ClientEnd) (h : History) (replied : List (List ℕ))
+pub quiet-mark : (z : Measures) (c : ℕ) (e : ClientEnd) (h : History) (replied : List Reply)
     → marked z (h .time) (e .answer) (e .client) (e .out) (h .operation (h .latest c)) ≡ h .operation (h .latest c)
     → Quiet h
     (mark z c e (record { time = h .time; begun = h .begun; operation = h .operation; latest = h .latest; puts = h .puts; replied = replied }))

@@ -4,7 +4,7 @@ use Prim.Native.Nat.{_+_, _-_, _*_, _≤_}
 use native.Mathlib.Omega.{arith}
 use lib.ListN.{take, drop}
 use lib.Seq.{paste}
-use Rattle.coding.specs.Digest.{pieceDigest}
+use Rattle.coding.specs.Placed.{pieceDigest}
 use Rattle.coding.proofs.BytesLaws.{stride}
 use Rattle.parties.specs.protocol.Pointer.{writeVersion}
 use Rattle.parties.specs.client.Draw.{roomDigests}
@@ -33,8 +33,11 @@ put-piece-digest-requires c κs =
     let q = c .before .before .before .before .before .pre in
     let l = c .before .before .loop in
     let t = c .before .loop-test .taken in
-    let z = digests-length (a .s .n) (a .s .f) (a .v) (a .len) (a .room .now) (a .area .now) (a .from) (q .3) (l .area) (32 * l .i) (l .inv .3) in
-    (omega (arith, below-rows (l .i) (a .s .n) (a .s .f) t, q .1, q .2, l .inv .1), omega (arith, t, q .3, l .inv .2, z))
+    let z = digests-length (a .s .n) (a .s .f) (a .v) (a .len) (a .room .now) (a .area .now) (a .from) (q .3) (l .area) (32 * l .i) (l .inv .3) in (
+      omega (arith, t, sizes (a .s) (q .0) .nodes),
+      omega (arith, below-rows (l .i) (a .s .n) (a .s .f) t, q .1, q .2, l .inv .1),
+      omega (arith, t, q .3, l .inv .2, z),
+    )
 
 add-p : tie.Need-add-p Inv-loop μ-loop
 add-p c =

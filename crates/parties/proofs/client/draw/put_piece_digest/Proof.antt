@@ -4,7 +4,7 @@ use Prim.Native.Nat.{ℕ, _+_, _-_}
 use native.Mathlib.Omega.{arith}
 use lib.ListN.{take, drop}
 use lib.Seq.{paste}
-use Rattle.coding.specs.Digest.{pieceDigest}
+use Rattle.coding.specs.Placed.{pieceDigest}
 use Rattle.parties.specs.protocol.Pointer.{writeVersion}
 use borrow.Author.Needs.{needs}
 use Rattle.parties.proofs.client.draw.put_piece_digest.Statement.{statement}

@@ -46,13 +46,15 @@ matches-requires : tie.Need-matches-requires
 matches-requires c κs =
     let y = c .before .before .before .before .before .before in
     let a = y .before .args in
-    let q = y .before .pre in
-    omega (
-      arith,
-      digest-within (a .s) (a .p) (a .area .now) (opened y) (q .5) (a .i) (q .1) (q .2) (a .v) (a .x) (q .6)
-          (q .7),
-      c .before .before .before .work-at .ensures,
-      c .before .before .rank .ensures,
+    let q = y .before .pre in (
+      omega (arith, q .2, sizes (a .s) (q .0) .nodes),
+      omega (
+        arith,
+        digest-within (a .s) (a .p) (a .area .now) (opened y) (q .5) (a .i) (q .1) (q .2) (a .v) (a .x) (q .6)
+            (q .7),
+        c .before .before .before .work-at .ensures,
+        c .before .before .rank .ensures,
+      ),
     )
 
 go-on-requires : tie.Need-go-on-requires
