@@ -36,6 +36,15 @@ mod archive {
             out_len: usize,
         ) -> u64;
         pub fn coding_digest(s: *const u8, s_len: usize, out: *mut u8, out_len: usize) -> u64;
+        pub fn coding_digest_placed(
+            version: *const u8,
+            version_len: usize,
+            node: u8,
+            piece: *const u8,
+            piece_len: usize,
+            out: *mut u8,
+            out_len: usize,
+        ) -> u64;
     }
 }
 
@@ -103,4 +112,21 @@ pub fn join(
 pub fn digest(s: &[u8], out: &mut [u8]) -> Answer {
     // SAFETY: as above, for the output.
     of_code(unsafe { archive::coding_digest(s.as_ptr(), s.len(), out.as_mut_ptr(), out.len()) })
+}
+
+/// The digest of a piece with its place, at the front of the output: SHA-256 of the version's first 5 bytes, the node's number and the
+/// piece.
+pub fn digest_placed(version: &[u8], node: u8, piece: &[u8], out: &mut [u8]) -> Answer {
+    // SAFETY: as above, for the output.
+    of_code(unsafe {
+        archive::coding_digest_placed(
+            version.as_ptr(),
+            version.len(),
+            node,
+            piece.as_ptr(),
+            piece.len(),
+            out.as_mut_ptr(),
+            out.len(),
+        )
+    })
 }

@@ -1,4 +1,4 @@
-//! The client, as document 01, document 02 (k) and docs/LAYOUTS.md define it.
+//! The client, as document 01, document 02 (i) and (k) and docs/LAYOUTS.md define it.
 
 use std::collections::{BTreeMap, BTreeSet};
 
@@ -23,9 +23,12 @@ pub fn map_of(nodes: &Nodes) -> u16 {
     nodes.iter().fold(0, |map, i| map | 1 << (i - 1))
 }
 
-pub fn digest(piece: &[u8]) -> Vec<u8> {
-    let mut out = vec![0; DIGEST];
-    coding::digest(piece, &mut out).expect("the output is long enough");
+/// Of a node's piece of a version, with its place.
+pub fn digest(version: Version, node: usize, piece: &[u8]) -> Vec<u8> {
+    let (mut place, mut out) = (Vec::new(), vec![0; DIGEST]);
+    put_version(&mut place, version);
+    coding::digest_placed(&place, node as u8, piece, &mut out)
+        .expect("version and output are long enough");
     out
 }
 
@@ -48,10 +51,12 @@ impl Pointer {
         }
     }
 
-    /// Whether a piece is the one of this node.
+    /// Whether a piece that came with this version is the one of this node.
     fn matches(&self, node: usize, piece: &[u8]) -> bool {
         let place = self.named().iter().position(|&i| i == node);
-        place.is_some_and(|place| self.digests[place * DIGEST..][..DIGEST] == digest(piece))
+        place.is_some_and(|place| {
+            self.digests[place * DIGEST..][..DIGEST] == digest(self.version, node, piece)
+        })
     }
 }
 
@@ -529,10 +534,9 @@ impl Client {
         let pieces = &mut room[6..];
         let length = coding::split(s.n, s.k, s.f, page, pieces)
             .expect("the page and the room were measured");
-        let digests = pieces
-            .chunks(s.f)
-            .take(s.n)
-            .map(|area| digest(&area[..length]))
+        let digests = (1..=s.n)
+            .zip(pieces.chunks(s.f))
+            .map(|(i, area)| digest(version, i, &area[..length]))
             .collect();
         self.step = Step::Storing {
             version,

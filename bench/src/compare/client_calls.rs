@@ -2,6 +2,7 @@
 
 use crate::client::{digest, map_of, nodes_of, read_message, Client, Message, Nodes, Step};
 use crate::coding;
+use crate::digests::OTHERWISE;
 use crate::parties::{put_version, read_rows, write_rows, Pointer, Record, NONE};
 use crate::pointers::{disown_rows, own_pointer, pointer, some_pointer};
 use crate::random::{
@@ -180,6 +181,25 @@ const FOREIGN_WRITTEN: &str = "client, another's: written";
 const FOREIGN_FROZEN: &str = "client, another's: frozen";
 const FOREIGN_KEPT: &str = "client, another's: kept";
 
+// Where a named node's sound piece is awaited and its digest is taken in one of the other ways. At k = 1 all pieces of the page are the
+// same bytes: nothing but the place tells them apart.
+const TAKEN_ALIKE: [&str; OTHERWISE.len()] = [
+    "digest, k 1: piece alone",
+    "digest, k 1: no version",
+    "digest, k 1: no node",
+    "digest, k 1: node first",
+    "digest, k 1: other node",
+    "digest, k 1: other version",
+];
+const TAKEN: [&str; OTHERWISE.len()] = [
+    "digest, k > 1: piece alone",
+    "digest, k > 1: no version",
+    "digest, k > 1: no node",
+    "digest, k > 1: node first",
+    "digest, k > 1: other node",
+    "digest, k > 1: other version",
+];
+
 /// The page of a client, its record, and the pieces that it reads.
 struct Session<'a> {
     sides: [&'a mut dyn Parties; 2],
@@ -191,6 +211,9 @@ struct Session<'a> {
     pieces: Vec<Vec<u8>>,
     /// The version that the made record waits for.
     version: Version,
+    /// The pointer that was made last for a reading, and the ways of those nodes whose digest in it is taken otherwise.
+    made: Pointer,
+    ways: BTreeMap<usize, usize>,
 }
 
 /// What is lent to a call beside the record.
@@ -219,6 +242,8 @@ impl<'a> Session<'a> {
             record: vec![0; s.record()],
             pieces: Vec::new(),
             version: (1, 0),
+            made: Pointer::none(),
+            ways: BTreeMap::new(),
         }
     }
 
@@ -242,7 +267,7 @@ impl<'a> Session<'a> {
         client.write(s, &mut self.record);
     }
 
-    fn make_step(&self, numbers: &mut Numbers) -> Step {
+    fn make_step(&mut self, numbers: &mut Numbers) -> Step {
         let s = self.s;
         match numbers.below(12) {
             0 => Step::Idle,
@@ -256,7 +281,10 @@ impl<'a> Session<'a> {
                 Step::Storing {
                     version: self.version,
                     stored: some_nodes(numbers, s, count),
-                    digests: self.pieces.iter().map(|piece| digest(piece)).collect(),
+                    digests: (1..)
+                        .zip(&self.pieces)
+                        .map(|(i, piece)| digest(self.version, i, piece))
+                        .collect(),
                 }
             }
             4 => Step::Updating(some_pointer(numbers, s, self.step)),
@@ -267,15 +295,33 @@ impl<'a> Session<'a> {
         }
     }
 
-    fn make_fetching(&self, numbers: &mut Numbers) -> Step {
-        let s = self.s;
-        let named = some_nodes(numbers, s, s.t + s.k);
-        let digests = named.iter().flat_map(|i| digest(&self.pieces[i - 1]));
-        let pointer = Pointer {
-            version: self.version,
+    /// To the pieces of the page. In every other one some digests are taken otherwise, so that these pieces must not match.
+    fn make_pointer(&mut self, numbers: &mut Numbers) -> Pointer {
+        let named = some_nodes(numbers, self.s, self.s.t + self.s.k);
+        let (version, some) = (self.version, numbers.below(2) == 0);
+        let mut digests = Vec::new();
+        self.ways.clear();
+        for &i in &named {
+            let piece = &self.pieces[i - 1];
+            if some && numbers.below(2) == 0 {
+                let way = numbers.below(OTHERWISE.len());
+                digests.extend(OTHERWISE[way].digest(numbers, version, i, piece));
+                self.ways.insert(i, way);
+            } else {
+                digests.extend(digest(version, i, piece));
+            }
+        }
+        self.made = Pointer {
+            version,
             nodes: map_of(&named),
-            digests: digests.collect(),
+            digests,
         };
+        self.made.clone()
+    }
+
+    fn make_fetching(&mut self, numbers: &mut Numbers) -> Step {
+        let s = self.s;
+        let pointer = self.make_pointer(numbers);
         let matching = if numbers.below(2) == 0 {
             s.k - 1
         } else {
@@ -591,12 +637,41 @@ impl<'a> Session<'a> {
         who(numbers, 1, self.s.n)
     }
 
+    /// The sound piece of a node whose digest is taken otherwise: as often as not, if the reading awaits one.
+    fn otherwise_reply(
+        &self,
+        numbers: &mut Numbers,
+        client: Option<&Client>,
+    ) -> Option<(usize, Vec<u8>)> {
+        let Step::Fetching {
+            pointer, counted, ..
+        } = &client?.step
+        else {
+            return None;
+        };
+        let nodes = self.ways.keys().copied();
+        let open: Vec<usize> = nodes.filter(|i| !counted.contains(i)).collect();
+        if *pointer != self.made || open.is_empty() || numbers.below(2) == 0 {
+            return None;
+        }
+        let node = open[numbers.below(open.len())];
+        let mut message = vec![6];
+        put_version(&mut message, pointer.version);
+        message.push(1);
+        message.extend(&self.pieces[node - 1]);
+        Some((node, message))
+    }
+
     fn receive(&mut self, numbers: &mut Numbers) -> Outcome {
         let lent = self.lend(numbers);
         let own = self.who(numbers);
         let client = Client::read(self.s, &lent.record).filter(|_| lent.whole);
-        let node = self.sender(numbers, client.as_ref());
-        let message = self.message(numbers, client.as_ref(), node);
+        let (node, message) = self
+            .otherwise_reply(numbers, client.as_ref())
+            .unwrap_or_else(|| {
+                let node = self.sender(numbers, client.as_ref());
+                (node, self.message(numbers, client.as_ref(), node))
+            });
         let sound = client.is_some() && read_message(self.s, &message).is_some();
         let name = match message.first() {
             Some(4) => "client, stored",
@@ -616,8 +691,57 @@ impl<'a> Session<'a> {
         // Refused for something else than the reply, it shows nothing of the record.
         if let (Some(client), 0 | 4 | 9) = (client, answer.number()) {
             self.note_loose(&client, node, &message, answer);
+            self.judge_otherwise(&client, node, &message, answer)?;
         }
         Ok(answer)
+    }
+
+    /// In which way the digest of the awaited sound piece is taken that this message brings, if not in the right one.
+    fn otherwise(&self, step: &Step, node: usize, message: &[u8]) -> Option<usize> {
+        let (
+            Step::Fetching {
+                pointer, counted, ..
+            },
+            Some(Message::Reply(version, Some(piece))),
+        ) = (step, read_message(self.s, message))
+        else {
+            return None;
+        };
+        let way = self.ways.get(&node).filter(|_| *pointer == self.made)?;
+        let awaited = version == pointer.version && !counted.contains(&node);
+        (awaited && self.pieces[node - 1] == piece).then_some(*way)
+    }
+
+    /// Such a piece is counted and does not match: the reading goes on with the pieces that it has, or ends without a page.
+    fn judge_otherwise(
+        &mut self,
+        before: &Client,
+        node: usize,
+        message: &[u8],
+        answer: ClientAnswer,
+    ) -> Result<(), String> {
+        let Some(way) = self.otherwise(&before.step, node, message) else {
+            return Ok(());
+        };
+        let mut due = before.step.clone();
+        if let Step::Fetching { counted, .. } = &mut due {
+            counted.insert(node);
+        }
+        let after = Client::read(self.s, &self.record).map(|client| client.step);
+        let holds = match answer {
+            ClientAnswer::Waits => after == Some(due),
+            ClientAnswer::Failed => after == Some(Step::Idle),
+            _ => false,
+        };
+        let names = if self.s.k == 1 { TAKEN_ALIKE } else { TAKEN };
+        if !holds {
+            return Err(format!("{}: {answer:?}, as if it matched", names[way]));
+        }
+        // Now and then the pieces are no page's, and at k = 1 not alike.
+        if self.s.k > 1 || self.pieces.iter().all(|piece| *piece == self.pieces[0]) {
+            self.tally.note(names[way], answer.number());
+        }
+        Ok(())
     }
 
     /// Replies that count at a record whose maps, lengths and pieces do not agree.
@@ -736,5 +860,8 @@ pub fn covered(tally: &Tally) {
     }
     for name in FOREIGN_AT {
         assert_eq!(tally.met(name), BTreeSet::from([14]), "{name}");
+    }
+    for name in TAKEN_ALIKE.into_iter().chain(TAKEN) {
+        assert_eq!(tally.met(name), BTreeSet::from([0, 9]), "{name}");
     }
 }

@@ -1,4 +1,5 @@
-//! Cutting a page into pieces, or one of them alone, joining pieces, and SHA-256, as documents 01 and 02 and FIPS 180-4 define them.
+//! Cutting a page into pieces, or one of them alone, joining pieces, SHA-256, and the digest of a piece with its place, as documents 01
+//! and 02 and FIPS 180-4 define them.
 
 use jolbizna::Answer;
 
@@ -7,6 +8,9 @@ pub const DIGEST: usize = 32;
 
 /// Bytes of the page length at the front of a frame.
 const LENGTH: usize = 4;
+
+/// Bytes of a version.
+const VERSION: usize = 5;
 
 pub fn split(n: usize, k: usize, f: usize, page: &[u8], room: &mut [u8]) -> Answer {
     measured(n, k, f)?;
@@ -85,6 +89,16 @@ pub fn digest(bytes: &[u8], out: &mut [u8]) -> Answer {
         return Err(2);
     }
     out[..DIGEST].copy_from_slice(&sha256(bytes));
+    Ok(0)
+}
+
+/// Of version, node and piece, one after the other.
+pub fn digest_placed(version: &[u8], node: u8, piece: &[u8], out: &mut [u8]) -> Answer {
+    if version.len() < VERSION || out.len() < DIGEST {
+        return Err(2);
+    }
+    let string = [&version[..VERSION], &[node], piece].concat();
+    out[..DIGEST].copy_from_slice(&sha256(&string));
     Ok(0)
 }
 

@@ -3,7 +3,7 @@
 use crate::clock::{Section, Task, Work};
 use crate::isal::{Joiner, Splitter};
 use crate::libraries::{Isal, OpenSsl};
-use crate::pieces::{same_alone, same_cut, same_digest, same_join, same_split};
+use crate::pieces::{same_alone, same_cut, same_digest, same_join, same_placed, same_split};
 use crate::plain;
 use crate::random::Numbers;
 use crate::report::{cell, head, line, ratio, us};
@@ -15,6 +15,7 @@ use std::hint::black_box;
 const RUST: usize = 1;
 const LIBRARY: usize = 2;
 const WITH_ROWS: usize = 3;
+const UNPLACED: usize = 3;
 
 // A call whose result nobody reads could be left out, so each goes through a black box.
 
@@ -153,6 +154,43 @@ fn digest_task(numbers: &mut Numbers, len: usize, openssl: Option<OpenSsl>) -> T
     }))
 }
 
+/// The digest of a piece with its place. OpenSSL gets the whole string, and last stands the proved digest of the piece alone.
+fn placed_task(numbers: &mut Numbers, len: usize, openssl: Option<OpenSsl>) -> Task {
+    let (version, node) = ([0, 0, 0, 1, 0], 1);
+    let piece = numbers.bytes(len);
+    let (digest, answer) = same_placed(&version, node, &piece, &[0; 32]);
+    assert_eq!(answer, Ok(0));
+    let [mut our_out, mut their_out, mut lib_out, mut alone_out] = [[0; 32]; 4];
+    let same = plain::digest_placed(&version, node, &piece, &mut their_out) == answer;
+    assert!(
+        same && their_out[..] == digest,
+        "digest of {len} bytes with its place: the baseline differs"
+    );
+    let string = [&version, &[node][..], &piece].concat();
+    let (ours, theirs, alone) = (piece.clone(), piece.clone(), piece);
+    let name = format!("digest of {len} bytes, placed");
+    Task::new(name, len, move || {
+        black_box(coding::digest_placed(&version, node, &ours, &mut our_out)).ok();
+    })
+    .beside(move || {
+        black_box(plain::digest_placed(
+            &version,
+            node,
+            &theirs,
+            &mut their_out,
+        ))
+        .ok();
+    })
+    .beside_if(openssl.map(|openssl| -> Work {
+        openssl.digest(&string, &mut lib_out);
+        assert!(lib_out[..] == digest, "OpenSSL: another digest");
+        Box::new(move || openssl.digest(&string, black_box(&mut lib_out)))
+    }))
+    .beside(move || {
+        black_box(coding::digest(&alone, &mut alone_out)).ok();
+    })
+}
+
 /// Full pages.
 pub fn whole(numbers: &mut Numbers) -> Section {
     let (isal, openssl) = (Isal::open(), OpenSsl::open());
@@ -218,6 +256,40 @@ fn print_whole(tasks: &[Task]) {
             cells.extend([us(t.ns(WITH_ROWS)), ratio(t.ratio(WITH_ROWS))]);
             line("  with the rows", &cells);
         }
+    }
+}
+
+/// A full piece with its place.
+pub fn placed(numbers: &mut Numbers) -> Section {
+    Section {
+        tasks: vec![placed_task(numbers, F, OpenSsl::open())],
+        print: print_placed,
+    }
+}
+
+fn print_placed(tasks: &[Task]) {
+    head(
+        "a digest with its place, F 4096",
+        &[
+            "proved us",
+            "alone us",
+            "to alone",
+            "Rust us",
+            "to Rust",
+            "library us",
+            "to library",
+        ],
+    );
+    for t in tasks {
+        let mut cells = vec![
+            us(t.ns(0)),
+            us(t.ns(UNPLACED)),
+            ratio(t.ratio(UNPLACED)),
+            us(t.ns(RUST)),
+            ratio(t.ratio(RUST)),
+        ];
+        cells.extend(library(t));
+        line(&t.name, &cells);
     }
 }
 

@@ -7,6 +7,7 @@ mod client_calls;
 mod clock;
 mod coding;
 mod coding_tasks;
+mod digests;
 mod frames;
 mod isal;
 mod libraries;
@@ -80,6 +81,7 @@ fn runs(numbers: &mut Numbers) {
 fn times(numbers: &mut Numbers) {
     let mut sections = [
         coding_tasks::whole(numbers),
+        coding_tasks::placed(numbers),
         coding_tasks::alone(numbers),
         operations::whole(numbers),
         tables::largest(numbers),

@@ -1,7 +1,7 @@
 //! Whole deposits and readings over the title service, beside the work that none can do without.
 
 use crate::clock::{Section, Task};
-use crate::pieces::{same_digest, same_join, same_split};
+use crate::pieces::{same_join, same_placed, same_split};
 use crate::plain;
 use crate::random::Numbers;
 use crate::report::{head, line, ratio, us};
@@ -15,29 +15,32 @@ const PARTS: usize = 2;
 
 type Split = fn(usize, usize, usize, &[u8], &mut [u8]) -> Answer;
 type Join = fn(usize, usize, usize, u16, &[u8], &[u16], &mut [u8]) -> Answer;
-type Digest = fn(&[u8], &mut [u8]) -> Answer;
+type Digest = fn(&[u8], u8, &[u8], &mut [u8]) -> Answer;
 
-/// The page is split, and the digests of all n pieces are made.
+/// Of which the digests are taken; its time is every version's.
+const VERSION: [u8; 5] = [0, 0, 0, 1, 0];
+
+/// The page is split, and the digests of all n pieces are made with their places.
 fn cut(s: Measures, page: &[u8], split: Split, digest: Digest) -> impl FnMut() {
     let (page, mut room) = (page.to_vec(), vec![0; s.n * s.f]);
     let mut out = [0; 32];
     move || {
         black_box(split(s.n, s.k, s.f, &page, &mut room)).ok();
-        for piece in room.chunks(s.f) {
-            black_box(digest(piece, &mut out)).ok();
+        for (i, piece) in (1..).zip(room.chunks(s.f)) {
+            black_box(digest(&VERSION, i, piece, &mut out)).ok();
         }
     }
 }
 
-/// The digests of k pieces are made, and the page is joined of them.
+/// The digests of k pieces are made with their places, and the page is joined of them.
 fn restore(s: Measures, page: &[u8], join: Join, digest: Digest) -> impl FnMut() {
     let (mut room, mut out) = (vec![0; s.n * s.f], vec![0; s.page()]);
     let len = plain::split(s.n, s.k, s.f, page, &mut room).expect("a full page fits");
     let (lens, present) = (vec![len as u16; s.n], ((1u32 << s.k) - 1) as u16);
     let mut sum = [0; 32];
     move || {
-        for piece in room.chunks(s.f).take(s.k) {
-            black_box(digest(piece, &mut sum)).ok();
+        for (i, piece) in (1..).zip(room.chunks(s.f).take(s.k)) {
+            black_box(digest(&VERSION, i, piece, &mut sum)).ok();
         }
         black_box(join(s.n, s.k, s.f, present, &room, &lens, &mut out)).ok();
     }
@@ -49,9 +52,10 @@ fn same_coding(s: Measures, page: &[u8]) {
     let mut room = vec![0; s.n * s.f];
     let split = plain::split(s.n, s.k, s.f, page, &mut room);
     assert!(split == answer && room == pieces, "the baseline differs");
-    for piece in pieces.chunks(s.f) {
+    for (i, piece) in (1..).zip(pieces.chunks(s.f)) {
         let mut sum = [0; 32];
-        let same = plain::digest(piece, &mut sum) == Ok(0) && same_digest(piece, 32).0 == sum;
+        let answer = plain::digest_placed(&VERSION, i, piece, &mut sum);
+        let same = answer == Ok(0) && same_placed(&VERSION, i, piece, &[0; 32]).0 == sum;
         assert!(same, "the baseline differs");
     }
     let (lens, present) = (vec![s.f as u16; s.n], ((1u32 << s.k) - 1) as u16);
@@ -77,8 +81,8 @@ fn deposit_task(s: Measures, page: &[u8]) -> Task {
     Task::new(name, page.len(), move || {
         black_box(title.deposit(0, &own)).expect("served");
     })
-    .beside(cut(s, page, plain::split, plain::digest))
-    .beside(cut(s, page, coding::split, coding::digest))
+    .beside(cut(s, page, plain::split, plain::digest_placed))
+    .beside(cut(s, page, coding::split, coding::digest_placed))
 }
 
 fn reading_task(s: Measures, page: &[u8]) -> Task {
@@ -87,8 +91,8 @@ fn reading_task(s: Measures, page: &[u8]) -> Task {
     Task::new(name, page.len(), move || {
         black_box(title.read(1)).expect("served");
     })
-    .beside(restore(s, page, plain::join, plain::digest))
-    .beside(restore(s, page, coding::join, coding::digest))
+    .beside(restore(s, page, plain::join, plain::digest_placed))
+    .beside(restore(s, page, coding::join, coding::digest_placed))
 }
 
 /// Full pages, as many nodes that may lie as there can be; the largest shape with more clients too, whose tables are larger.

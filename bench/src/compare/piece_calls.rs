@@ -1,9 +1,9 @@
-//! Calls without order to split, cut, join and digest, valid and damaged: two implementations must answer and leave the same, and each
-//! refusal must be met by each of its causes.
+//! Calls without order to split, cut, join and both digests, valid and damaged: two implementations must answer and leave the same, and
+//! each refusal must be met by each of its causes.
 
 use crate::causes::{judge, Cause};
 use crate::frames;
-use crate::pieces::{same_alone, same_cut, same_digest, same_join, same_split};
+use crate::pieces::{same_alone, same_cut, same_digest, same_join, same_placed, same_split};
 use crate::random::Numbers;
 use crate::tally::Tally;
 use std::collections::BTreeSet;
@@ -14,6 +14,7 @@ pub type Names = [&'static str; 3];
 const ROOM: Names = ["room short by one", "room empty", "room shorter"];
 const LENGTHS: Names = ["lengths short by one", "lengths empty", "lengths shorter"];
 pub const OUTPUT: Names = ["output short by one", "output empty", "output shorter"];
+const VERSION: Names = ["version short by one", "version empty", "version shorter"];
 
 /// A node that there is not.
 const NODE: Names = ["node 0", "node above n by one", "node far above n"];
@@ -185,10 +186,14 @@ struct Account {
     cut: Tally,
     join: Tally,
     digest: Tally,
+    placed: Tally,
     /// The causes of a cut's refusal, where there were two.
     pairs: BTreeSet<[&'static str; 2]>,
-    /// The lengths whose digests were made.
+    /// And those of the digest of a piece with its place.
+    both: BTreeSet<[&'static str; 2]>,
+    /// The lengths whose digests were made, and those of pieces with their places.
     lengths: BTreeSet<usize>,
+    placed_lengths: BTreeSet<usize>,
 }
 
 /// Notes the cases that hold.
@@ -583,6 +588,75 @@ fn digest(numbers: &mut Numbers, account: &mut Account, turn: usize) {
     }
 }
 
+/// As many bytes as needed, one less, none, or any number up to the most.
+fn near(numbers: &mut Numbers, need: usize, most: usize) -> usize {
+    match numbers.below(12) {
+        0 => need - 1,
+        1 => 0,
+        2..=4 => numbers.below(most + 1),
+        _ => need,
+    }
+}
+
+/// Any byte, most times a node's number.
+fn place(numbers: &mut Numbers) -> u8 {
+    match numbers.below(8) {
+        0 => 0,
+        1 => 255,
+        2 => numbers.next() as u8,
+        _ => 1 + numbers.below(16) as u8,
+    }
+}
+
+/// Of a piece with its place: every length up to 300 in turn, and now and then a long one.
+fn placed(numbers: &mut Numbers, account: &mut Account, turn: usize) {
+    let len = match numbers.below(40) {
+        0 => numbers.below(MOST + 1),
+        // With its place it ends near the end of a block.
+        1 => 64 * numbers.below(70) + 49 + numbers.below(11),
+        _ => turn % 301,
+    };
+    let (version, out) = (near(numbers, 5, 8), near(numbers, 32, 40));
+    let (version, out) = (numbers.bytes(version), numbers.bytes(out));
+    let (node, piece) = (place(numbers), numbers.bytes(len));
+    let (end, answer) = same_placed(&version, node, &piece, &out);
+    let number = answer.err().unwrap_or(0);
+    account.calls.note("digest with its place", number);
+    let parts = [
+        short(VERSION, version.len(), 5),
+        short(OUTPUT, out.len(), 32),
+    ];
+    let causes: Vec<Cause> = parts.into_iter().flatten().collect();
+    if let [(_, first), (_, then)] = causes[..] {
+        account.both.insert([first, then]);
+    }
+    let tally = &mut account.placed;
+    let detail = || format!("digest of {version:?}, {node} and {len} bytes");
+    judge(tally, &causes, answer, detail);
+    if answer.is_err() {
+        assert!(end == out, "{}: refused, but changed", detail());
+        return;
+    }
+    // No byte of the version counts beyond the fifth.
+    let string = [&version[..5], &[node], &piece].concat();
+    assert!(
+        end[..32] == same_digest(&string, 32).0 && end[32..] == out[32..],
+        "{}: another digest, or the rest changed",
+        detail()
+    );
+    account.placed_lengths.insert(len);
+    let cases = [
+        (version.len() == 5, "served: exact version"),
+        (version.len() > 5, "served: longer version"),
+        (out.len() == 32, "served: exact output"),
+        (out.len() > 32, "served: longer output"),
+        (node == 0, "served: node 0"),
+        (node > 16, "served: node above 16"),
+        (len > 60_000, "served: over 60000 bytes"),
+    ];
+    note_all(tally, &cases, 0);
+}
+
 // What must have been met, with its numbers.
 
 type Due = (&'static str, &'static [u32]);
@@ -691,18 +765,35 @@ const DIGEST: [Due; 6] = [
     ("served: over 60000 bytes", &[0]),
 ];
 
+const PLACED: [Due; 13] = [
+    (VERSION[0], &[2]),
+    (VERSION[1], &[2]),
+    (VERSION[2], &[2]),
+    (OUTPUT[0], &[2]),
+    (OUTPUT[1], &[2]),
+    (OUTPUT[2], &[2]),
+    ("served: exact version", &[0]),
+    ("served: longer version", &[0]),
+    ("served: exact output", &[0]),
+    ("served: longer output", &[0]),
+    ("served: node 0", &[0]),
+    ("served: node above 16", &[0]),
+    ("served: over 60000 bytes", &[0]),
+];
+
 /// So many calls; each refusal must have been met by each of its causes.
 pub fn calls(numbers: &mut Numbers, total: usize) {
     let mut account = Account::default();
     for turn in 0..total {
-        match numbers.below(12) {
+        match numbers.below(14) {
             0..=2 => split(numbers, &mut account),
             3..=4 => cut(numbers, &mut account),
             5..=9 => Join::new(numbers).call(&mut account),
-            _ => digest(numbers, &mut account, turn),
+            10..=11 => digest(numbers, &mut account, turn),
+            _ => placed(numbers, &mut account, turn),
         }
     }
-    println!("{total} calls to split, cut, join and digest of the archive and of plain Rust: the same answers and bytes, every refusal by each cause");
+    println!("{total} calls to split, cut, join and both digests of the archive and of plain Rust: the same answers and bytes, every refusal by each cause");
     account.calls.print("");
     for (name, tally, due) in [
         ("split", &account.split, [&MEASURES[..], &SPLIT].concat()),
@@ -713,6 +804,7 @@ pub fn calls(numbers: &mut Numbers, total: usize) {
         ),
         ("join", &account.join, [&MEASURES[..], &JOIN].concat()),
         ("digest", &account.digest, DIGEST.to_vec()),
+        ("digest with its place", &account.placed, PLACED.to_vec()),
     ] {
         tally.print(name);
         for (case, met) in due {
@@ -727,6 +819,14 @@ pub fn calls(numbers: &mut Numbers, total: usize) {
             assert!(met, "cut: {first} and {then} at once");
         }
     }
-    let every = (0..=300).all(|len| account.lengths.contains(&len));
-    assert!(every, "digests of every length up to 300");
+    for first in VERSION {
+        for then in OUTPUT {
+            let met = account.both.contains(&[first, then]);
+            assert!(met, "digest with its place: {first} and {then} at once");
+        }
+    }
+    for lengths in [&account.lengths, &account.placed_lengths] {
+        let every = (0..=300).all(|len| lengths.contains(&len));
+        assert!(every, "digests of every length up to 300");
+    }
 }

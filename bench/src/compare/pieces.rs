@@ -1,7 +1,8 @@
-//! Split, cut, join and digest on both sides, with the same bytes.
+//! Split, cut, join and both digests on both sides, with the same bytes.
 
 use crate::coding;
 use jolbizna::{coding as proved, Answer};
+use std::hint::black_box;
 
 /// Splits on both sides into rooms with the same bytes, and hands back the room and the answer.
 pub fn same_split(n: usize, k: usize, f: usize, page: &[u8], room: &[u8]) -> (Vec<u8>, Answer) {
@@ -97,5 +98,27 @@ pub fn same_digest(s: &[u8], out: usize) -> (Vec<u8>, Answer) {
         "digest of {} bytes: the digests differ",
         s.len()
     );
+    (ours, answer)
+}
+
+/// The digest of a piece with its place, which leaves version and piece.
+pub fn same_placed(version: &[u8], node: u8, piece: &[u8], out: &[u8]) -> (Vec<u8>, Answer) {
+    let (mut ours, mut theirs) = (out.to_vec(), out.to_vec());
+    let (of, lent) = (version.to_vec(), piece.to_vec());
+    let answer = proved::digest_placed(&of, node, &lent, &mut ours);
+    let detail = || format!("digest of {version:?}, {node} and {} bytes", piece.len());
+    // Without the boxes the compiler may take for granted that what is only read stays.
+    assert!(
+        black_box(of) == version && black_box(lent) == piece,
+        "{}: version or piece changed",
+        detail()
+    );
+    assert_eq!(
+        answer,
+        coding::digest_placed(version, node, piece, &mut theirs),
+        "{}",
+        detail()
+    );
+    assert!(ours == theirs, "{}: the digests differ", detail());
     (ours, answer)
 }

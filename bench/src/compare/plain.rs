@@ -283,6 +283,18 @@ pub fn digest(s: &[u8], out: &mut [u8]) -> Answer {
     Ok(0)
 }
 
+/// Of a piece with its place: version, node and piece are put together first.
+pub fn digest_placed(version: &[u8], node: u8, piece: &[u8], out: &mut [u8]) -> Answer {
+    if version.len() < 5 || out.len() < 32 {
+        return Err(2);
+    }
+    let mut string = Vec::with_capacity(6 + piece.len());
+    string.extend(&version[..5]);
+    string.push(node);
+    string.extend(piece);
+    digest(&string, out)
+}
+
 /// How many samples there are.
 fn sampled(width: usize, data: &[u8], out: &[u8]) -> Result<usize, u32> {
     if out.len() < data.len() {

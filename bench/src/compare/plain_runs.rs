@@ -3,6 +3,7 @@
 mod client;
 mod client_calls;
 mod coding;
+mod digests;
 mod parties;
 mod pointers;
 mod random;

@@ -3,6 +3,7 @@
 
 use crate::client::{nodes_of, read_message, Client, Message, Nodes, Step};
 use crate::coding;
+use crate::digests;
 use crate::parties::{put_version, read_rows, read_table, Bytes, Held, Pointer, Record, NONE};
 use crate::random::{spoil, Numbers};
 use crate::sides::Parties;
@@ -18,6 +19,7 @@ pub const STRICT: &str = "a later deposit: higher";
 pub const BYTES: &str = "exact bytes";
 pub const HELD: &str = "named honest nodes hold";
 pub const FEW: &str = "at most 2m pieces of a writer";
+pub const MATCH: &str = "matches exactly the node's own piece";
 pub const NEVER: &str = "no 7, 8, 9, 11, 12 or 14";
 pub const FORM: &str = "4 for liars' bytes alone";
 pub const NUMBER: &str = "the number of a refusal";
@@ -26,8 +28,9 @@ pub const REST: &str = "the rest of the output stays";
 pub const PLACE: &str = "an answer in its place";
 pub const ENDS: &str = "all delivered: ended";
 
-const CLAUSES: [&str; 14] = [
-    EQUAL, ALIKE, ORDER, STRICT, BYTES, HELD, FEW, NEVER, FORM, NUMBER, SAME, REST, PLACE, ENDS,
+const CLAUSES: [&str; 15] = [
+    EQUAL, ALIKE, ORDER, STRICT, BYTES, HELD, FEW, MATCH, NEVER, FORM, NUMBER, SAME, REST, PLACE,
+    ENDS,
 ];
 
 /// Events, with the numbers that come.
@@ -46,7 +49,7 @@ const EVENTS: [(&str, &[u32]); 11] = [
 ];
 
 /// What else happens.
-const MET: [&str; 27] = [
+const MET: [&str; 35] = [
     "deposits ended",
     "deposits ended, a store under way",
     "readings ended with a page",
@@ -74,6 +77,14 @@ const MET: [&str; 27] = [
     "lie: long piece",
     "lie: not held",
     "lie: passed over",
+    "pieces that match",
+    "pieces that do not match",
+    "lied piece, k 1: matches",
+    "lied piece, k 1: another deposit's",
+    "lied piece, k > 1: matches",
+    "lied piece, k > 1: another node's",
+    "lied piece, k > 1: another deposit's",
+    "lied piece: nobody's",
 ];
 
 /// With fewer runs something may not be met by chance.
@@ -747,6 +758,7 @@ impl<'a> Run<'a> {
             return Ok(false);
         };
         self.follow(c, served)?;
+        self.test_match(i, message)?;
         Ok(true)
     }
 
@@ -918,7 +930,7 @@ impl<'a> Run<'a> {
 
     /// A piece of a deposit of this version, of this or another node; or of another deposit.
     fn lied_piece(&self, numbers: &mut Numbers, version: Version, i: usize) -> Vec<u8> {
-        let other = numbers.below(4) == 0;
+        let other = numbers.below(3) == 0;
         let deposits: Vec<&Operation> = self
             .operations
             .iter()
@@ -1148,6 +1160,63 @@ impl<'a> Run<'a> {
             }
         }
         Ok(())
+    }
+
+    /// A named node's piece that comes with the version of a reading, open or ended, matches exactly when it is that deposit's piece at
+    /// that node.
+    fn test_match(&mut self, i: usize, message: &[u8]) -> Verdict {
+        let Some(Message::Reply(version, Some(piece))) = read_message(self.s, message) else {
+            return Ok(());
+        };
+        for (o, pointer) in self.pointers(version) {
+            let (Some(place), Concern::Deposit(d)) =
+                (digests::place(&pointer, i), self.concern(o)?)
+            else {
+                continue;
+            };
+            let matches = pointer.digests[place] == digests::placed(version, i, piece);
+            let due = self.operations[d].pieces[i - 1] == piece;
+            self.counts.tested(MATCH);
+            test(matches == due, MATCH, || {
+                let found = if matches { "matches" } else { "does not match" };
+                format!("a piece of {version:?} from node {i} {found}")
+            })?;
+            self.counts.met(if matches {
+                "pieces that match"
+            } else {
+                "pieces that do not match"
+            });
+            if self.liars.contains(&i) {
+                self.counts.met(self.kind_of_lied(d, i, piece));
+            }
+        }
+        Ok(())
+    }
+
+    /// What readings of this version picked, each pointer once, with one of its readings.
+    fn pointers(&self, version: Version) -> Vec<(usize, Pointer)> {
+        let picked = |(o, of): (usize, &Operation)| Some((o, of.pointer.clone()?));
+        let mut pointers: Vec<(usize, Pointer)> = (0..)
+            .zip(&self.operations)
+            .filter_map(picked)
+            .filter(|(_, pointer)| pointer.version == version)
+            .collect();
+        pointers.dedup_by(|(_, other), (_, pointer)| other == pointer);
+        pointers
+    }
+
+    /// Whose piece a liar sends under the version of a deposit. At k = 1 every node's piece of that deposit is the same bytes.
+    fn kind_of_lied(&self, d: usize, i: usize, piece: &[u8]) -> &'static str {
+        let among = |operation: &Operation| operation.pieces.iter().any(|other| other == piece);
+        let deposit = &self.operations[d];
+        match self.s.k {
+            1 if deposit.pieces[i - 1] == piece => "lied piece, k 1: matches",
+            _ if deposit.pieces[i - 1] == piece => "lied piece, k > 1: matches",
+            _ if among(deposit) => "lied piece, k > 1: another node's",
+            1 if self.operations.iter().any(among) => "lied piece, k 1: another deposit's",
+            _ if self.operations.iter().any(among) => "lied piece, k > 1: another deposit's",
+            _ => "lied piece: nobody's",
+        }
     }
 
     fn clauses(&mut self) -> Verdict {

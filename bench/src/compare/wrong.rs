@@ -1,7 +1,9 @@
-//! Parties that do something else than document 01 says. Each must be caught by the clauses of random runs.
+//! Parties that do something else than documents 01 and 02 say. Each must be caught by the clauses of random runs; those that take
+//! digests in another way, by random calls.
 
-use crate::client::{digest, nodes_of, read_message, Client, Message, Step};
+use crate::client::{read_message, Client, Message, Step};
 use crate::client_calls;
+use crate::digests::{alone, no_node, no_version, node_first, place, placed, Taken};
 use crate::parties::{pass, put_version, read_rows, write_rows, Bytes, Pointer, Record, NONE};
 use crate::random::Numbers;
 use crate::runs::{run, Counts, Fault};
@@ -425,9 +427,9 @@ impl Parties for TrustsPieces {
             (shown(s, record), read_message(s, message))
         {
             if let Step::Fetching { pointer, .. } = &mut client.step {
-                let at = nodes_of(pointer.nodes).iter().position(|i| *i == node);
-                if let Some(at) = at {
-                    pointer.digests[32 * at..][..32].copy_from_slice(&digest(piece));
+                if let Some(at) = place(pointer, node) {
+                    let taken = placed(pointer.version, node, piece);
+                    pointer.digests[at].copy_from_slice(&taken);
                     client.write(s, record);
                 }
             }
@@ -647,6 +649,115 @@ impl Parties for NumberFirst {
     }
 }
 
+/// A deposit publishes the digests of its first and its last node one for the other.
+struct ExchangesDigests;
+
+impl Parties for ExchangesDigests {
+    fn scanned(
+        &mut self,
+        s: Measures,
+        own: usize,
+        record: &mut [u8],
+        rows: &[u8],
+        room: &mut [u8],
+    ) -> ClientAnswer {
+        let answer = Plain.scanned(s, own, record, rows, room);
+        if let (ClientAnswer::Stores(..), Some(mut client)) = (answer, shown(s, record)) {
+            if let Step::Storing { digests, .. } = &mut client.step {
+                digests.swap(0, s.n - 1);
+            }
+            client.write(s, record);
+        }
+        answer
+    }
+}
+
+/// A deposit takes digests in one way, and a reading reads digests of some ways.
+struct TakesDigests {
+    deposit: Taken,
+    reading: Vec<Taken>,
+}
+
+impl TakesDigests {
+    /// In both the same.
+    fn as_one(taken: Taken) -> Self {
+        TakesDigests {
+            deposit: taken,
+            reading: vec![taken],
+        }
+    }
+
+    /// The kept digest becomes the right one if the piece is to match, else another; hands back the one that was kept.
+    fn put(&self, pointer: &mut Pointer, node: usize, piece: &[u8]) -> Option<Vec<u8>> {
+        let at = place(pointer, node)?;
+        let kept = pointer.digests[at.clone()].to_vec();
+        let mut due = placed(pointer.version, node, piece);
+        let reads = |taken: &Taken| taken(pointer.version, node, piece) == kept;
+        if !self.reading.iter().any(reads) {
+            due[0] ^= 1;
+        }
+        pointer.digests[at].copy_from_slice(&due);
+        Some(kept)
+    }
+}
+
+impl Parties for TakesDigests {
+    fn scanned(
+        &mut self,
+        s: Measures,
+        own: usize,
+        record: &mut [u8],
+        rows: &[u8],
+        room: &mut [u8],
+    ) -> ClientAnswer {
+        let answer = Plain.scanned(s, own, record, rows, room);
+        if let (ClientAnswer::Stores(version, len), Some(mut client)) = (answer, shown(s, record)) {
+            if let Step::Storing { digests, .. } = &mut client.step {
+                let areas = (1..).zip(room[6..].chunks(s.f));
+                for (digest, (i, area)) in digests.iter_mut().zip(areas) {
+                    *digest = (self.deposit)(version, i, &area[..len]);
+                }
+            }
+            client.write(s, record);
+        }
+        answer
+    }
+
+    fn receive(
+        &mut self,
+        s: Measures,
+        own: usize,
+        node: usize,
+        record: &mut [u8],
+        message: &[u8],
+        room: &mut [u8],
+        out: &mut [u8],
+    ) -> ClientAnswer {
+        let before = record.to_vec();
+        let mut kept = None;
+        if let (Some(mut client), Some(Message::Reply(_, Some(piece)))) =
+            (shown(s, record), read_message(s, message))
+        {
+            if let Step::Fetching { pointer, .. } = &mut client.step {
+                kept = self.put(pointer, node, piece);
+                client.write(s, record);
+            }
+        }
+        let answer = Plain.receive(s, own, node, record, message, room, out);
+        if let ClientAnswer::Refused(_) = answer {
+            record.copy_from_slice(&before);
+        } else if let (Some(kept), Some(mut client)) = (kept, shown(s, record)) {
+            if let Step::Fetching { pointer, .. } = &mut client.step {
+                if let Some(at) = place(pointer, node) {
+                    pointer.digests[at].copy_from_slice(&kept);
+                }
+            }
+            client.write(s, record);
+        }
+        answer
+    }
+}
+
 /// Makes runs until one is caught; gives the runs made and what caught it.
 fn caught(side: &mut dyn Parties, numbers: &mut Numbers, most: usize) -> Option<(usize, Fault)> {
     let mut counts = Counts::default();
@@ -678,6 +789,7 @@ fn parties() -> Vec<(&'static str, Box<dyn Parties>)> {
         ("publishes another version", Box::new(PublishesAnother)),
         ("always finds nothing", Box::new(AlwaysEmpty)),
         ("trusts every piece", Box::new(TrustsPieces)),
+        ("exchanges two digests", Box::new(ExchangesDigests)),
         ("alters a page", Box::new(AltersPage)),
         ("gives up at \"not held\"", Box::new(GivesUp)),
         ("counts no acknowledgement", Box::new(CountsNone)),
@@ -690,18 +802,50 @@ fn parties() -> Vec<(&'static str, Box<dyn Parties>)> {
     ]
 }
 
+/// Digests are taken in another way. A deposit and a reading that do so alike go well together: of a run's clauses only the one that works
+/// the digest out itself can tell. And no run has a pointer with an older digest. So it is the calls that must catch each of these.
+fn by_calls() -> Vec<(&'static str, TakesDigests)> {
+    let older = TakesDigests {
+        deposit: placed,
+        reading: vec![placed, alone],
+    };
+    vec![
+        ("leaves the version out", TakesDigests::as_one(no_version)),
+        ("leaves the node out", TakesDigests::as_one(no_node)),
+        (
+            "takes the node before the version",
+            TakesDigests::as_one(node_first),
+        ),
+        ("reads older digests too", older),
+    ]
+}
+
+/// So many calls to a client are made until its answer or bytes differ from plain Rust's.
+const CALLS: usize = 20_000;
+
+/// So many runs are made with a party that only the calls must catch.
+const FEW_RUNS: usize = 100;
+
+/// The call at which a party's answer or bytes first differ, if there is one, and how.
+fn differs(side: &mut dyn Parties, numbers: &mut Numbers) -> Option<(usize, String)> {
+    client_calls::compare(&mut Plain, side, numbers, CALLS).err()
+}
+
+fn at_or_none<T>(found: &Option<(usize, T)>) -> String {
+    found
+        .as_ref()
+        .map_or(String::from("-"), |(at, _)| at.to_string())
+}
+
 /// Every wrong party is caught within so many runs. Beside it, after how many calls to a client its answers or bytes differ.
-pub fn wrong(numbers: &mut Numbers, most: usize) {
+fn wrong_in_runs(numbers: &mut Numbers, most: usize) {
     println!(
         "{:<34} {:>6} {:>7}   caught by",
         "wrong parties", "runs", "calls"
     );
     // What a party keeps from the calls would come into the runs, so that these get another one of its kind.
     for ((name, mut called), (_, mut side)) in parties().into_iter().zip(parties()) {
-        let calls = match client_calls::compare(&mut Plain, called.as_mut(), numbers, 20_000) {
-            Err((at, _)) => at.to_string(),
-            Ok(_) => "-".to_string(),
-        };
+        let calls = at_or_none(&differs(called.as_mut(), numbers));
         let Some((at, fault)) = caught(side.as_mut(), numbers, most) else {
             panic!("{name}: not caught in {most} runs");
         };
@@ -710,4 +854,25 @@ pub fn wrong(numbers: &mut Numbers, most: usize) {
             fault.clause, fault.detail
         );
     }
+}
+
+/// Every party that takes digests in another way is caught by the calls. Beside it, the runs that it took, if a clause caught it.
+fn wrong_in_calls(numbers: &mut Numbers) {
+    println!(
+        "{:<34} {:>6} {:>7}   the call",
+        "wrong digests", "runs", "calls"
+    );
+    for (name, mut side) in by_calls() {
+        let Some((at, detail)) = differs(&mut side, numbers) else {
+            panic!("{name}: not caught in {CALLS} calls");
+        };
+        let runs = at_or_none(&caught(&mut side, numbers, FEW_RUNS));
+        println!("{name:<34} {runs:>6} {at:>7}   {detail}");
+    }
+}
+
+pub fn wrong(numbers: &mut Numbers, most: usize) {
+    wrong_in_runs(numbers, most);
+    println!();
+    wrong_in_calls(numbers);
 }
