@@ -60,10 +60,18 @@ FoundNothing h o = IsReading h o × (h .operation o .pointer ≡ some nonePointe
 abbrev pub Alike : History → ℕ → ℕ → Type 0
 Alike h o p = ((d : ℕ) × Concerns h o d × Concerns h p d) ⊎ (FoundNothing h o × FoundNothing h p)
 
+-- ---- replies
+
 -- one of a list
 pub data Member {A : Type 0} (a : A) : List A → Type 0 where
   here : (l : List A) → Member a (a ∷ l)
   there : (b : A) (l : List A) → Member a l → Member a (b ∷ l)
+
+-- each piece that came with a pointer's version from a node that it names matches exactly when it is the page's piece at that node
+abbrev pub MatchesOwn : Measures → History → Pointer → List ℕ → Type 0
+MatchesOwn s h p bytes =
+    (r : Reply) → Member r (h .replied) → r .version ≡ p .version → 1 ≤ r .node → r .node ≤ s .n → stands (p .named .nodes) (r .node) ≡ true
+    → (matches s p (r .node) (r .piece) ≡ true) ↔ (r .piece ≡ piece (s .k) bytes (r .node))
 
 -- ---- tables
 
@@ -103,9 +111,7 @@ pub record Claim (s : Measures) (honest : ℕ → Bool) (st : State) : Type 0 wh
   -- a named node's piece that comes with a reading's version matches exactly when it is that deposit's piece at that node (document 02, i)
   pub matched : (o : ℕ) (p : Pointer) → o < st .history .begun → IsReading (st .history) o → st .history .operation o .pointer ≡ some p
       → (p ≡ nonePointer → ⊥)
-      → (d : ℕ) × (bytes : List ℕ) × Concerns (st .history) o d × IsDeposit (st .history) d bytes
-      × ((r : Reply) → Member r (st .history .replied) → r .version ≡ p .version → 1 ≤ r .node → r .node ≤ s .n → stands (p .named .nodes) (r .node) ≡ true
-      → (matches s p (r .node) (r .piece) ≡ true) ↔ (r .piece ≡ piece (s .k) bytes (r .node)))
+      → (d : ℕ) × (bytes : List ℕ) × Concerns (st .history) o d × IsDeposit (st .history) d bytes × MatchesOwn s (st .history) p bytes
   -- no honest node holds over 2m pieces of one writer among m clients
   pub few : (i w : ℕ) → honest i ≡ true → 1 ≤ i → i ≤ s .n → w < s .m → piecesOf w (places s st i) ≤ 2 * s .m
 

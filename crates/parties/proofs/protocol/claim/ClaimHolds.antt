@@ -1,7 +1,7 @@
 -- The claim follows from the invariants, on the state that shows the model.
 use mathlib.Core.Path.{_≡_, refl, sym, ap, subst, _∙_}
 use mathlib.Core.Bool.{Bool, true}
-use mathlib.Core.Logic.{_⊎_, inl, inr, _↔_}
+use mathlib.Core.Logic.{_⊎_, inl, inr}
 use mathlib.Core.List.{List, [], _∷_, append-nil}
 use mathlib.Core.Option.{Option, some, none}
 use Prim.Native.Nat.{ℕ, _%_, _≤_, _<_}
@@ -18,9 +18,8 @@ use Rattle.parties.specs.protocol.Nodes.{stands}
 use Rattle.parties.specs.protocol.Pointer.{Pointer, nonePointer, writeVersion}
 use Rattle.parties.specs.protocol.NodeTable.{readTable, writeTable}
 use Rattle.parties.specs.protocol.Node.{handBack}
-use Rattle.parties.specs.protocol.Reading.{matches}
-use Rattle.parties.specs.protocol.Run.{Put, Reply, History, State}
-use Rattle.parties.specs.protocol.Claim.{Member, Bears, IsDeposit, IsReading, Open, Precedes, FirstPut, Concerns, Alike, shown, places, Claim, StringOf, Differ}
+use Rattle.parties.specs.protocol.Run.{Put, History, State}
+use Rattle.parties.specs.protocol.Claim.{Member, Bears, IsDeposit, IsReading, Open, Precedes, FirstPut, Concerns, Alike, MatchesOwn, shown, places, Claim, StringOf, Differ}
 use Rattle.parties.proofs.protocol.formats.MeasureLaws.{passed}
 use Rattle.parties.proofs.protocol.formats.NodeTableLaws.{format-table}
 use Rattle.parties.proofs.protocol.model.Model.{num, ver, Turn, Past, Model}
@@ -213,9 +212,7 @@ module _ (z : Measures) (honest : ℕ → Bool) (ok : passes z ≡ true) (s : Mo
       go (ShownPointer.put d k c m) = (s .p .deposits (ver x), shows-deposit o x e p k b m, v .recording .deposited (ver x) d .page)
 
   -- which pieces match it: its deposit's
-  pieces-match : (x : Pointer) → ShownPointer (s .h) (s .p) x → 256 ≤ ver x → Differ (StringOf z (s .h)) → (r : Reply) → Member r (s .h .replied)
-      → r .version ≡ x .version → 1 ≤ r .node → r .node ≤ z .n → stands (x .named .nodes) (r .node) ≡ true
-      → (matches z x (r .node) (r .piece) ≡ true) ↔ (r .piece ≡ piece (z .k) (s .p .pages (ver x)) (r .node))
+  pieces-match : (x : Pointer) → ShownPointer (s .h) (s .p) x → 256 ≤ ver x → Differ (StringOf z (s .h)) → MatchesOwn z (s .h) x (s .p .pages (ver x))
   pieces-match x (ShownPointer.absent n) b differ r a q lo up named = let f : ver x ≡ 255 = ap ver n in absurd (omega arith)
   pieces-match x (ShownPointer.put d k c m) b differ r a q lo up named =
       let e : x .version .client ≡ ver x % 256 = ap (λ (y : Version). y .client) (shown-version x (ShownPointer.put d k c m)) in
@@ -260,16 +257,10 @@ module _ (z : Measures) (honest : ℕ → Bool) (ok : passes z ≡ true) (s : Mo
         let f = deposit-of j (r .0) l (r .1) (r .2) (r .3) in (f .0, f .1, f .2 ∙ ap some (sym (r .4)))
 
     matched-in : Differ (StringOf z (s .h)) → (j : ℕ) (p : Pointer) → j < s .h .begun → IsReading (s .h) j → s .h .operation j .pointer ≡ some p
-        → (p ≡ nonePointer → ⊥)
-        → (d : ℕ) × (bytes : List ℕ) × Concerns (s .h) j d × IsDeposit (s .h) d bytes
-        × ((r : Reply) → Member r (s .h .replied) → r .version ≡ p .version → 1 ≤ r .node → r .node ≤ z .n → stands (p .named .nodes) (r .node) ≡ true
-        → (matches z p (r .node) (r .piece) ≡ true) ↔ (r .piece ≡ piece (z .k) bytes (r .node)))
+        → (p ≡ nonePointer → ⊥) → (d : ℕ) × (bytes : List ℕ) × Concerns (s .h) j d × IsDeposit (s .h) d bytes × MatchesOwn z (s .h) p bytes
     matched-in differ j p l e q present = go (pointer-shown j p l e q)
       where
-        go : ShownPointer (s .h) (s .p) p
-            → (d : ℕ) × (bytes : List ℕ) × Concerns (s .h) j d × IsDeposit (s .h) d bytes
-            × ((r : Reply) → Member r (s .h .replied) → r .version ≡ p .version → 1 ≤ r .node → r .node ≤ z .n → stands (p .named .nodes) (r .node) ≡ true
-            → (matches z p (r .node) (r .piece) ≡ true) ↔ (r .piece ≡ piece (z .k) bytes (r .node)))
+        go : ShownPointer (s .h) (s .p) p → (d : ℕ) × (bytes : List ℕ) × Concerns (s .h) j d × IsDeposit (s .h) d bytes × MatchesOwn z (s .h) p bytes
         go (ShownPointer.absent n) = absurd (present n)
         go (ShownPointer.put d k b m) =
             let f = deposit-of j p l e q b in (f .0, s .p .pages (ver p), f .1, f .2, pieces-match p (ShownPointer.put d k b m) b differ)

@@ -3,7 +3,7 @@ use mathlib.Core.Path.{_≡_, refl, sym, ap, subst, _∙_}
 use mathlib.Core.Bool.{Bool, true, false, not, _&&_, false≢true}
 use mathlib.Core.Logic.{_⊎_, inl, inr, _↔_}
 use mathlib.Core.List.{List, [], _∷_, map}
-use mathlib.Core.Option.{Option, some, none}
+use mathlib.Core.Option.{some, none}
 use Prim.Native.Nat.{ℕ, zero, suc, _≤_, _<_}
 use native.Mathlib.Omega.{arith}
 use borrow.Author.Tests.{eq-eqb}
@@ -23,7 +23,7 @@ use Rattle.parties.specs.protocol.Nodes.{stands}
 use Rattle.parties.specs.protocol.Pointer.{Pointer, writeVersion}
 use Rattle.parties.specs.protocol.Reading.{matches}
 use Rattle.parties.specs.protocol.Run.{Operation, Put, Reply, History, fresh}
-use Rattle.parties.specs.protocol.Claim.{IsDeposit, IsReading, FirstPut, Concerns, Member, StringOf, RunString, Differ, Bears, Open, Claim, piecesOf}
+use Rattle.parties.specs.protocol.Claim.{IsDeposit, IsReading, FirstPut, Concerns, Member, MatchesOwn, StringOf, RunString, Differ, Bears, Open, Claim, piecesOf}
 use Rattle.parties.specs.protocol.Example.{measures, honest, version, pageA, pageB, pageC, last, front, events, opened, ended, pointerB, ofReading, replyOf, Ending, expected, Claimed}
 use Rattle.parties.proofs.protocol.formats.FormatLaws.{Each}
 use Rattle.parties.proofs.protocol.model.MemberLaws.{member-cases}
@@ -33,32 +33,22 @@ use Rattle.parties.proofs.protocol.claim.StringLaws.{differ-run, front-
 
 -- ---- the strings of the run: version, node and piece
 
-abbrev placed : ℕ → ℕ → ℕ → List ℕ → List ℕ
-placed q c i x = digestInput (writeVersion (version q c)) i x
+abbrev placed : Version → List ℕ → ℕ → List ℕ
+placed v bytes i = digestInput (writeVersion v) i (piece 2 bytes i)
 
--- those of A and E, of B and D, and of C: each version's pieces by node
-ofA : ℕ → ℕ → List (List ℕ) → List (List ℕ)
-ofA q c l =
-    placed q c 1 (0x00 ∷ 0x01 ∷ 0x41 ∷ []) ∷ placed q c 2 (0x00 ∷ 0x02 ∷ 0x41 ∷ []) ∷ placed q c 3 (0x00 ∷ 0x03 ∷ 0x41 ∷ [])
-    ∷ placed q c 4 (0x00 ∷ 0x04 ∷ 0x41 ∷ []) ∷ l
+-- a deposit's four, before others
+ofDeposit : Version → List ℕ → List (List ℕ) → List (List ℕ)
+ofDeposit v bytes l = placed v bytes 1 ∷ placed v bytes 2 ∷ placed v bytes 3 ∷ placed v bytes 4 ∷ l
 
-ofB : ℕ → ℕ → List (List ℕ) → List (List ℕ)
-ofB q c l =
-    placed q c 1 (0x00 ∷ 0x06 ∷ 0x20 ∷ 0x20 ∷ 0x20 ∷ []) ∷ placed q c 2 (0x00 ∷ 0x0C ∷ 0x86 ∷ 0x86 ∷ 0x86 ∷ [])
-    ∷ placed q c 3 (0x00 ∷ 0x0A ∷ 0xE4 ∷ 0xE4 ∷ 0xE4 ∷ []) ∷ placed q c 4 (0x00 ∷ 0x18 ∷ 0xD7 ∷ 0xD7 ∷ 0xD7 ∷ []) ∷ l
+-- those of the five deposits, and A's piece from node 4 under the number of B
+fromE : List (List ℕ)
+fromE = ofDeposit (version 5 1) pageA (digestInput (writeVersion (version 2 1)) 4 (0x00 ∷ 0x04 ∷ 0x41 ∷ []) ∷ [])
 
-ofC : ℕ → ℕ → List (List ℕ) → List (List ℕ)
-ofC q c l =
-    placed q c 1 (0x00 ∷ 0x00 ∷ []) ∷ placed q c 2 (0x00 ∷ 0x00 ∷ []) ∷ placed q c 3 (0x00 ∷ 0x00 ∷ []) ∷ placed q c 4 (0x00 ∷ 0x00 ∷ []) ∷ l
+fromC : List (List ℕ)
+fromC = ofDeposit (version 3 1) pageC (ofDeposit (version 4 1) pageB fromE)
 
--- and A's piece from node 4 under the number of B
 strings : List (List ℕ)
-strings = ofA 1 0 (ofB 2 1 (ofC 3 1 (ofB 4 1 (ofA 5 1 (placed 2 1 4 (0x00 ∷ 0x04 ∷ 0x41 ∷ []) ∷ [])))))
-
-nth : (l : List (List ℕ)) (j : ℕ) → j < length l → Member (getD l j []) l
-nth [] j h = absurd (omega arith)
-nth (y ∷ l) zero h = Member.here l
-nth (y ∷ l) (suc j) h = Member.there y l (nth l j (omega arith))
+strings = ofDeposit (version 1 0) pageA (ofDeposit (version 2 1) pageB fromC)
 
 -- for nodes 1 to 4
 four : (p : ℕ → Type 0) → p 1 → p 2 → p 3 → p 4 → (i : ℕ) → 1 ≤ i → i ≤ 4 → p i
@@ -69,35 +59,45 @@ four p a b c d (suc (suc (suc zero))) lo up = c
 four p a b c d (suc (suc (suc (suc zero)))) lo up = d
 four p a b c d (suc (suc (suc (suc (suc i))))) lo up = absurd (omega arith)
 
--- a deposit's strings
-abbrev Cut : Version → List ℕ → ℕ → Type 0
-Cut v bytes i = Member (digestInput (writeVersion v) i (piece 2 bytes i)) strings
+module _ (v : Version) (bytes : List ℕ) (l : List (List ℕ)) where
+  behind : (x : List ℕ) → Member x l → Member x (ofDeposit v bytes l)
+  unfolding ofDeposit
+  behind x m = Member.there _ _ (Member.there _ _ (Member.there _ _ (Member.there _ _ m)))
 
--- A's, B's, C's, D's and E's
-cut-A : (i : ℕ) → 1 ≤ i → i ≤ 4 → Cut (version 1 0) pageA i
-unfolding strings ofA ofB ofC tabulate polyProduct polyRemainder product power sum columns frame pieceByte piece
-cut-A =
-    four (Cut (version 1 0) pageA) (nth strings 0 (omega arith)) (nth strings 1 (omega arith)) (nth strings 2 (omega arith)) (nth strings 3 (omega arith))
+  first-four : (i : ℕ) → 1 ≤ i → i ≤ 4 → Member (placed v bytes i) (ofDeposit v bytes l)
+  unfolding ofDeposit
+  first-four =
+      four (λ i. Member (placed v bytes i) (ofDeposit v bytes l)) (Member.here _) (Member.there _ _ (Member.here _))
+      (Member.there _ _ (Member.there _ _ (Member.here _))) (Member.there _ _ (Member.there _ _ (Member.there _ _ (Member.here _))))
 
-cut-B : (i : ℕ) → 1 ≤ i → i ≤ 4 → Cut (version 2 1) pageB i
-unfolding strings ofA ofB ofC tabulate polyProduct polyRemainder product power sum columns frame pieceByte piece
-cut-B =
-    four (Cut (version 2 1) pageB) (nth strings 4 (omega arith)) (nth strings 5 (omega arith)) (nth strings 6 (omega arith)) (nth strings 7 (omega arith))
+-- a deposit's strings are among them
+abbrev Cut : Version → List ℕ → Type 0
+Cut v bytes = (i : ℕ) → 1 ≤ i → i ≤ 4 → Member (placed v bytes i) strings
 
-cut-C : (i : ℕ) → 1 ≤ i → i ≤ 4 → Cut (version 3 1) pageC i
-unfolding strings ofA ofB ofC tabulate polyProduct polyRemainder product power sum columns frame pieceByte piece
-cut-C =
-    four (Cut (version 3 1) pageC) (nth strings 8 (omega arith)) (nth strings 9 (omega arith)) (nth strings 10 (omega arith)) (nth strings 11 (omega arith))
+-- behind A's and B's
+from-C : (x : List ℕ) → Member x fromC → Member x strings
+unfolding strings
+from-C x m = behind _ _ _ x (behind _ _ _ x m)
 
-cut-D : (i : ℕ) → 1 ≤ i → i ≤ 4 → Cut (version 4 1) pageB i
-unfolding strings ofA ofB ofC tabulate polyProduct polyRemainder product power sum columns frame pieceByte piece
-cut-D =
-    four (Cut (version 4 1) pageB) (nth strings 12 (omega arith)) (nth strings 13 (omega arith)) (nth strings 14 (omega arith)) (nth strings 15 (omega arith))
+cut-A : Cut (version 1 0) pageA
+unfolding strings
+cut-A = first-four _ _ _
 
-cut-E : (i : ℕ) → 1 ≤ i → i ≤ 4 → Cut (version 5 1) pageA i
-unfolding strings ofA ofB ofC tabulate polyProduct polyRemainder product power sum columns frame pieceByte piece
-cut-E =
-    four (Cut (version 5 1) pageA) (nth strings 16 (omega arith)) (nth strings 17 (omega arith)) (nth strings 18 (omega arith)) (nth strings 19 (omega arith))
+cut-B : Cut (version 2 1) pageB
+unfolding strings
+cut-B i lo up = behind _ _ _ _ (first-four _ _ _ i lo up)
+
+cut-C : Cut (version 3 1) pageC
+unfolding fromC
+cut-C i lo up = from-C _ (first-four _ _ _ i lo up)
+
+cut-D : Cut (version 4 1) pageB
+unfolding fromC
+cut-D i lo up = from-C _ (behind _ _ _ _ (first-four _ _ _ i lo up))
+
+cut-E : Cut (version 5 1) pageA
+unfolding fromC fromE
+cut-E i lo up = from-C _ (behind _ _ _ _ (behind _ _ _ _ (first-four _ _ _ i lo up)))
 
 -- ---- what the run left behind it
 
@@ -111,15 +111,14 @@ operation : (j : ℕ) → getD (map (ended .history .operation) (0 ∷ 1 ∷ 2 �
 operation j = ap (λ (x : Ending). getD (x .operations) j (ofReading none none)) (worked .ends)
 
 deposit-cut : (o : ℕ) (v : Version) (bytes : List ℕ) → o < 6 → ended .history .operation o .version ≡ some v → IsDeposit (ended .history) o bytes
-    → (i : ℕ) → 1 ≤ i → i ≤ 4 → Cut v bytes i
+    → Cut v bytes
 unfolding expected
 deposit-cut o v bytes l b d = go o l b d
   where
-    is : (w : Version) (a : List ℕ) → some w ≡ some v → some a ≡ some bytes → ((i : ℕ) → 1 ≤ i → i ≤ 4 → Cut w a i)
-        → (i : ℕ) → 1 ≤ i → i ≤ 4 → Cut v bytes i
-    is w a e f h i lo up = subst (λ x. Cut x bytes i) (some-eq e) (subst (λ b. Cut w b i) (some-eq f) (h i lo up))
+    is : (w : Version) (a : List ℕ) → some w ≡ some v → some a ≡ some bytes → Cut w a → Cut v bytes
+    is w a e f h = subst (λ x. Cut x bytes) (some-eq e) (subst (Cut w) (some-eq f) h)
 
-    go : (o : ℕ) → o < 6 → ended .history .operation o .version ≡ some v → IsDeposit (ended .history) o bytes → (i : ℕ) → 1 ≤ i → i ≤ 4 → Cut v bytes i
+    go : (o : ℕ) → o < 6 → ended .history .operation o .version ≡ some v → IsDeposit (ended .history) o bytes → Cut v bytes
     go zero l b d = is (version 1 0) pageA (sym (ap (λ (x : Operation). x .version) (operation 0)) ∙ b) (sym (ap (λ (x : Operation). x .page) (operation 0)) ∙ d) cut-A
     go (suc zero) l b d = is (version 2 1) pageB (sym (ap (λ (x : Operation). x .version) (operation 1)) ∙ b) (sym (ap (λ (x : Operation). x .page) (operation 1)) ∙ d) cut-B
     go (suc (suc zero)) l b d = absurd (none≢some (sym (ap (λ (x : Operation). x .page) (operation 2)) ∙ d))
@@ -140,11 +139,13 @@ member-each r (y ∷ l) h m = go (member-each r l (h .1)) (member-cases r y l m)
     go rest (inr n) = rest n
 
 reply-came : (r : Reply) → Member r (ended .history .replied) → Came r
-unfolding expected strings ofA ofB ofC
+unfolding expected fromC fromE tabulate polyProduct polyRemainder product power sum columns frame pieceByte piece
 reply-came r a =
     let e = ap (λ (y : Ending). y .replied) (worked .ends) in
-    member-each r (expected .replied)
-    (nth strings 20 (omega arith), (nth strings 7 (omega arith), (nth strings 5 (omega arith), (nth strings 6 (omega arith), tt)))) (rw e at a)
+    member-each r (expected .replied) (
+      from-C _ (behind _ _ _ _ (behind _ _ _ _ (behind _ _ _ _ (Member.here _)))),
+      (cut-B 4 (omega arith) (omega arith), (cut-B 2 (omega arith) (omega arith), (cut-B 3 (omega arith) (omega arith), tt))),
+    ) (rw e at a)
 
 string-of : (x : List ℕ) → StringOf measures (ended .history) x → Member x strings
 string-of x (StringOf.cut o i v bytes b d lo up e) =
@@ -165,7 +166,7 @@ distinct [] = true
 distinct (a ∷ l) = absent a l && distinct l
 
 first-bytes : distinct (map first strings) ≡ true
-unfolding strings ofA ofB ofC absent distinct digestInput writeVersion writeNumber K bytes padding padded words H₀ extended schedule turned round rounds added compress hash joined sha256
+unfolding strings fromC fromE ofDeposit absent distinct digestInput writeVersion writeNumber tabulate polyProduct polyRemainder product power sum columns frame pieceByte piece K bytes padding padded words H₀ extended schedule turned round rounds added compress hash joined sha256
 first-bytes = refl
 
 absent-member : (a : ℕ) (l : List (List ℕ)) → absent a (map first l) ≡ true → (x : List ℕ) → Member x l → a ≡ first x → ⊥
@@ -223,7 +224,7 @@ concerns-one h o d e r (Concerns.shows x f p n a) (Concerns.itself bytes g q) = 
 concerns-one h o d e r (Concerns.shows x f p n a) (Concerns.shows y g q m b) =
     first-one y d e (h .puts) (subst (λ (w : Pointer). FirstPut w d (h .puts)) (some-eq (sym p ∙ q)) a) b
 
--- the replies that came to the reading, each matches exactly if it is B's piece at its node
+-- a reply that came to the reading matches exactly if it is B's piece at its node
 came-matches : (r : Reply) → Member r (expected .replied) → r .version ≡ version 2 1 → 1 ≤ r .node → r .node ≤ 4 → stands 14 (r .node) ≡ true
     → (matches measures pointerB (r .node) (r .piece) ≡ true) ↔ (r .piece ≡ piece 2 pageB (r .node))
 unfolding expected
@@ -237,8 +238,8 @@ came-matches r a q lo up n =
     let same : m .1 ≡ pageB =
     some-eq (sym (m .3) ∙ ap (λ (j : ℕ). ended .history .operation j .page) (concerns-one (ended .history) 2 (m .0) (x .0) page (m .2) (x .1)) ∙ x .2)
     in
-    subst (λ (b : List ℕ). (matches measures pointerB (r .node) (r .piece) ≡ true) ↔ (r .piece ≡ piece 2 b (r .node))) same
-    (m .4 r (subst (Member r) (sym (ap (λ (y : Ending). y .replied) (worked .ends))) a) q lo up n)
+    subst (MatchesOwn measures (ended .history) pointerB) same (m .4) r
+    (subst (Member r) (sym (ap (λ (y : Ending). y .replied) (worked .ends))) a) q lo up n
 
 matched-here : (matches measures pointerB 4 (0x00 ∷ 0x04 ∷ 0x41 ∷ []) ≡ true → ⊥)
     × (matches measures pointerB 4 (0x00 ∷ 0x18 ∷ 0xD7 ∷ 0xD7 ∷ 0xD7 ∷ []) ≡ true)

@@ -37,7 +37,7 @@ use Rattle.parties.specs.protocol.DirectoryEvents.{directoryUpdate, dire
 use Rattle.parties.specs.protocol.NodeEvents.{nodeMessage}
 use Rattle.parties.specs.protocol.Run.{Event, deposit, reading, carry, hand, bring, deliver, lie, Answered, State, Result, fresh, carryOut, run}
 use Rattle.parties.specs.protocol.Claim.{Lent, AllLent}
-use Rattle.parties.specs.protocol.Example.{measures, honest, last, opening, front, events, opened, ended, answers, Ending, ending, expected, Worked}
+use Rattle.parties.specs.protocol.Example.{measures, honest, last, opening, front, events, opened, answers, Ending, ending, expected, Worked}
 use Rattle.parties.proofs.protocol.formats.BytesWritten.{bytes-nil}
 use Rattle.parties.proofs.protocol.events.RunLaws.{run-last}
 use Rattle.parties.proofs.protocol.claim.StringLaws.{unborne, firstly, clientOf, marksOnce, borneOnce, borne-last}

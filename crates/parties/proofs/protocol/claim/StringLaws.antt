@@ -1,6 +1,6 @@
 -- The strings of a run are those of its history at the end, where no operation bears a second version: no event takes a string back.
-use mathlib.Core.Path.{_≡_, refl, sym, ap, _∙_}
-use mathlib.Core.Bool.{Bool, true, false, cond, _&&_, false≢true}
+use mathlib.Core.Path.{_≡_, refl, ap, _∙_}
+use mathlib.Core.Bool.{Bool, true, false, _&&_, false≢true}
 use mathlib.Core.Logic.{inl, inr}
 use mathlib.Core.List.{List, [], _∷_, _++_}
 use mathlib.Core.Option.{Option, some, none}
@@ -17,8 +17,8 @@ use Rattle.parties.specs.protocol.Answer.{ClientAnswer, refused, waits, 
 use Rattle.parties.specs.protocol.ClientEvents.{ClientEnd, startDeposit, startReading, updateAnswer, scanAnswer, clientMessage}
 use Rattle.parties.specs.protocol.DirectoryEvents.{DirectoryEnd, directoryUpdate, directoryScan}
 use Rattle.parties.specs.protocol.NodeEvents.{NodeEnd, nodeMessage}
-use Rattle.parties.specs.protocol.Run.{Operation, Reply, History, Call, scanCall, updateCall, Return, updated, rows, State, Event, deposit, reading, carry, hand, bring, deliver, lie, Answered, nothing, byClient, byServer, marked, upd₂, tick, mark, begin, replying, heard, putIn, Result, stays, isRefused, goes, starts, returned, handed, told, delivered, carried, lengthOf, scanBy, updateBy, carries, keeps, lost, brought, carryOut, run}
-use Rattle.parties.specs.protocol.Claim.{Bears, IsDeposit, Member, AllLent, StringOf, RunString, Differ}
+use Rattle.parties.specs.protocol.Run.{Operation, Reply, History, Call, scanCall, updateCall, Return, updated, rows, State, Event, deposit, reading, carry, hand, bring, deliver, lie, Answered, nothing, byClient, byServer, marked, upd₂, tick, mark, begin, replying, heard, putIn, Result, isRefused, goes, starts, returned, handed, told, delivered, carried, lengthOf, scanBy, updateBy, carries, keeps, lost, brought, carryOut, run}
+use Rattle.parties.specs.protocol.Claim.{Member, AllLent, StringOf, RunString, Differ}
 use Rattle.parties.proofs.protocol.model.Cells.{by-eq, chosen}
 use Rattle.parties.proofs.protocol.model.MemberLaws.{member-left}
 

@@ -42,7 +42,7 @@ use Rattle.parties.proofs.protocol.formats.NodeMapLaws.{stands-with, wi
 use Rattle.parties.proofs.protocol.formats.MessageLaws.{message-to-client}
 use Rattle.parties.proofs.protocol.formats.ClientLaws.{ShortPiece, GoodPhase}
 use Rattle.parties.proofs.protocol.model.Model.{num, ver, Turn, Past, Model, Next, Comes, Quiet, Marked, turned, with-toClient, pointed, pointedBy, putBy, raisedTo}
-use Rattle.parties.proofs.protocol.invariants.Invariants.{Storing, Truthful, Fetched, unnum}
+use Rattle.parties.proofs.protocol.invariants.Invariants.{Storing, Truthful, Fetched}
 use Rattle.parties.proofs.protocol.invariants.RetainingKept.{safe-keeps}
 use Rattle.parties.proofs.protocol.invariants.Invariant.{Invariant}
 use Rattle.parties.proofs.protocol.steps.View.{Shows, Follows, ToClientShows, GoodTurn, phaseOf, clientAt, callsOf, returnsOf}
