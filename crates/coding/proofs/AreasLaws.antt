@@ -6,7 +6,7 @@ use lib.ListN.{get_or-append}
 use lib.Seq.{paste, length-paste}
 use Rattle.coding.specs.Bytes.{Bytes}
 use Rattle.coding.specs.Areas.{Columns}
-use Rattle.coding.proofs.BytesLaws.{stride, paste-in, paste-before, paste-after}
+use Rattle.coding.proofs.BytesLaws.{stride, paste_in, paste-before, paste-after}
 
 pub columns-none : (F j m : ℕ) (v : ℕ → ℕ → ℕ) (t : List ℕ) → Columns 0 F j m v t t
 columns-none F j m v t =
@@ -17,14 +17,14 @@ columns-empty n F j v t =
     record { same = refl; inside = λ i l hi h. absurd (not-suc-le-zero h); outside = λ q h. refl }
 
 -- areas before another one end where it starts
-below-area : (i i' F : ℕ) → i < i' → i * F + F ≤ i' * F
-below-area i i' F h =
+below_area : (i i' F : ℕ) → i < i' → i * F + F ≤ i' * F
+below_area i i' F h =
     let b : i + 1 ≤ i' = omega arith in omega (arith, stride i F, mul-le-mul_right F b)
 
 module _ (n F j m : ℕ) (v : ℕ → ℕ → ℕ) (t u : List ℕ) (c : Columns n F j m v t u) (fits : j + m ≤ F) where
   -- the next area is still as it was
   pub columns-kept : (l : ℕ) → l < m → get_or u (n * F + (j + l)) 0 ≡ get_or t (n * F + (j + l)) 0
-  columns-kept l h = c.outside (n * F + (j + l)) (λ i l' hi hl e. omega (arith, below-area i n F hi))
+  columns-kept l h = c.outside (n * F + (j + l)) (λ i l' hi hl e. omega (arith, below_area i n F hi))
 
   -- one area more
   pub columns-more : (s : List ℕ) → m ≤ length s → n * F + j + m ≤ length t → ((l : ℕ) → l < m → get_or s l 0 ≡ v n l)
@@ -34,38 +34,38 @@ module _ (n F j m : ℕ) (v : ℕ → ℕ → ℕ) (t u : List ℕ) (c : Columns
       let at = n * F + j in
       record {
         same = length-paste u at s m hu hs ∙ c.same;
-        inside = λ i l hi hl. go-in i l hl hu (dec_lt i n) (omega arith);
-        outside = λ q h. go-out q hu h (dec_lt q at) (dec_lt q (at + m));
+        inside = λ i l hi hl. go_in i l hl hu (dec_lt i n) (omega arith);
+        outside = λ q h. go_out q hu h (dec_lt q at) (dec_lt q (at + m));
       }
     where
-      go-in : (i l : ℕ) → l < m → n * F + j + m ≤ length u → Dec (i < n) → i ≤ n → get_or (paste u (n * F + j) s m) (i * F + (j + l)) 0 ≡ v i l
-      go-in i l hl hu (yes h) hi =
-          paste-before u (n * F + j) s m 0 hu hs (i * F + (j + l)) (omega (arith, below-area i n F h)) ∙ c.inside i l h hl
-      go-in i l hl hu (no h) hi =
+      go_in : (i l : ℕ) → l < m → n * F + j + m ≤ length u → Dec (i < n) → i ≤ n → get_or (paste u (n * F + j) s m) (i * F + (j + l)) 0 ≡ v i l
+      go_in i l hl hu (yes h) hi =
+          paste-before u (n * F + j) s m 0 hu hs (i * F + (j + l)) (omega (arith, below_area i n F h)) ∙ c.inside i l h hl
+      go_in i l hl hu (no h) hi =
           let e : i ≡ n = omega arith in
-          let f : n * F + (j + l) ≡ n * F + j + l = omega arith in rw (e, f) (paste-in u (n * F + j) s m 0 hu hs l hl ∙ hv l hl)
+          let f : n * F + (j + l) ≡ n * F + j + l = omega arith in rw (e, f) (paste_in u (n * F + j) s m 0 hu hs l hl ∙ hv l hl)
 
-      go-out : (q : ℕ) → n * F + j + m ≤ length u
+      go_out : (q : ℕ) → n * F + j + m ≤ length u
           → ((i l : ℕ) → i < n + 1 → l < m → q ≡ i * F + (j + l) → ⊥)
           → Dec (q < n * F + j) → Dec (q < n * F + j + m) → get_or (paste u (n * F + j) s m) q 0 ≡ get_or t q 0
-      go-out q hu h (yes a) b =
+      go_out q hu h (yes a) b =
           paste-before u (n * F + j) s m 0 hu hs q a ∙ c.outside q (λ i l hi hl. h i l (omega arith) hl)
-      go-out q hu h (no a) (yes b) =
+      go_out q hu h (no a) (yes b) =
           absurd (h n (q - (n * F + j)) (omega arith) (omega arith) (omega arith))
-      go-out q hu h (no a) (no b) =
+      go_out q hu h (no a) (no b) =
           paste-after u (n * F + j) s m 0 hu hs q (omega arith) ∙ c.outside q (λ i l hi hl. h i l (omega arith) hl)
 
 -- the same columns written again
-pub columns-again : (n F j m : ℕ) (v w : ℕ → ℕ → ℕ) (r t u : List ℕ) → Columns n F j m v r t → Columns n F j m w t u → Columns n F j m w r u
-columns-again n F j m v w r t u a b =
+pub columns_again : (n F j m : ℕ) (v w : ℕ → ℕ → ℕ) (r t u : List ℕ) → Columns n F j m v r t → Columns n F j m w t u → Columns n F j m w r u
+columns_again n F j m v w r t u a b =
     record {
       same = b.same ∙ a.same;
       inside = b.inside;
       outside = λ q h. b.outside q h ∙ a.outside q h;
     }
 
-pub columns-stay : (n F j m : ℕ) (v : ℕ → ℕ → ℕ) (t u : List ℕ) → Columns n F j m v t u → Columns n F j m v u u
-columns-stay n F j m v t u c = record { same = refl; inside = c.inside; outside = λ q h. refl }
+pub columns_stay : (n F j m : ℕ) (v : ℕ → ℕ → ℕ) (t u : List ℕ) → Columns n F j m v t u → Columns n F j m v u u
+columns_stay n F j m v t u c = record { same = refl; inside = c.inside; outside = λ q h. refl }
 
 -- columns that follow those written
 pub columns-join : (n F a j m : ℕ) (v w : ℕ → ℕ → ℕ) (r t u : List ℕ) → a + j + m ≤ F → ((i l : ℕ) → w i l ≡ v i (j + l))
@@ -73,23 +73,23 @@ pub columns-join : (n F a j m : ℕ) (v w : ℕ → ℕ → ℕ) (r t u : List �
 columns-join n F a j m v w r t u fits e x y =
     record {
       same = y.same ∙ x.same;
-      inside = λ i l hi hl. go-in i l hi hl (dec_lt l j);
+      inside = λ i l hi hl. go_in i l hi hl (dec_lt l j);
       outside = λ q h.
           y.outside q (λ i l hi hl z. h i (j + l) hi (omega arith) (omega arith))
           ∙ x.outside q (λ i l hi hl z. h i l hi (omega arith) z);
     }
   where
     apart : (i l i' l' : ℕ) → l < j → l' < m → Dec (i < i') → Dec (i' < i) → i * F + (a + l) ≡ i' * F + (a + j + l') → ⊥
-    apart i l i' l' hl hl' (yes p) q z = omega (arith, below-area i i' F p)
-    apart i l i' l' hl hl' (no p) (yes q) z = omega (arith, below-area i' i F q)
+    apart i l i' l' hl hl' (yes p) q z = omega (arith, below_area i i' F p)
+    apart i l i' l' hl hl' (no p) (yes q) z = omega (arith, below_area i' i F q)
     apart i l i' l' hl hl' (no p) (no q) z =
         let s : i ≡ i' = omega arith in
         let d : i * F + (a + l) ≡ i * F + (a + j + l') = z ∙ ap (λ (x : ℕ). x * F + (a + j + l')) (sym s) in omega arith
 
-    go-in : (i l : ℕ) → i < n → l < j + m → Dec (l < j) → get_or u (i * F + (a + l)) 0 ≡ v i l
-    go-in i l hi hl (yes h) =
+    go_in : (i l : ℕ) → i < n → l < j + m → Dec (l < j) → get_or u (i * F + (a + l)) 0 ≡ v i l
+    go_in i l hi hl (yes h) =
         y.outside (i * F + (a + l)) (λ i' l' hi' hl'. apart i l i' l' h hl' (dec_lt i i') (dec_lt i' i)) ∙ x.inside i l hi h
-    go-in i l hi hl (no h) =
+    go_in i l hi hl (no h) =
         let z : i * F + (a + l) ≡ i * F + (a + j + (l - j)) = omega arith in
         let d : j + (l - j) ≡ l = omega arith in
         ap (λ (x : ℕ). get_or u x 0) z ∙ y.inside i (l - j) hi (omega arith) ∙ e i (l - j) ∙ ap (v i) d
@@ -120,8 +120,8 @@ place n F m q pos fits = go (dec_lt (q / F) n) (dec_lt (q % F) m)
     go (no hi) hl = inr (λ i l hi' hl' z. let y : q / F ≡ i = area i l hl' z in omega arith)
 
 -- the columns fix the list
-pub columns-unique : (n F m : ℕ) (v : ℕ → ℕ → ℕ) (t u w : List ℕ) → 0 < F → m ≤ F → Columns n F 0 m v t u → Columns n F 0 m v t w → u ≡ w
-columns-unique n F m v t u w pos fits a b =
+pub columns_unique : (n F m : ℕ) (v : ℕ → ℕ → ℕ) (t u w : List ℕ) → 0 < F → m ≤ F → Columns n F 0 m v t u → Columns n F 0 m v t w → u ≡ w
+columns_unique n F m v t u w pos fits a b =
     ext_get_or 0 u w (a.same ∙ sym b.same)
     (λ q h.
     ⊎_elim
@@ -144,8 +144,8 @@ columns-areas a c F m v w t u p fits r e x y =
     let n : length (take (a * F) u) ≡ a * F = length-take-le (a * F) u r in
     record {
       same = length-append (take (a * F) u) p ∙ omega (arith, x.same, y.same, length-drop (a * F) u);
-      inside = λ i l hi hl. go-in i l hi hl n (dec_lt i a);
-      outside = λ q h. go-out q h n (dec_lt q (a * F));
+      inside = λ i l hi hl. go_in i l hi hl n (dec_lt i a);
+      outside = λ q h. go_out q h n (dec_lt q (a * F));
     }
   where
     low : (q : ℕ) → length (take (a * F) u) ≡ a * F → q < a * F → get_or (take (a * F) u ++ p) q 0 ≡ get_or u q 0
@@ -154,9 +154,9 @@ columns-areas a c F m v w t u p fits r e x y =
     high : (q : ℕ) → length (take (a * F) u) ≡ a * F → get_or (take (a * F) u ++ p) (a * F + q) 0 ≡ get_or p q 0
     high q n = ap (λ (z : ℕ). get_or (take (a * F) u ++ p) (z + q) 0) (sym n) ∙ get_or-append-add (take (a * F) u) p q 0
 
-    go-in : (i l : ℕ) → i < a + c → l < m → length (take (a * F) u) ≡ a * F → Dec (i < a) → get_or (take (a * F) u ++ p) (i * F + (0 + l)) 0 ≡ v i l
-    go-in i l hi hl n (yes h) = low (i * F + (0 + l)) n (omega (arith, below-area i a F h)) ∙ x.inside i l h hl
-    go-in i l hi hl n (no h) =
+    go_in : (i l : ℕ) → i < a + c → l < m → length (take (a * F) u) ≡ a * F → Dec (i < a) → get_or (take (a * F) u ++ p) (i * F + (0 + l)) 0 ≡ v i l
+    go_in i l hi hl n (yes h) = low (i * F + (0 + l)) n (omega (arith, below_area i a F h)) ∙ x.inside i l h hl
+    go_in i l hi hl n (no h) =
         let d : i ≡ a + (i - a) = omega arith in
         let z : i * F + (0 + l) ≡ a * F + ((i - a) * F + (0 + l)) =
         ap (λ (k : ℕ). k * F + (0 + l)) d ∙ omega (arith, add-mul a (i - a) F)
@@ -167,10 +167,10 @@ columns-areas a c F m v w t u p fits r e x y =
         ∙ e (i - a) l
         ∙ ap (λ (k : ℕ). v k l) (sym d)
 
-    go-out : (q : ℕ) → ((i l : ℕ) → i < a + c → l < m → q ≡ i * F + (0 + l) → ⊥) → length (take (a * F) u) ≡ a * F → Dec (q < a * F)
+    go_out : (q : ℕ) → ((i l : ℕ) → i < a + c → l < m → q ≡ i * F + (0 + l) → ⊥) → length (take (a * F) u) ≡ a * F → Dec (q < a * F)
         → get_or (take (a * F) u ++ p) q 0 ≡ get_or t q 0
-    go-out q h n (yes b) = low q n b ∙ x.outside q (λ i l hi hl. h i l (omega arith) hl)
-    go-out q h n (no b) =
+    go_out q h n (yes b) = low q n b ∙ x.outside q (λ i l hi hl. h i l (omega arith) hl)
+    go_out q h n (no b) =
         let d : q ≡ a * F + (q - a * F) = omega arith in
         ap (λ (k : ℕ). get_or (take (a * F) u ++ p) k 0) d
         ∙ high (q - a * F) n
@@ -189,11 +189,11 @@ pub walk_none : (n F j m : ℕ) (v : ℕ → ℕ → ℕ) (t : List ℕ) → Wal
 walk_none n F j m v t = record { within = omega arith; place = omega arith; columns = columns-none F j m v t }
 
 module _ (n F j m : ℕ) (v : ℕ → ℕ → ℕ) (t u : List ℕ) (at i : ℕ) (fits : j + m ≤ F) (room : n * F ≤ length t) (w : Walk n F j m v t u at i) where
-  pub walk-fits : i < n → at + F ≤ length t + j
-  walk-fits h = let p : at ≡ i * F + j = w.place in omega (arith, below-area i n F h)
+  pub walk_fits : i < n → at + F ≤ length t + j
+  walk_fits h = let p : at ≡ i * F + j = w.place in omega (arith, below_area i n F h)
 
-  pub walk-room : i < n → at + m ≤ length u
-  walk-room h = let e : length u ≡ length t = w.columns.same in omega (arith, walk-fits h)
+  pub walk_room : i < n → at + m ≤ length u
+  walk_room h = let e : length u ≡ length t = w.columns.same in omega (arith, walk_fits h)
 
   pub walk_kept : (l : ℕ) → l < m → get_or u (at + l) 0 ≡ get_or t (i * F + (j + l)) 0
   walk_kept l h =
@@ -207,11 +207,11 @@ module _ (n F j m : ℕ) (v : ℕ → ℕ → ℕ) (t u : List ℕ) (at i : ℕ)
       record {
         within = omega arith;
         place = omega (arith, stride i F);
-        columns = rw p (columns-more i F j m v t u w.columns fits s hs (omega (arith, walk-fits h)) hv);
+        columns = rw p (columns-more i F j m v t u w.columns fits s hs (omega (arith, walk_fits h)) hv);
       }
 
-  pub walk-all : n ≤ i → Columns n F j m v t u
-  walk-all h = let e : i ≡ n = omega (arith, w.within) in rw e at w.columns
+  pub walk_all : n ≤ i → Columns n F j m v t u
+  walk_all h = let e : i ≡ n = omega (arith, w.within) in rw e at w.columns
 
 -- the same, of a part lent from a place to the end
 pub columns-rest : (a c F m : ℕ) (v w : ℕ → ℕ → ℕ) (t u p : List ℕ) → m ≤ F → a * F ≤ length u → ((i l : ℕ) → w i l ≡ v (a + i) l)

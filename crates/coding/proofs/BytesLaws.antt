@@ -6,18 +6,18 @@ use lib.ListN.{get_or-append, replicate-append-replicate}
 use lib.Seq.{get_or-append_seam, paste, length_paste_head, paste-zero, paste-suc, length-paste}
 use Rattle.coding.specs.Bytes.{Bytes, tabulate}
 
-pub zeros-at : (n i : ℕ) → get_or (replicate {A = ℕ} n 0) i 0 ≡ 0
-zeros-at zero i = refl
-zeros-at (suc n) zero = refl
-zeros-at (suc n) (suc i) = zeros-at n i
+pub zeros_at : (n i : ℕ) → get_or (replicate {A = ℕ} n 0) i 0 ≡ 0
+zeros_at zero i = refl
+zeros_at (suc n) zero = refl
+zeros_at (suc n) (suc i) = zeros_at n i
 
 -- what holds of the first entry and of each later one holds of each
 pub all_cons : (P : ℕ → Type 0) (a : ℕ) (p : List ℕ) → P a → ((i : ℕ) → P (get_or p i 0)) → (i : ℕ) → P (get_or (a ∷ p) i 0)
 all_cons P a p h t zero = h
 all_cons P a p h t (suc i) = t i
 
-pub bytes-cons : (a : ℕ) (p : List ℕ) → a < 256 → Bytes p → Bytes (a ∷ p)
-bytes-cons = all_cons (λ a. a < 256)
+pub bytes_cons : (a : ℕ) (p : List ℕ) → a < 256 → Bytes p → Bytes (a ∷ p)
+bytes_cons = all_cons (λ a. a < 256)
 
 -- what holds of each entry below i, and of the one stored at i, holds below i + 1
 pub stored_more : {A : Type 0} (z : A) (P : ℕ → A → Type 0) (i : ℕ) (xs : List A) (a : A) → i < length xs
@@ -46,10 +46,10 @@ module _ {ℓ} {A : Type ℓ} where
   length-tabulate zero f = refl
   length-tabulate (suc n) f = length-append (tabulate n f) (f n ∷ []) ∙ ap (λ (x : ℕ). x + 1) (length-tabulate n f) ∙ add-one n
 
-  pub get_d_tabulate : (n : ℕ) (f : ℕ → A) (i : ℕ) (d : A) → i < n → get_or (tabulate n f) i d ≡ f i
+  pub get_or-tabulate : (n : ℕ) (f : ℕ → A) (i : ℕ) (d : A) → i < n → get_or (tabulate n f) i d ≡ f i
   unfolding tabulate
-  get_d_tabulate zero f i d h = absurd (not-suc-le-zero h)
-  get_d_tabulate (suc n) f i d h = go (get_d_tabulate n f i d) (dec_lt i n)
+  get_or-tabulate zero f i d h = absurd (not-suc-le-zero h)
+  get_or-tabulate (suc n) f i d h = go (get_or-tabulate n f i d) (dec_lt i n)
     where
       go : (i < n → get_or (tabulate n f) i d ≡ f i) → Dec (i < n) → get_or (tabulate n f ++ (f n ∷ [])) i d ≡ f i
       go ih (yes l) = get_or-append (tabulate n f) (f n ∷ []) d i (rw length-tabulate l) ∙ ih l
@@ -57,11 +57,11 @@ module _ {ℓ} {A : Type ℓ} where
           let e : i ≡ n = omega arith in
           rw e (ap (λ (x : ℕ). get_or (tabulate n f ++ (f n ∷ [])) x d) (sym (length-tabulate n f)) ∙ get_or-append_seam (tabulate n f) (f n) [] d)
 
-  pub tabulate-ext : (n : ℕ) (f g : ℕ → A) → ((i : ℕ) → i < n → f i ≡ g i) → tabulate n f ≡ tabulate n g
+  pub tabulate_ext : (n : ℕ) (f g : ℕ → A) → ((i : ℕ) → i < n → f i ≡ g i) → tabulate n f ≡ tabulate n g
   unfolding tabulate
-  tabulate-ext zero f g h = refl
-  tabulate-ext (suc n) f g h =
-      λ j. tabulate-ext n f g (λ i l. h i (omega arith)) j ++ (h n (omega arith) j ∷ [])
+  tabulate_ext zero f g h = refl
+  tabulate_ext (suc n) f g h =
+      λ j. tabulate_ext n f g (λ i l. h i (omega arith)) j ++ (h n (omega arith) j ∷ [])
 
   pub tabulate-same : (n : ℕ) (a : A) → tabulate n (λ i. a) ≡ replicate n a
   unfolding tabulate
@@ -80,9 +80,9 @@ map-tabulate g zero f = refl
 map-tabulate {B = B} g (suc n) f = map-append g (tabulate n f) (f n ∷ []) ∙ ap (λ (t : List B). t ++ (g (f n) ∷ [])) (map-tabulate g n f)
 
 -- what is pasted counts as far as it is shown
-pub paste-ext : (d : List ℕ) (at : ℕ) (s t : List ℕ) (n : ℕ) → n ≤ length s → n ≤ length t → ((i : ℕ) → i < n → get_or s i 0 ≡ get_or t i 0)
+pub paste_ext : (d : List ℕ) (at : ℕ) (s t : List ℕ) (n : ℕ) → n ≤ length s → n ≤ length t → ((i : ℕ) → i < n → get_or s i 0 ≡ get_or t i 0)
     → paste d at s n ≡ paste d at t n
-paste-ext d at s t n hs ht h =
+paste_ext d at s t n hs ht h =
     ap (λ (l : List ℕ). take at d ++ l ++ drop (at + n) d)
     (ext_get_or 0 (take n s) (take n t) (length-take-le n s hs ∙ sym (length-take-le n t ht))
     (λ i b.
@@ -90,8 +90,8 @@ paste-ext d at s t n hs ht h =
 
 module _ {ℓ} {A : Type ℓ} (d : List A) (at : ℕ) (s : List A) (n : ℕ) (z : A) (hd : at + n ≤ length d) (hs : n ≤ length s) where
   -- what a paste shows at each place
-  pub paste-in : (q : ℕ) → q < n → get_or (paste d at s n) (at + q) z ≡ get_or s q z
-  paste-in q h =
+  pub paste_in : (q : ℕ) → q < n → get_or (paste d at s n) (at + q) z ≡ get_or s q z
+  paste_in q h =
       let b : at ≤ length d = omega arith in
       let e : length (take at d) ≡ at = length-take-le at d b in
       let f : at + q < length (take at d ++ take n s) = rw (length_paste_head d at s n b hs) (omega arith) in
@@ -137,11 +137,11 @@ module _ (d : List ℕ) (f : ℕ → ℕ) (u : List ℕ) (n : ℕ) (s : Front d 
   pub front_length : length u ≡ length d
   front_length = ap length s.done ∙ length-paste d 0 (tabulate n f) n fits long
 
-  pub front-in : (q : ℕ) → q < n → get_or u q 0 ≡ f q
-  front-in q b =
+  pub front_in : (q : ℕ) → q < n → get_or u q 0 ≡ f q
+  front_in q b =
       ap₂ (λ (v : List ℕ) (x : ℕ). get_or v x 0) s.done (sym (zero-add q))
-      ∙ paste-in d 0 (tabulate n f) n 0 fits long q b
-      ∙ get_d_tabulate n f q 0 b
+      ∙ paste_in d 0 (tabulate n f) n 0 fits long q b
+      ∙ get_or-tabulate n f q 0 b
 
   pub front-after : (q : ℕ) → n ≤ q → get_or u q 0 ≡ get_or d q 0
   front-after q b = ap (λ (v : List ℕ). get_or v q 0) s.done ∙ paste-after d 0 (tabulate n f) n 0 fits long q (omega arith)
@@ -166,14 +166,14 @@ front-more d f u n m v s hd hv e =
     hu = rw (front_length d f u n s) hd
 
     go : (q : ℕ) → Dec (q < n) → Dec (q < n + m) → get_or (paste u n v m) q 0 ≡ get_or w q 0
-    go q (yes h) p = paste-before u n v m 0 hu hv q h ∙ front-in d f u n s q h ∙ sym (front-in d f w (n + m) t q (omega arith))
+    go q (yes h) p = paste-before u n v m 0 hu hv q h ∙ front_in d f u n s q h ∙ sym (front_in d f w (n + m) t q (omega arith))
     go q (no h) (yes p) =
         let z : n + (q - n) ≡ q = omega arith in
         ap (λ (x : ℕ). get_or (paste u n v m) x 0) (sym z)
-        ∙ paste-in u n v m 0 hu hv (q - n) (omega arith)
+        ∙ paste_in u n v m 0 hu hv (q - n) (omega arith)
         ∙ e (q - n) (omega arith)
         ∙ ap f z
-        ∙ sym (front-in d f w (n + m) t q p)
+        ∙ sym (front_in d f w (n + m) t q p)
     go q (no h) (no p) =
         paste-after u n v m 0 hu hv q (omega arith)
         ∙ front-after d f u n s q (omega arith)
@@ -185,13 +185,13 @@ pub record Lanes (f : ℕ → ℕ) (v : List ℕ) (l : ℕ) : Type 0 where
   pub sixteen : length v ≡ 16
   pub done : take l v ≡ tabulate l f
 
-pub lanes-none : (f : ℕ → ℕ) (v : List ℕ) → length v ≡ 16 → Lanes f v 0
+pub lanes_none : (f : ℕ → ℕ) (v : List ℕ) → length v ≡ 16 → Lanes f v 0
 unfolding tabulate
-lanes-none f v h = record { within = omega arith; sixteen = h; done = refl }
+lanes_none f v h = record { within = omega arith; sixteen = h; done = refl }
 
 module _ (f : ℕ → ℕ) (v : List ℕ) (l : ℕ) (s : Lanes f v l) where
-  pub lanes-more : (x : ℕ) → x ≡ f l → l < 16 → Lanes f (set v l x) (l + 1)
-  lanes-more x e h =
+  pub lanes_more : (x : ℕ) → x ≡ f l → l < 16 → Lanes f (set v l x) (l + 1)
+  lanes_more x e h =
       let b : l < length v = rw s.sixteen h in
       record {
         within = omega arith;
@@ -202,52 +202,52 @@ module _ (f : ℕ → ℕ) (v : List ℕ) (l : ℕ) (s : Lanes f v l) where
   pub lanes_at : (m i : ℕ) → m ≤ l → i < m → get_or v i 0 ≡ f i
   lanes_at m i hm hi =
       let h : i < l = omega arith in
-      sym (get_or-take l v i 0 h) ∙ ap (λ (w : List ℕ). get_or w i 0) s.done ∙ get_d_tabulate l f i 0 h
+      sym (get_or-take l v i 0 h) ∙ ap (λ (w : List ℕ). get_or w i 0) s.done ∙ get_or-tabulate l f i 0 h
 
 -- the same, with a place that goes on by k
 pub record Strided (f : ℕ → ℕ) (from k : ℕ) (v : List ℕ) (at l : ℕ) : Type 0 where
   pub lanes : Lanes (λ i. f (from + i * k)) v l
   pub place : at ≡ from + l * k
 
-pub strided-none : (f : ℕ → ℕ) (from k : ℕ) (v : List ℕ) → length v ≡ 16 → Strided f from k v from 0
-strided-none f from k v h = record { lanes = lanes-none (λ i. f (from + i * k)) v h; place = omega arith }
+pub strided_none : (f : ℕ → ℕ) (from k : ℕ) (v : List ℕ) → length v ≡ 16 → Strided f from k v from 0
+strided_none f from k v h = record { lanes = lanes_none (λ i. f (from + i * k)) v h; place = omega arith }
 
 module _ (f : ℕ → ℕ) (from k : ℕ) (v : List ℕ) (at l : ℕ) (s : Strided f from k v at l) where
-  pub strided-within : l < 16 → at ≤ from + 15 * k
-  strided-within h =
+  pub strided_within : l < 16 → at ≤ from + 15 * k
+  strided_within h =
       let b : l ≤ 15 = omega arith in
       let p : at ≡ from + l * k = s.place in omega (arith, mul-le-mul_right k b)
 
-  pub strided-more : (x : ℕ) → x ≡ f at → l < 16 → Strided f from k (set v l x) (at + k) (l + 1)
-  strided-more x e h =
+  pub strided_more : (x : ℕ) → x ≡ f at → l < 16 → Strided f from k (set v l x) (at + k) (l + 1)
+  strided_more x e h =
       let p : at ≡ from + l * k = s.place in
       record {
-        lanes = lanes-more (λ i. f (from + i * k)) v l s.lanes x (e ∙ ap f p) h;
+        lanes = lanes_more (λ i. f (from + i * k)) v l s.lanes x (e ∙ ap f p) h;
         place = omega (arith, stride l k);
       }
 
-  pub strided-at : (m i : ℕ) → m ≤ l → i < m → get_or v i 0 ≡ f (from + i * k)
-  strided-at = lanes_at (λ i. f (from + i * k)) v l s.lanes
+  pub strided_at : (m i : ℕ) → m ≤ l → i < m → get_or v i 0 ≡ f (from + i * k)
+  strided_at = lanes_at (λ i. f (from + i * k)) v l s.lanes
 
 -- a copy of the first m lanes of v, of which l are done
 pub record Pasted (t : List ℕ) (at : ℕ) (v : List ℕ) (m : ℕ) (u : List ℕ) (l : ℕ) : Type 0 where
   pub within : l ≤ m
   pub done : u ≡ paste t at v l
 
-pub pasted-none : (t : List ℕ) (at : ℕ) (v : List ℕ) (m : ℕ) → Pasted t at v m t 0
-pasted-none t at v m = record { within = omega arith; done = paste-zero t at v }
+pub pasted_none : (t : List ℕ) (at : ℕ) (v : List ℕ) (m : ℕ) → Pasted t at v m t 0
+pasted_none t at v m = record { within = omega arith; done = paste-zero t at v }
 
 module _ (t : List ℕ) (at : ℕ) (v : List ℕ) (m : ℕ) (ht : at + m ≤ length t) (hv : m ≤ length v) (u : List ℕ) (l : ℕ) (s : Pasted t at v m u l) where
   pub pasted_length : length u ≡ length t
   pasted_length =
       let w : l ≤ m = s.within in ap length s.done ∙ length-paste t at v l (omega arith) (omega arith)
 
-  pub pasted-more : l < m → Pasted t at v m (set u (at + l) (get_or v l 0)) (l + 1)
-  pasted-more h =
+  pub pasted_more : l < m → Pasted t at v m (set u (at + l) (get_or v l 0)) (l + 1)
+  pasted_more h =
       record {
         within = omega arith;
         done = rw add-one (ap (λ (w : List ℕ). set w (at + l) (get_or v l 0)) s.done ∙ paste-suc t at v l 0 (omega arith) (omega arith));
       }
 
-  pub pasted-all : m ≤ l → u ≡ paste t at v m
-  pasted-all h = let e : l ≡ m = omega (arith, s.within) in rw e at s.done
+  pub pasted_all : m ≤ l → u ≡ paste t at v m
+  pasted_all h = let e : l ≡ m = omega (arith, s.within) in rw e at s.done

@@ -31,11 +31,11 @@ pub and-true : (a b : Bool) → (a && b) ≡ true → (a ≡ true) × (b ≡ tru
 and-true true b h = (refl, h)
 and-true false b h = absurd (false≢true h)
 
-pub chosen-yes : {A : Type 0} (b : Bool) (x y : A) → b ≡ true → x ≡ cond b x y
-chosen-yes b x y e = ap (λ (c : Bool). cond c x y) (sym e)
+pub chosen_yes : {A : Type 0} (b : Bool) (x y : A) → b ≡ true → x ≡ cond b x y
+chosen_yes b x y e = ap (λ (c : Bool). cond c x y) (sym e)
 
-pub chosen-no : {A : Type 0} (b : Bool) (x y : A) → b ≡ false → y ≡ cond b x y
-chosen-no b x y e = ap (λ (c : Bool). cond c x y) (sym e)
+pub chosen_no : {A : Type 0} (b : Bool) (x y : A) → b ≡ false → y ≡ cond b x y
+chosen_no b x y e = ap (λ (c : Bool). cond c x y) (sym e)
 
 -- a function of the one chosen
 pub chosen_of : {A B : Type 0} (f : A → B) (b : Bool) (x y : A) → cond b (f x) (f y) ≡ f (cond b x y)

@@ -4,11 +4,11 @@ use native.Mathlib.Decide.{dec_lt}
 use lib.Seq.{paste, take-paste, drop-paste}
 use Rattle.coding.specs.Pieces.{proper, columns, piece}
 use Rattle.coding.specs.Split.{SplitEnd, split, cut}
-use Rattle.coding.specs.Join.{pieceIn}
+use Rattle.coding.specs.Join.{piece_in}
 use Rattle.coding.specs.Alone.{Alone}
 use Rattle.coding.proofs.SplitLaws.{split-long, split_done, cut-long, cut-done}
 use Rattle.coding.proofs.RoundTripLaws.{length-piece}
-use Rattle.coding.proofs.RoundTrip.{area-piece}
+use Rattle.coding.proofs.RoundTrip.{area_piece}
 
 -- the piece at the front of the room, and what lies beyond it
 module _ (k i : ℕ) (page room : List ℕ) where
@@ -32,7 +32,7 @@ module _ (n k F i : ℕ) (page room : List ℕ) (p : proper n k F ≡ true) (lo 
     where
       go : Dec (k * F - 4 < length page) → Alone n k F i page room areas
       go (yes h) =
-          Alone.tooLong (ap (λ (s : SplitEnd). s.outcome) (cut-long n k F i page room p r lo hi h))
+          Alone.too_long (ap (λ (s : SplitEnd). s.outcome) (cut-long n k F i page room p r lo hi h))
           (ap (λ (s : SplitEnd). s.outcome) (split-long n k F page areas p a h))
       go (no h) =
           let t : length page ≤ k * F - 4 = omega arith in
@@ -42,6 +42,6 @@ module _ (n k F i : ℕ) (page room : List ℕ) (p : proper n k F ≡ true) (lo 
           Alone.same L (ap (λ (s : SplitEnd). s.outcome) x) (ap (λ (s : SplitEnd). s.outcome) y)
           (ap (λ (s : SplitEnd). take L s.room) x
           ∙ front k i page room
-          ∙ area-piece n k F page areas p a t i lo hi
-          ∙ sym (ap (λ (s : SplitEnd). pieceIn F s.room L i) y))
+          ∙ area_piece n k F page areas p a t i lo hi
+          ∙ sym (ap (λ (s : SplitEnd). piece_in F s.room L i) y))
           (ap (λ (s : SplitEnd). drop L s.room) x ∙ beyond k i page room)

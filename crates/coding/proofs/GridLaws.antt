@@ -6,13 +6,13 @@ use native.Mathlib.Decide.{ℕ_discrete, dec_lt}
 use lib.ListN.{get_or-eq_default}
 use lib.Bits.{xor_zero_r, xor_self}
 use Rattle.coding.specs.Field.{◌⊕◌, product, power, inverse, sum}
-use Rattle.coding.specs.Polynomial.{value, rootsAt, interpolate}
+use Rattle.coding.specs.Polynomial.{value, roots_at, interpolate}
 use Rattle.coding.specs.Grid.{Distinct, entry, bit, identity, Halves, Powers, Scaled, Added, Cleared, Reduced, Inverts}
-use Rattle.coding.proofs.FieldLaws.{product-byte, product-comm, product-assoc, xor-product, product-zero, zero-product}
-use Rattle.coding.proofs.FieldLaws.{product-one, one_product, product-inverse, power-byte}
+use Rattle.coding.proofs.FieldLaws.{product_byte, product_comm, product_assoc, xor_product, product_zero, zero_product}
+use Rattle.coding.proofs.FieldLaws.{product_one, one_product, product-inverse, power_byte}
 use Rattle.coding.specs.Bytes.{Bytes}
-use Rattle.coding.proofs.PolynomialLaws.{xor-byte, sum_same, sum-xor, sum-times, sum-zero, sum_one, value-byte}
-use Rattle.coding.proofs.PolynomialLaws.{value-powers-to, length-rootsAt, bytes-rootsAt, bytes_take, rootsAt-zero, rootsAt-nonzero}
+use Rattle.coding.proofs.PolynomialLaws.{xor_byte, sum_same, sum_xor, sum-times, sum_zero, sum_one, value_byte}
+use Rattle.coding.proofs.PolynomialLaws.{value_powers_to, length-roots_at, bytes-roots_at, bytes_take, roots_at_zero, roots_at_nonzero}
 use Rattle.coding.proofs.PolynomialLaws.{interpolate-length, interpolate-bytes, interpolate-value}
 
 cases : (P : ℕ → Type 0) (r c : ℕ) → P c → ((r ≡ c → ⊥) → P r) → P r
@@ -40,26 +40,26 @@ identity-other r t d = ap bit (ne_eqb r t d)
 abbrev weighed : ℕ → (ℕ → ℕ) → (ℕ → ℕ) → ℕ
 weighed k e y = sum k (λ t. product (e t) (y t))
 
-weighed-same : (k : ℕ) (e d y : ℕ → ℕ) → ((t : ℕ) → t < k → e t ≡ d t) → weighed k e y ≡ weighed k d y
-weighed-same k e d y h = sum_same k (λ t. product (e t) (y t)) (λ t. product (d t) (y t)) (λ t l. ap (λ (v : ℕ). product v (y t)) (h t l))
+weighed_same : (k : ℕ) (e d y : ℕ → ℕ) → ((t : ℕ) → t < k → e t ≡ d t) → weighed k e y ≡ weighed k d y
+weighed_same k e d y h = sum_same k (λ t. product (e t) (y t)) (λ t. product (d t) (y t)) (λ t l. ap (λ (v : ℕ). product v (y t)) (h t l))
 
-weighed-times : (k f : ℕ) (e y : ℕ → ℕ) → weighed k (λ t. product f (e t)) y ≡ product f (weighed k e y)
-weighed-times k f e y =
-    sum_same k (λ t. product (product f (e t)) (y t)) (λ t. product f (product (e t) (y t))) (λ t l. product-assoc f (e t) (y t))
+weighed_times : (k f : ℕ) (e y : ℕ → ℕ) → weighed k (λ t. product f (e t)) y ≡ product f (weighed k e y)
+weighed_times k f e y =
+    sum_same k (λ t. product (product f (e t)) (y t)) (λ t. product f (product (e t) (y t))) (λ t l. product_assoc f (e t) (y t))
     ∙ sum-times k f (λ t. product (e t) (y t))
 
-weighed-added : (k f : ℕ) (e d y : ℕ → ℕ) → weighed k (λ t. e t ⊕ product f (d t)) y ≡ weighed k e y ⊕ product f (weighed k d y)
-weighed-added k f e d y =
+weighed_added : (k f : ℕ) (e d y : ℕ → ℕ) → weighed k (λ t. e t ⊕ product f (d t)) y ≡ weighed k e y ⊕ product f (weighed k d y)
+weighed_added k f e d y =
     sum_same k (λ t. product (e t ⊕ product f (d t)) (y t)) (λ t. product (e t) (y t) ⊕ product (product f (d t)) (y t))
-    (λ t l. xor-product (e t) (product f (d t)) (y t))
-    ∙ sum-xor k (λ t. product (e t) (y t)) (λ t. product (product f (d t)) (y t))
-    ∙ ap (λ (v : ℕ). weighed k e y ⊕ v) (weighed-times k f d y)
+    (λ t l. xor_product (e t) (product f (d t)) (y t))
+    ∙ sum_xor k (λ t. product (e t) (y t)) (λ t. product (product f (d t)) (y t))
+    ∙ ap (λ (v : ℕ). weighed k e y ⊕ v) (weighed_times k f d y)
 
 -- the one weight of a row of the identity
-weighed-identity : (k r : ℕ) (y : ℕ → ℕ) → r < k → y r < 256 → weighed k (identity r) y ≡ y r
-weighed-identity k r y l b =
+weighed_identity : (k r : ℕ) (y : ℕ → ℕ) → r < k → y r < 256 → weighed k (identity r) y ≡ y r
+weighed_identity k r y l b =
     sum_one k r (λ t. product (identity r t) (y t)) l
-    (λ t h d. ap (λ (v : ℕ). product v (y t)) (identity-other r t (λ e. d (sym e))) ∙ zero-product (y t))
+    (λ t h d. ap (λ (v : ℕ). product v (y t)) (identity-other r t (λ e. d (sym e))) ∙ zero_product (y t))
     ∙ ap (λ (v : ℕ). product v (y r)) (identity-same r)
     ∙ one_product (y r) b
 
@@ -71,7 +71,7 @@ pub record Nodes (k : ℕ) (nodes : List ℕ) : Type 0 where
 
 -- the polynomial whose roots are the nodes before node c
 abbrev before : List ℕ → ℕ → List ℕ
-before nodes c = rootsAt (take c nodes)
+before nodes c = roots_at (take c nodes)
 
 module _ (k : ℕ) (nodes : List ℕ) where
   abbrev Holds : List ℕ → List ℕ → Type 0
@@ -79,26 +79,26 @@ module _ (k : ℕ) (nodes : List ℕ) where
       weighed k (λ t. get_or row t 0) (λ t. get_or p t 0) ≡ weighed k (λ s. get_or row (16 + s) 0) (λ s. value p (get_or nodes s 0))
 
   -- an equation between the halves of a row, from its entries
-  holds-halves : (p row : List ℕ) (left right : ℕ → ℕ) → Halves k row left right
+  holds_halves : (p row : List ℕ) (left right : ℕ → ℕ) → Halves k row left right
       → weighed k left (λ t. get_or p t 0) ≡ weighed k right (λ s. value p (get_or nodes s 0)) → Holds p row
-  holds-halves p row left right h e =
-      weighed-same k (λ t. get_or row t 0) left (λ t. get_or p t 0) (λ t l. (h t l).0)
+  holds_halves p row left right h e =
+      weighed_same k (λ t. get_or row t 0) left (λ t. get_or p t 0) (λ t l. (h t l).0)
       ∙ e
-      ∙ sym (weighed-same k (λ s. get_or row (16 + s) 0) right (λ s. value p (get_or nodes s 0)) (λ t l. (h t l).1))
+      ∙ sym (weighed_same k (λ s. get_or row (16 + s) 0) right (λ s. value p (get_or nodes s 0)) (λ t l. (h t l).1))
 
-  holds-scaled : (p : List ℕ) (f : ℕ) (row out : List ℕ) → Scaled k f row out → Holds p row → Holds p out
-  holds-scaled p f row out h e =
-      holds-halves p out (λ t. product f (get_or row t 0)) (λ t. product f (get_or row (16 + t) 0)) h
-      (weighed-times k f (λ t. get_or row t 0) (λ t. get_or p t 0)
+  holds_scaled : (p : List ℕ) (f : ℕ) (row out : List ℕ) → Scaled k f row out → Holds p row → Holds p out
+  holds_scaled p f row out h e =
+      holds_halves p out (λ t. product f (get_or row t 0)) (λ t. product f (get_or row (16 + t) 0)) h
+      (weighed_times k f (λ t. get_or row t 0) (λ t. get_or p t 0)
       ∙ ap (product f) e
-      ∙ sym (weighed-times k f (λ s. get_or row (16 + s) 0) (λ s. value p (get_or nodes s 0))))
+      ∙ sym (weighed_times k f (λ s. get_or row (16 + s) 0) (λ s. value p (get_or nodes s 0))))
 
   holds-added : (p : List ℕ) (f : ℕ) (row other out : List ℕ) → Added k f row other out → Holds p row → Holds p other → Holds p out
   holds-added p f row other out h e d =
-      holds-halves p out (λ t. get_or row t 0 ⊕ product f (get_or other t 0)) (λ t. get_or row (16 + t) 0 ⊕ product f (get_or other (16 + t) 0)) h
-      (weighed-added k f (λ t. get_or row t 0) (λ t. get_or other t 0) (λ t. get_or p t 0)
+      holds_halves p out (λ t. get_or row t 0 ⊕ product f (get_or other t 0)) (λ t. get_or row (16 + t) 0 ⊕ product f (get_or other (16 + t) 0)) h
+      (weighed_added k f (λ t. get_or row t 0) (λ t. get_or other t 0) (λ t. get_or p t 0)
       ∙ ap₂ (λ (u v : ℕ). u ⊕ product f v) e d
-      ∙ sym (weighed-added k f (λ s. get_or row (16 + s) 0) (λ s. get_or other (16 + s) 0) (λ s. value p (get_or nodes s 0))))
+      ∙ sym (weighed_added k f (λ s. get_or row (16 + s) 0) (λ s. get_or other (16 + s) 0) (λ s. value p (get_or nodes s 0))))
 
   -- the columns below c are reduced, and the right half is still the identity's from row and column c on
   pub record Upto (c : ℕ) (m : List (List ℕ)) : Type 0 where
@@ -110,42 +110,42 @@ module _ (k : ℕ) (nodes : List ℕ) where
   pub start : (m : List (List ℕ)) → ((s : ℕ) → s < k → Powers k (get_or nodes s 0) s (get_or m s [])) → Upto 0 m
   start m h =
       record {
-        bytes = λ r t u v. rw (h r u t v).0 (power-byte (get_or nodes r 0) t);
+        bytes = λ r t u v. rw (h r u t v).0 (power_byte (get_or nodes r 0) t);
         holds =
             λ p l b r u.
-            holds-halves p (get_or m r []) (power (get_or nodes r 0)) (identity r) (h r u)
+            holds_halves p (get_or m r []) (power (get_or nodes r 0)) (identity r) (h r u)
             (sum_same k (λ t. product (power (get_or nodes r 0) t) (get_or p t 0)) (λ t. product (get_or p t 0) (power (get_or nodes r 0) t))
-            (λ t v. product-comm (power (get_or nodes r 0) t) (get_or p t 0))
-            ∙ sym (value-powers-to k p (get_or nodes r 0) l b)
-            ∙ sym (weighed-identity k r (λ s. value p (get_or nodes s 0)) u (value-byte p (get_or nodes r 0) b)));
+            (λ t v. product_comm (power (get_or nodes r 0) t) (get_or p t 0))
+            ∙ sym (value_powers_to k p (get_or nodes r 0) l b)
+            ∙ sym (weighed_identity k r (λ s. value p (get_or nodes s 0)) u (value_byte p (get_or nodes r 0) b)));
         left = λ r t u v. absurd (not-suc-le-zero v);
         right = λ r t _ u _ v. (h r u t v).1;
       }
 
   module _ (ok : Nodes k nodes) where
     module _ (c : ℕ) (m : List (List ℕ)) (l : c < k) (u : Upto c m) where
-      left-low : (t : ℕ) → t < c → product (entry m c t) (get_or (before nodes c) t 0) ≡ 0
-      left-low t v =
+      left_low : (t : ℕ) → t < c → product (entry m c t) (get_or (before nodes c) t 0) ≡ 0
+      left_low t v =
           ap (λ (x : ℕ). product x (get_or (before nodes c) t 0)) (u.left c t l v ∙ identity-other c t (λ q. omega arith))
-          ∙ zero-product (get_or (before nodes c) t 0)
+          ∙ zero_product (get_or (before nodes c) t 0)
 
-      left-high : (t : ℕ) → c < t → product (entry m c t) (get_or (before nodes c) t 0) ≡ 0
-      left-high t v =
+      left_high : (t : ℕ) → c < t → product (entry m c t) (get_or (before nodes c) t 0) ≡ 0
+      left_high t v =
           let n : length (take c nodes) ≡ c = length-take-le c nodes (omega arith) in
-          ap (product (entry m c t)) (get_or-eq_default (before nodes c) 0 {n = t} (omega (arith, length-rootsAt (take c nodes))))
-          ∙ product-zero (entry m c t)
+          ap (product (entry m c t)) (get_or-eq_default (before nodes c) 0 {n = t} (omega (arith, length-roots_at (take c nodes))))
+          ∙ product_zero (entry m c t)
 
-      right-low : (s : ℕ) → s < c → product (entry m c (16 + s)) (value (before nodes c) (get_or nodes s 0)) ≡ 0
-      right-low s v =
+      right_low : (s : ℕ) → s < c → product (entry m c (16 + s)) (value (before nodes c) (get_or nodes s 0)) ≡ 0
+      right_low s v =
           let n : length (take c nodes) ≡ c = length-take-le c nodes (omega arith) in
-          ap (product (entry m c (16 + s))) (rw (get_or-take c nodes s 0 v) at (rootsAt-zero (take c nodes) s (omega arith)))
-          ∙ product-zero (entry m c (16 + s))
+          ap (product (entry m c (16 + s))) (rw (get_or-take c nodes s 0 v) at (roots_at_zero (take c nodes) s (omega arith)))
+          ∙ product_zero (entry m c (16 + s))
 
       right-high : (s : ℕ) → s < k → c < s → product (entry m c (16 + s)) (value (before nodes c) (get_or nodes s 0)) ≡ 0
       right-high s h v =
           ap (λ (x : ℕ). product x (value (before nodes c) (get_or nodes s 0)))
           (u.right c s (omega arith) l (omega arith) h ∙ identity-other c s (λ q. omega arith))
-          ∙ zero-product (value (before nodes c) (get_or nodes s 0))
+          ∙ zero_product (value (before nodes c) (get_or nodes s 0))
 
       right-value : weighed k (λ s. entry m c (16 + s)) (λ s. value (before nodes c) (get_or nodes s 0)) ≡ value (before nodes c) (get_or nodes c 0)
       right-value =
@@ -153,88 +153,88 @@ module _ (k : ℕ) (nodes : List ℕ) where
           sum_one k c (λ s. product (entry m c (16 + s)) (value (before nodes c) (get_or nodes s 0))) l
           (λ s h.
           around (λ i. (i ≡ c → ⊥) → product (entry m c (16 + i)) (value (before nodes c) (get_or nodes i 0)) ≡ 0) s c
-          (λ v d. right-low s v) (λ d. absurd (d refl)) (λ v d. right-high s h v))
+          (λ v d. right_low s v) (λ d. absurd (d refl)) (λ v d. right-high s h v))
           ∙ ap (λ (v : ℕ). product v (value (before nodes c) x)) (u.right c c (omega arith) l (omega arith) l ∙ identity-same c)
-          ∙ one_product (value (before nodes c) x) (value-byte (before nodes c) x (bytes-rootsAt (take c nodes)))
+          ∙ one_product (value (before nodes c) x) (value_byte (before nodes c) x (bytes-roots_at (take c nodes)))
 
-      point-new : (i : ℕ) → i < length (take c nodes) → get_or nodes c 0 ≡ get_or (take c nodes) i 0 → ⊥
-      point-new i h q =
+      point_new : (i : ℕ) → i < length (take c nodes) → get_or nodes c 0 ≡ get_or (take c nodes) i 0 → ⊥
+      point_new i h q =
           let n : length (take c nodes) ≡ c = length-take-le c nodes (omega arith) in
           let n' : length (take k nodes) ≡ k = length-take-le k nodes ok.room in
           ok.distinct i c (omega arith) (omega arith)
           (get_or-take k nodes i 0 (omega arith) ∙ sym (get_or-take c nodes i 0 (omega arith)) ∙ sym q ∙ sym (get_or-take k nodes c 0 l))
 
       -- were it 0, the polynomial whose roots are the points before point c would have a further root there
-      pub pivot-nonzero : entry m c c ≡ 0 → ⊥
-      pivot-nonzero e =
+      pub pivot_nonzero : entry m c c ≡ 0 → ⊥
+      pivot_nonzero e =
           let n : length (take c nodes) ≡ c = length-take-le c nodes (omega arith) in
-          rootsAt-nonzero (take c nodes) (get_or nodes c 0) (bytes_take c nodes ok.bytes) (ok.bytes c) point-new
+          roots_at_nonzero (take c nodes) (get_or nodes c 0) (bytes_take c nodes ok.bytes) (ok.bytes c) point_new
           (sym right-value
-          ∙ sym (u.holds (before nodes c) (omega (arith, length-rootsAt (take c nodes))) (bytes-rootsAt (take c nodes)) c l)
-          ∙ sum-zero k (λ t. product (entry m c t) (get_or (before nodes c) t 0))
+          ∙ sym (u.holds (before nodes c) (omega (arith, length-roots_at (take c nodes))) (bytes-roots_at (take c nodes)) c l)
+          ∙ sum_zero k (λ t. product (entry m c t) (get_or (before nodes c) t 0))
           (λ t h.
-          around (λ i. product (entry m c i) (get_or (before nodes c) i 0) ≡ 0) t c (left-low t)
-          (ap (λ (x : ℕ). product x (get_or (before nodes c) c 0)) e ∙ zero-product (get_or (before nodes c) c 0)) (left-high t)))
+          around (λ i. product (entry m c i) (get_or (before nodes c) i 0) ≡ 0) t c (left_low t)
+          (ap (λ (x : ℕ). product x (get_or (before nodes c) c 0)) e ∙ zero_product (get_or (before nodes c) c 0)) (left_high t)))
 
     module _ (c : ℕ) (m out : List (List ℕ)) (l : c < k) (u : Upto c m) (h : Reduced k c m out) where
-      pivot-left : (t : ℕ) → t < suc c → entry out c t ≡ identity c t
-      pivot-left t v =
+      pivot_left : (t : ℕ) → t < suc c → entry out c t ≡ identity c t
+      pivot_left t v =
           let a = entry m c c in
           cases (λ i. entry out c i ≡ identity c i) t c
           ((h.pivot c l).0
-          ∙ product-comm (inverse a) a
-          ∙ product-inverse a (u.bytes c c l l) (pivot-nonzero c m l u)
+          ∙ product_comm (inverse a) a
+          ∙ product-inverse a (u.bytes c c l l) (pivot_nonzero c m l u)
           ∙ sym (identity-same c))
           (λ d.
           let z : identity c t ≡ 0 = identity-other c t (λ q. d (sym q)) in
           (h.pivot t (omega arith)).0
           ∙ ap (product (inverse a)) (u.left c t l (omega arith) ∙ z)
-          ∙ product-zero (inverse a)
+          ∙ product_zero (inverse a)
           ∙ sym z)
 
       pivot-right : (t : ℕ) → c < t → t < k → entry out c (16 + t) ≡ 0
       pivot-right t d v =
           (h.pivot t v).1
           ∙ ap (product (inverse (entry m c c))) (u.right c t (omega arith) l (omega arith) v ∙ identity-other c t (λ e. omega arith))
-          ∙ product-zero (inverse (entry m c c))
+          ∙ product_zero (inverse (entry m c c))
 
-      row-left : (r t : ℕ) → r < k → t < suc c → (r ≡ c → ⊥) → entry out r t ≡ identity r t
-      row-left r t v w n =
+      row_left : (r t : ℕ) → r < k → t < suc c → (r ≡ c → ⊥) → entry out r t ≡ identity r t
+      row_left r t v w n =
           let g = entry m r c in
           (h.rows r v n t (omega arith)).0
-          ∙ ap (λ (x : ℕ). entry m r t ⊕ product g x) (pivot-left t w)
+          ∙ ap (λ (x : ℕ). entry m r t ⊕ product g x) (pivot_left t w)
           ∙ cases (λ i. entry m r i ⊕ product g (identity c i) ≡ identity r i) t c
-          (ap (λ (x : ℕ). g ⊕ x) (ap (product g) (identity-same c) ∙ product-one g (u.bytes r c v l))
+          (ap (λ (x : ℕ). g ⊕ x) (ap (product g) (identity-same c) ∙ product_one g (u.bytes r c v l))
           ∙ xor_self g
           ∙ sym (identity-other r c n))
           (λ d.
           ap₂ (λ (x y : ℕ). x ⊕ product g y) (u.left r t v (omega arith)) (identity-other c t (λ q. d (sym q)))
-          ∙ ap (λ (x : ℕ). identity r t ⊕ x) (product-zero g)
+          ∙ ap (λ (x : ℕ). identity r t ⊕ x) (product_zero g)
           ∙ xor_zero_r (identity r t))
 
       pivot-holds : (p : List ℕ) → length p ≤ k → Bytes p → Holds p (get_or out c [])
-      pivot-holds p n b = holds-scaled p (inverse (entry m c c)) (get_or m c []) (get_or out c []) h.pivot (u.holds p n b c l)
+      pivot-holds p n b = holds_scaled p (inverse (entry m c c)) (get_or m c []) (get_or out c []) h.pivot (u.holds p n b c l)
 
       pub reduced : Upto (suc c) out
       reduced =
           record {
             bytes =
                 λ r t v w.
-                cases (λ i. entry out i t < 256) r c (rw (h.pivot t w).0 (product-byte (inverse (entry m c c)) (entry m c t)))
+                cases (λ i. entry out i t < 256) r c (rw (h.pivot t w).0 (product_byte (inverse (entry m c c)) (entry m c t)))
                 (λ n.
                 rw (h.rows r v n t w).0
-                (xor-byte (entry m r t) (product (entry m r c) (entry out c t)) (u.bytes r t v w) (product-byte (entry m r c) (entry out c t))));
+                (xor_byte (entry m r t) (product (entry m r c) (entry out c t)) (u.bytes r t v w) (product_byte (entry m r c) (entry out c t))));
             holds =
                 λ p n b r v.
                 cases (λ i. Holds p (get_or out i [])) r c (pivot-holds p n b)
                 (λ d.
                 holds-added p (entry m r c) (get_or m r []) (get_or out c []) (get_or out r []) (h.rows r v d) (u.holds p n b r v) (pivot-holds p n b));
-            left = λ r t v w. cases (λ i. entry out i t ≡ identity i t) r c (pivot-left t w) (row-left r t v w);
+            left = λ r t v w. cases (λ i. entry out i t ≡ identity i t) r c (pivot_left t w) (row_left r t v w);
             right =
                 λ r t a v d w.
                 (h.rows r v (λ e. omega arith) t w).1
                 ∙ ap₂ (λ (x y : ℕ). x ⊕ product (entry m r c) y) (u.right r t (omega arith) v (omega arith) w) (pivot-right t d w)
-                ∙ ap (λ (x : ℕ). identity r t ⊕ x) (product-zero (entry m r c))
+                ∙ ap (λ (x : ℕ). identity r t ⊕ x) (product_zero (entry m r c))
                 ∙ xor_zero_r (identity r t);
           }
 
@@ -242,8 +242,8 @@ module _ (k : ℕ) (nodes : List ℕ) where
     inverted m u f hf r l =
         let n : length (take k nodes) ≡ k = length-take-le k nodes ok.room in
         let p = interpolate (take k nodes) f in
-        sym (weighed-identity k r (λ t. get_or p t 0) l (interpolate-bytes (take k nodes) f r))
-        ∙ sym (weighed-same k (λ t. entry m r t) (identity r) (λ t. get_or p t 0) (λ t h. u.left r t l h))
+        sym (weighed_identity k r (λ t. get_or p t 0) l (interpolate-bytes (take k nodes) f r))
+        ∙ sym (weighed_same k (λ t. entry m r t) (identity r) (λ t. get_or p t 0) (λ t h. u.left r t l h))
         ∙ u.holds p (omega (arith, interpolate-length (take k nodes) f)) (interpolate-bytes (take k nodes) f) r l
         ∙ sum_same k (λ s. product (entry m r (16 + s)) (value p (get_or nodes s 0))) (λ s. product (entry m r (16 + s)) (f (get_or nodes s 0)))
         (λ s h.
@@ -253,9 +253,9 @@ module _ (k : ℕ) (nodes : List ℕ) where
 
 -- ---- the loops that fill lists and rows
 
-pub halves-more : (left right : ℕ → ℕ) (t : ℕ) (row : List ℕ) (a b : ℕ) → t < 16 → length row ≡ 32 → Halves t row left right
+pub halves_more : (left right : ℕ → ℕ) (t : ℕ) (row : List ℕ) (a b : ℕ) → t < 16 → length row ≡ 32 → Halves t row left right
     → a ≡ left t → b ≡ right t → Halves (t + 1) (set (set row t a) (16 + t) b) left right
-halves-more left right t row a b l n all ea eb i h =
+halves_more left right t row a b l n all ea eb i h =
     let next = set (set row t a) (16 + t) b in
     cases (λ j. (get_or next j 0 ≡ left j) × (get_or next (16 + j) 0 ≡ right j)) i t (
       get_or-set_other (set row t a) (16 + t) t b 0 (λ e. omega arith) ∙ get_or-set_same row t a 0 (omega arith) ∙ ea,
@@ -268,9 +268,9 @@ halves-more left right t row a b l n all ea eb i h =
           ∙ (all i (omega arith)).1,
     ))
 
-pub powers-done : (k x s : ℕ) (row : List ℕ) → k ≤ 16 → s < 16 → length row ≡ 32 → ((t : ℕ) → t < k → get_or row t 0 ≡ power x t)
+pub powers_done : (k x s : ℕ) (row : List ℕ) → k ≤ 16 → s < 16 → length row ≡ 32 → ((t : ℕ) → t < k → get_or row t 0 ≡ power x t)
     → ((t : ℕ) → get_or row (16 + t) 0 ≡ 0) → Powers k x s (set row (16 + s) 1)
-powers-done k x s row lk ls n left right t l = (
+powers_done k x s row lk ls n left right t l = (
   get_or-set_other row (16 + s) t 1 0 (λ e. omega arith) ∙ left t l,
   cases (λ i. get_or (set row (16 + s) 1) (16 + i) 0 ≡ identity s i) t s
       (get_or-set_same row (16 + s) 1 0 (omega arith) ∙ sym (identity-same s))
@@ -280,9 +280,9 @@ powers-done k x s row lk ls n left right t l = (
       ∙ sym (identity-other s t (λ e. d (sym e)))),
 )
 
-pub rows-reduced : (k c f : ℕ) (m out : List (List ℕ)) (pivot : List ℕ) → c < k → f ≡ inverse (entry m c c) → Scaled k f (get_or m c []) pivot
+pub rows_reduced : (k c f : ℕ) (m out : List (List ℕ)) (pivot : List ℕ) → c < k → f ≡ inverse (entry m c c) → Scaled k f (get_or m c []) pivot
     → ((r : ℕ) → r < k → Cleared k c r pivot (get_or m r []) (get_or out r [])) → Reduced k c m out
-rows-reduced k c f m out pivot l ef scaled rows =
+rows_reduced k c f m out pivot l ef scaled rows =
     let e : get_or out c [] ≡ pivot = (rows c l).same refl in
     record {
       pivot =

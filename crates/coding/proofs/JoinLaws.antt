@@ -5,39 +5,39 @@ use lib.ListN.{get_or-append}
 use Rattle.coding.specs.Field.{◌⊕◌, product, sum}
 use Rattle.coding.specs.Polynomial.{interpolate}
 use Rattle.coding.specs.Bytes.{Bytes}
-use Rattle.coding.specs.Output.{Placed, Stride, byteIn, Weighs}
+use Rattle.coding.specs.Output.{Placed, Stride, byte_in, Weighs}
 use Rattle.coding.specs.Join.{joined}
 use Rattle.coding.proofs.BytesLaws.{stride}
-use Rattle.coding.proofs.FieldLaws.{product-comm}
+use Rattle.coding.proofs.FieldLaws.{product_comm}
 use Rattle.coding.proofs.PolynomialLaws.{sum_same, interpolate-length, interpolate-bytes}
 
 pub length-joined : (F : ℕ) (room xs : List ℕ) (n : ℕ) → length (joined F room xs n) ≡ n * length xs
 unfolding joined
 length-joined F room xs zero = omega arith
 length-joined F room xs (suc n) =
-    length-append (joined F room xs n) (interpolate xs (byteIn F room n))
-    ∙ omega (arith, length-joined F room xs n, interpolate-length xs (byteIn F room n), suc-mul n (length xs))
+    length-append (joined F room xs n) (interpolate xs (byte_in F room n))
+    ∙ omega (arith, length-joined F room xs n, interpolate-length xs (byte_in F room n), suc-mul n (length xs))
 
 -- byte r of column j
-pub getD-joined : (F : ℕ) (room xs : List ℕ) (n j r : ℕ) → j < n → r < length xs
-    → get_or (joined F room xs n) (j * length xs + r) 0 ≡ get_or (interpolate xs (byteIn F room j)) r 0
+pub get_or-joined : (F : ℕ) (room xs : List ℕ) (n j r : ℕ) → j < n → r < length xs
+    → get_or (joined F room xs n) (j * length xs + r) 0 ≡ get_or (interpolate xs (byte_in F room j)) r 0
 unfolding joined
-getD-joined F room xs zero j r hj hr = absurd (not-suc-le-zero hj)
-getD-joined F room xs (suc n) j r hj hr = go (λ h. getD-joined F room xs n j r h hr) (dec_lt j n)
+get_or-joined F room xs zero j r hj hr = absurd (not-suc-le-zero hj)
+get_or-joined F room xs (suc n) j r hj hr = go (λ h. get_or-joined F room xs n j r h hr) (dec_lt j n)
   where
-    go : (j < n → get_or (joined F room xs n) (j * length xs + r) 0 ≡ get_or (interpolate xs (byteIn F room j)) r 0) → Dec (j < n)
-        → get_or (joined F room xs n ++ interpolate xs (byteIn F room n)) (j * length xs + r) 0 ≡ get_or (interpolate xs (byteIn F room j)) r 0
+    go : (j < n → get_or (joined F room xs n) (j * length xs + r) 0 ≡ get_or (interpolate xs (byte_in F room j)) r 0) → Dec (j < n)
+        → get_or (joined F room xs n ++ interpolate xs (byte_in F room n)) (j * length xs + r) 0 ≡ get_or (interpolate xs (byte_in F room j)) r 0
     go ih (yes h) =
         let b : suc j ≤ n = h in
         let e : suc j * length xs ≡ j * length xs + length xs = suc-mul j (length xs) in
         let c : j * length xs + r < length (joined F room xs n) =
         rw length-joined (omega (arith, mul-le-mul_right (length xs) b))
-        in get_or-append (joined F room xs n) (interpolate xs (byteIn F room n)) 0 (j * length xs + r) c ∙ ih h
+        in get_or-append (joined F room xs n) (interpolate xs (byte_in F room n)) 0 (j * length xs + r) c ∙ ih h
     go ih (no h) =
         let e : j ≡ n = omega arith in
         rw e
-        (ap (λ (x : ℕ). get_or (joined F room xs n ++ interpolate xs (byteIn F room n)) (x + r) 0) (sym (length-joined F room xs n))
-        ∙ get_or-append-add (joined F room xs n) (interpolate xs (byteIn F room n)) r 0)
+        (ap (λ (x : ℕ). get_or (joined F room xs n ++ interpolate xs (byte_in F room n)) (x + r) 0) (sym (length-joined F room xs n))
+        ∙ get_or-append-add (joined F room xs n) (interpolate xs (byte_in F room n)) r 0)
 
 pub bytes-joined : (F : ℕ) (room xs : List ℕ) (n : ℕ) → Bytes (joined F room xs n)
 unfolding joined
@@ -45,32 +45,32 @@ bytes-joined F room xs zero i = omega arith
 bytes-joined F room xs (suc n) i = go (bytes-joined F room xs n i) (dec_lt i (length (joined F room xs n)))
   where
     go : get_or (joined F room xs n) i 0 < 256 → Dec (i < length (joined F room xs n))
-        → get_or (joined F room xs n ++ interpolate xs (byteIn F room n)) i 0 < 256
-    go ih (yes h) = rw (get_or-append (joined F room xs n) (interpolate xs (byteIn F room n)) 0 i h) ih
+        → get_or (joined F room xs n ++ interpolate xs (byte_in F room n)) i 0 < 256
+    go ih (yes h) = rw (get_or-append (joined F room xs n) (interpolate xs (byte_in F room n)) 0 i h) ih
     go ih (no h) =
         let e : i ≡ length (joined F room xs n) + (i - length (joined F room xs n)) = omega arith in
         rw
-        (ap (λ (x : ℕ). get_or (joined F room xs n ++ interpolate xs (byteIn F room n)) x 0) e
-        ∙ get_or-append-add (joined F room xs n) (interpolate xs (byteIn F room n)) (i - length (joined F room xs n)) 0)
-        (interpolate-bytes xs (byteIn F room n) (i - length (joined F room xs n)))
+        (ap (λ (x : ℕ). get_or (joined F room xs n ++ interpolate xs (byte_in F room n)) x 0) e
+        ∙ get_or-append-add (joined F room xs n) (interpolate xs (byte_in F room n)) (i - length (joined F room xs n)) 0)
+        (interpolate-bytes xs (byte_in F room n) (i - length (joined F room xs n)))
 
 -- what the nodes' bytes weigh is the frame's byte
 pub weighed : (F k : ℕ) (room nodes row : List ℕ) (columns j r : ℕ) → Bytes room → length (take k nodes) ≡ k → j < columns → r < k
     → Weighs k nodes r row
-    → sum k (λ s. product (byteIn F room j (get_or nodes s 0)) (get_or row (16 + s) 0)) ≡ get_or (joined F room (take k nodes) columns) (r + j * k) 0
+    → sum k (λ s. product (byte_in F room j (get_or nodes s 0)) (get_or row (16 + s) 0)) ≡ get_or (joined F room (take k nodes) columns) (r + j * k) 0
 weighed F k room nodes row columns j r b l hj hr w =
     let e : j * length (take k nodes) + r ≡ r + j * k = rw l (omega arith) in
     let h : r < length (take k nodes) = rw l hr in
-    sum_same k (λ s. product (byteIn F room j (get_or nodes s 0)) (get_or row (16 + s) 0))
-    (λ s. product (get_or row (16 + s) 0) (byteIn F room j (get_or nodes s 0)))
-    (λ s _. product-comm (byteIn F room j (get_or nodes s 0)) (get_or row (16 + s) 0))
-    ∙ sym (w (byteIn F room j) (λ i. b ((i - 1) * F + j)))
-    ∙ sym (getD-joined F room (take k nodes) columns j r hj h)
+    sum_same k (λ s. product (byte_in F room j (get_or nodes s 0)) (get_or row (16 + s) 0))
+    (λ s. product (get_or row (16 + s) 0) (byte_in F room j (get_or nodes s 0)))
+    (λ s _. product_comm (byte_in F room j (get_or nodes s 0)) (get_or row (16 + s) 0))
+    ∙ sym (w (byte_in F room j) (λ i. b ((i - 1) * F + j)))
+    ∙ sym (get_or-joined F room (take k nodes) columns j r hj h)
     ∙ ap (λ (x : ℕ). get_or (joined F room (take k nodes) columns) x 0) e
 
 -- a block's stride goes on that of the columns before it
-pub stride-join : (r k j m p : ℕ) → Stride r k (j + m) p → Stride r k j p ⊎ Stride (j * k + r) k m p
-stride-join r k j m p s = go (dec_lt s.0 j)
+pub stride_join : (r k j m p : ℕ) → Stride r k (j + m) p → Stride r k j p ⊎ Stride (j * k + r) k m p
+stride_join r k j m p s = go (dec_lt s.0 j)
   where
     go : Dec (s.0 < j) → Stride r k j p ⊎ Stride (j * k + r) k m p
     go (yes h) = inl (s.0, h, s.2)
@@ -101,9 +101,9 @@ rows_all k columns p h l = (
 )
 
 -- the output once every byte of the page is placed
-pub placed-page : (f out end : List ℕ) (len : ℕ) → 4 + len ≤ length f → len ≤ length out
+pub placed_page : (f out end : List ℕ) (len : ℕ) → 4 + len ≤ length f → len ≤ length out
     → Placed (λ p. get_or f p 0) len (λ p. p < length f) out end → end ≡ take len (drop 4 f) ++ drop len out
-placed-page f out end len hf ho p =
+placed_page f out end len hf ho p =
     let d : length (drop 4 f) ≡ length f - 4 = length-drop 4 f in
     let t : length (take len (drop 4 f)) ≡ len = length-take-le len (drop 4 f) (omega arith) in
     let s : length (take len (drop 4 f) ++ drop len out) ≡ length out =
@@ -128,19 +128,19 @@ placed-page f out end len hf ho p =
         ∙ get_or-drop len out (q - len) 0)
 
 -- a part of an area lies in the room
-pub area-fits : (x F j m R : ℕ) → 1 ≤ x → x * F ≤ R → j + m ≤ F → (x - 1) * F + j + m ≤ R
-area-fits x F j m R h r l =
+pub area_fits : (x F j m R : ℕ) → 1 ≤ x → x * F ≤ R → j + m ≤ F → (x - 1) * F + j + m ≤ R
+area_fits x F j m R h r l =
     let e : x ≡ x - 1 + 1 = omega arith in
     let s : x * F ≡ (x - 1) * F + F = ap (λ (y : ℕ). y * F) e ∙ stride (x - 1) F in omega arith
 
 -- one node more is weighed
-pub weighed-more : (F : ℕ) (room nodes row : List ℕ) (j m s : ℕ) (sums next : ℕ → ℕ) (loaded : List ℕ)
-    → ((l : ℕ) → l < m → sums l ≡ sum s (λ i. product (byteIn F room (j + l) (get_or nodes i 0)) (get_or row (16 + i) 0)))
+pub weighed_more : (F : ℕ) (room nodes row : List ℕ) (j m s : ℕ) (sums next : ℕ → ℕ) (loaded : List ℕ)
+    → ((l : ℕ) → l < m → sums l ≡ sum s (λ i. product (byte_in F room (j + l) (get_or nodes i 0)) (get_or row (16 + i) 0)))
     → ((l : ℕ) → l < m → get_or loaded l 0 ≡ get_or room ((get_or nodes s 0 - 1) * F + j + l) 0)
     → ((l : ℕ) → next l ≡ sums l ⊕ product (get_or loaded l 0) (get_or row (16 + s) 0))
-    → (l : ℕ) → l < m → next l ≡ sum (s + 1) (λ i. product (byteIn F room (j + l) (get_or nodes i 0)) (get_or row (16 + i) 0))
+    → (l : ℕ) → l < m → next l ≡ sum (s + 1) (λ i. product (byte_in F room (j + l) (get_or nodes i 0)) (get_or row (16 + i) 0))
 unfolding sum
-weighed-more F room nodes row j m s sums next loaded a b c l h =
+weighed_more F room nodes row j m s sums next loaded a b c l h =
     let e : (get_or nodes s 0 - 1) * F + j + l ≡ (get_or nodes s 0 - 1) * F + (j + l) = omega arith in
     rw (add-one s)
     (c l

@@ -6,11 +6,11 @@ use borrow.Author.Tests.{lt-leb}
 use lib.ListN.{get_or-append}
 use lib.Seq.{drop-length, get_or-append_seam}
 use Rattle.coding.specs.declared.nodes.Nodes.{Nodes}
-use Rattle.coding.specs.Nodes.{all, nodesOf, sound, firstLength, Named}
+use Rattle.coding.specs.Nodes.{all, nodes_of, sound, first_length, Named}
 
 -- nothing is left of a number below a power once it is shifted by that power
-pub shifted-out : (m n : ℕ) → eqb (m / 2 ^ n) 0 ≡ ltb m (2 ^ n)
-shifted-out m n = go (dec_lt m (2 ^ n))
+pub shifted_out : (m n : ℕ) → eqb (m / 2 ^ n) 0 ≡ ltb m (2 ^ n)
+shifted_out m n = go (dec_lt m (2 ^ n))
   where
     go : Dec (m < 2 ^ n) → eqb (m / 2 ^ n) 0 ≡ ltb m (2 ^ n)
     go (yes h) = eq-eqb (m / 2 ^ n) 0 (div-eq_of_lt h) ∙ sym (lt-ltb m (2 ^ n) h)
@@ -22,78 +22,78 @@ shifted-out m n = go (dec_lt m (2 ^ n))
         ∙ sym (le-ltb m (2 ^ n) (omega arith))
 
 -- the nodes up to none, and up to one more, which is named if its bit stands
-pub nodes-start : (map : ℕ) → nodesOf map 0 ≡ []
-unfolding nodesOf
-nodes-start map = refl
+pub nodes_start : (map : ℕ) → nodes_of map 0 ≡ []
+unfolding nodes_of
+nodes_start map = refl
 
-pub nodes-skip : (map i : ℕ) → eqb (map / 2 ^ i % 2) 1 ≡ false → nodesOf map (i + 1) ≡ nodesOf map i
-unfolding nodesOf
-nodes-skip map i e = rw (add-one i) (simp e (append-nil (nodesOf map i)))
+pub nodes_skip : (map i : ℕ) → eqb (map / 2 ^ i % 2) 1 ≡ false → nodes_of map (i + 1) ≡ nodes_of map i
+unfolding nodes_of
+nodes_skip map i e = rw (add-one i) (simp e (append-nil (nodes_of map i)))
 
-pub nodes-more : (map i : ℕ) → eqb (map / 2 ^ i % 2) 1 ≡ true → nodesOf map (i + 1) ≡ nodesOf map i ++ ((i + 1) ∷ [])
-unfolding nodesOf
+pub nodes-more : (map i : ℕ) → eqb (map / 2 ^ i % 2) 1 ≡ true → nodes_of map (i + 1) ≡ nodes_of map i ++ ((i + 1) ∷ [])
+unfolding nodes_of
 nodes-more map i e = rw (add-one i) (simp e refl)
 
 -- the empty map names no node
-pub nodes-none : (n : ℕ) → nodesOf 0 n ≡ []
-unfolding nodesOf
+pub nodes-none : (n : ℕ) → nodes_of 0 n ≡ []
+unfolding nodes_of
 nodes-none zero = refl
 nodes-none (suc n) =
     let z : 0 / 2 ^ n % 2 ≡ 0 = ap (λ (x : ℕ). x % 2) (zero-div (2 ^ n)) in
     rw (nodes-none n) (simp (ne_eqb (0 / 2 ^ n % 2) 1 (λ e. omega arith)))
 
-pub nodes-few : (map i : ℕ) → length (nodesOf map i) ≤ i
-unfolding nodesOf
+pub nodes-few : (map i : ℕ) → length (nodes_of map i) ≤ i
+unfolding nodes_of
 nodes-few map zero = omega arith
 nodes-few map (suc i) = go (eqb (map / 2 ^ i % 2) 1) (nodes-few map i)
   where
-    go : (b : Bool) → length (nodesOf map i) ≤ i → length (nodesOf map i ++ cond b (suc i ∷ []) []) ≤ suc i
+    go : (b : Bool) → length (nodes_of map i) ≤ i → length (nodes_of map i ++ cond b (suc i ∷ []) []) ≤ suc i
     go true h = rw length-append (omega arith)
     go false h = rw length-append (omega arith)
 
-pub nodes-counted : (map i : ℕ) → length (nodesOf map (suc i)) ≡ length (nodesOf map i) + map / 2 ^ i % 2
+pub nodes-counted : (map i : ℕ) → length (nodes_of map (suc i)) ≡ length (nodes_of map i) + map / 2 ^ i % 2
 nodes-counted map i = go (ℕ_discrete (map / 2 ^ i % 2) 1)
   where
-    go : Dec (map / 2 ^ i % 2 ≡ 1) → length (nodesOf map (suc i)) ≡ length (nodesOf map i) + map / 2 ^ i % 2
+    go : Dec (map / 2 ^ i % 2 ≡ 1) → length (nodes_of map (suc i)) ≡ length (nodes_of map i) + map / 2 ^ i % 2
     go (yes e) =
         rw (← add-one i)
-        (ap length (nodes-more map i (eq-eqb (map / 2 ^ i % 2) 1 e)) ∙ length-append (nodesOf map i) ((i + 1) ∷ []) ∙ omega arith)
-    go (no e) = rw (← add-one i) (ap length (nodes-skip map i (ne_eqb (map / 2 ^ i % 2) 1 e)) ∙ omega arith)
+        (ap length (nodes-more map i (eq-eqb (map / 2 ^ i % 2) 1 e)) ∙ length-append (nodes_of map i) ((i + 1) ∷ []) ∙ omega arith)
+    go (no e) = rw (← add-one i) (ap length (nodes_skip map i (ne_eqb (map / 2 ^ i % 2) 1 e)) ∙ omega arith)
 
 -- the nodes up to i come before the later ones
-pub nodes-split : (map i d : ℕ) → (b : List ℕ) × (nodesOf map (i + d) ≡ nodesOf map i ++ b)
-unfolding nodesOf
-nodes-split map i zero = let e : i + 0 ≡ i = omega arith in ([], ap (nodesOf map) e ∙ sym (append-nil (nodesOf map i)))
+pub nodes-split : (map i d : ℕ) → (b : List ℕ) × (nodes_of map (i + d) ≡ nodes_of map i ++ b)
+unfolding nodes_of
+nodes-split map i zero = let e : i + 0 ≡ i = omega arith in ([], ap (nodes_of map) e ∙ sym (append-nil (nodes_of map i)))
 nodes-split map i (suc d) =
     let x = nodes-split map i d in
     let e : i + suc d ≡ suc (i + d) = omega arith in
     let y : List ℕ = cond (eqb (map / 2 ^ (i + d) % 2) 1) (suc (i + d) ∷ []) [] in
-    (x.0 ++ y, ap (nodesOf map) e ∙ ap (λ (l : List ℕ). l ++ y) x.1 ∙ append_assoc (nodesOf map i) x.0 y)
+    (x.0 ++ y, ap (nodes_of map) e ∙ ap (λ (l : List ℕ). l ++ y) x.1 ∙ append_assoc (nodes_of map i) x.0 y)
 
 -- no node beyond n, where the map has n bits
-pub nodes-beyond : (map n j : ℕ) → map < 2 ^ n → n ≤ j → nodesOf map j ≡ nodesOf map n
-unfolding nodesOf
-nodes-beyond map n zero h l = let e : 0 ≡ n = omega arith in ap (nodesOf map) e
+pub nodes-beyond : (map n j : ℕ) → map < 2 ^ n → n ≤ j → nodes_of map j ≡ nodes_of map n
+unfolding nodes_of
+nodes-beyond map n zero h l = let e : 0 ≡ n = omega arith in ap (nodes_of map) e
 nodes-beyond map n (suc j) h l = go (ℕ_discrete (suc j) n) (nodes-beyond map n j h)
   where
-    go : Dec (suc j ≡ n) → (n ≤ j → nodesOf map j ≡ nodesOf map n) → nodesOf map (suc j) ≡ nodesOf map n
-    go (yes e) ih = ap (nodesOf map) e
+    go : Dec (suc j ≡ n) → (n ≤ j → nodes_of map j ≡ nodes_of map n) → nodes_of map (suc j) ≡ nodes_of map n
+    go (yes e) ih = ap (nodes_of map) e
     go (no e) ih =
         let k : n ≤ j = omega arith in
         let b : map < 2 ^ j = omega (arith, pow_mono k) in
         let z : map / 2 ^ j % 2 ≡ 0 = ap (λ (x : ℕ). x % 2) (div-eq_of_lt b) in
-        rw (ne_eqb (map / 2 ^ j % 2) 1 (λ e. omega arith)) (append-nil (nodesOf map j) ∙ ih k)
+        rw (ne_eqb (map / 2 ^ j % 2) 1 (λ e. omega arith)) (append-nil (nodes_of map j) ∙ ih k)
 
-pub named-skip : (map i : ℕ) (nodes : Nodes) → Named map i nodes → eqb (map / 2 ^ i % 2) 1 ≡ false → Named map (i + 1) nodes
-named-skip map i nodes h e =
-    record { many = h.many ∙ ap length (sym (nodes-skip map i e)); first = h.first ∙ sym (nodes-skip map i e) }
+pub named_skip : (map i : ℕ) (nodes : Nodes) → Named map i nodes → eqb (map / 2 ^ i % 2) 1 ≡ false → Named map (i + 1) nodes
+named_skip map i nodes h e =
+    record { many = h.many ∙ ap length (sym (nodes_skip map i e)); first = h.first ∙ sym (nodes_skip map i e) }
 
 pub named_more : (map i : ℕ) (nodes : Nodes) → length nodes.list ≡ 16 → i < 16 → Named map i nodes → eqb (map / 2 ^ i % 2) 1 ≡ true
     → Named map (i + 1) (record { list = set nodes.list nodes.count (i + 1); count = nodes.count + 1 })
 named_more map i nodes l h n e =
     let c : nodes.count < length nodes.list = omega (arith, nodes-few map i, n.many) in
     record {
-      many = omega (arith, n.many, ap length (nodes-more map i e) ∙ length-append (nodesOf map i) ((i + 1) ∷ []));
+      many = omega (arith, n.many, ap length (nodes-more map i e) ∙ length-append (nodes_of map i) ((i + 1) ∷ []));
       first = rw (add-one nodes.count)
           (take-suc-set nodes.list nodes.count (i + 1) c
           ∙ ap (λ (s : List ℕ). s ++ ((i + 1) ∷ [])) n.first
@@ -101,87 +101,87 @@ named_more map i nodes l h n e =
     }
 
 -- the nodes are from 1 to n and ascend
-pub nodes-within : (map n s : ℕ) → s < length (nodesOf map n) → (1 ≤ get_or (nodesOf map n) s 0) × (get_or (nodesOf map n) s 0 ≤ n)
-unfolding nodesOf
+pub nodes-within : (map n s : ℕ) → s < length (nodes_of map n) → (1 ≤ get_or (nodes_of map n) s 0) × (get_or (nodes_of map n) s 0 ≤ n)
+unfolding nodes_of
 nodes-within map zero s h = absurd (not-suc-le-zero h)
-nodes-within map (suc i) s h = go (eqb (map / 2 ^ i % 2) 1) (nodes-within map i s) h (dec_lt s (length (nodesOf map i)))
+nodes-within map (suc i) s h = go (eqb (map / 2 ^ i % 2) 1) (nodes-within map i s) h (dec_lt s (length (nodes_of map i)))
   where
-    go : (b : Bool) → (s < length (nodesOf map i) → (1 ≤ get_or (nodesOf map i) s 0) × (get_or (nodesOf map i) s 0 ≤ i))
-        → s < length (nodesOf map i ++ cond b (suc i ∷ []) []) → Dec (s < length (nodesOf map i))
-        → (1 ≤ get_or (nodesOf map i ++ cond b (suc i ∷ []) []) s 0) × (get_or (nodesOf map i ++ cond b (suc i ∷ []) []) s 0 ≤ suc i)
+    go : (b : Bool) → (s < length (nodes_of map i) → (1 ≤ get_or (nodes_of map i) s 0) × (get_or (nodes_of map i) s 0 ≤ i))
+        → s < length (nodes_of map i ++ cond b (suc i ∷ []) []) → Dec (s < length (nodes_of map i))
+        → (1 ≤ get_or (nodes_of map i ++ cond b (suc i ∷ []) []) s 0) × (get_or (nodes_of map i ++ cond b (suc i ∷ []) []) s 0 ≤ suc i)
     go b ih t (yes l) =
-        let e : get_or (nodesOf map i ++ cond b (suc i ∷ []) []) s 0 ≡ get_or (nodesOf map i) s 0 =
-        get_or-append (nodesOf map i) (cond b (suc i ∷ []) []) 0 s l
+        let e : get_or (nodes_of map i ++ cond b (suc i ∷ []) []) s 0 ≡ get_or (nodes_of map i) s 0 =
+        get_or-append (nodes_of map i) (cond b (suc i ∷ []) []) 0 s l
         in omega (arith, ih l)
     go true ih t (no l) =
-        let z : s < length (nodesOf map i) + 1 = rw length-append at t in
-        let y : s ≡ length (nodesOf map i) = omega arith in
-        let e : get_or (nodesOf map i ++ (suc i ∷ [])) s 0 ≡ suc i =
-        ap (λ (x : ℕ). get_or (nodesOf map i ++ (suc i ∷ [])) x 0) y ∙ get_or-append_seam (nodesOf map i) (suc i) [] 0
+        let z : s < length (nodes_of map i) + 1 = rw length-append at t in
+        let y : s ≡ length (nodes_of map i) = omega arith in
+        let e : get_or (nodes_of map i ++ (suc i ∷ [])) s 0 ≡ suc i =
+        ap (λ (x : ℕ). get_or (nodes_of map i ++ (suc i ∷ [])) x 0) y ∙ get_or-append_seam (nodes_of map i) (suc i) [] 0
         in omega arith
-    go false ih t (no l) = let z : s < length (nodesOf map i) + 0 = rw length-append at t in absurd (omega arith)
+    go false ih t (no l) = let z : s < length (nodes_of map i) + 0 = rw length-append at t in absurd (omega arith)
 
 -- a node is listed where its bit stands, and only there
-pub nodes-bit : (map n s : ℕ) → s < length (nodesOf map n) → map / 2 ^ (get_or (nodesOf map n) s 0 - 1) % 2 ≡ 1
-unfolding nodesOf
+pub nodes-bit : (map n s : ℕ) → s < length (nodes_of map n) → map / 2 ^ (get_or (nodes_of map n) s 0 - 1) % 2 ≡ 1
+unfolding nodes_of
 nodes-bit map zero s h = absurd (not-suc-le-zero h)
-nodes-bit map (suc n) s h = go (eqb (map / 2 ^ n % 2) 1) refl (nodes-bit map n s) h (dec_lt s (length (nodesOf map n)))
+nodes-bit map (suc n) s h = go (eqb (map / 2 ^ n % 2) 1) refl (nodes-bit map n s) h (dec_lt s (length (nodes_of map n)))
   where
-    go : (b : Bool) → eqb (map / 2 ^ n % 2) 1 ≡ b → (s < length (nodesOf map n) → map / 2 ^ (get_or (nodesOf map n) s 0 - 1) % 2 ≡ 1)
-        → s < length (nodesOf map n ++ cond b (suc n ∷ []) []) → Dec (s < length (nodesOf map n))
-        → map / 2 ^ (get_or (nodesOf map n ++ cond b (suc n ∷ []) []) s 0 - 1) % 2 ≡ 1
-    go b e ih t (yes l) = rw (get_or-append (nodesOf map n) (cond b (suc n ∷ []) []) 0 s l) (ih l)
+    go : (b : Bool) → eqb (map / 2 ^ n % 2) 1 ≡ b → (s < length (nodes_of map n) → map / 2 ^ (get_or (nodes_of map n) s 0 - 1) % 2 ≡ 1)
+        → s < length (nodes_of map n ++ cond b (suc n ∷ []) []) → Dec (s < length (nodes_of map n))
+        → map / 2 ^ (get_or (nodes_of map n ++ cond b (suc n ∷ []) []) s 0 - 1) % 2 ≡ 1
+    go b e ih t (yes l) = rw (get_or-append (nodes_of map n) (cond b (suc n ∷ []) []) 0 s l) (ih l)
     go true e ih t (no l) =
-        let z : s < length (nodesOf map n) + 1 = rw length-append at t in
-        let y : s ≡ length (nodesOf map n) = omega arith in
+        let z : s < length (nodes_of map n) + 1 = rw length-append at t in
+        let y : s ≡ length (nodes_of map n) = omega arith in
         let x : suc n - 1 ≡ n = omega arith in
-        rw y (rw (get_or-append_seam (nodesOf map n) (suc n) [] 0) (ap (λ (i : ℕ). map / 2 ^ i % 2) x ∙ eqb-true (map / 2 ^ n % 2) 1 e))
-    go false e ih t (no l) = let z : s < length (nodesOf map n) + 0 = rw length-append at t in absurd (omega arith)
+        rw y (rw (get_or-append_seam (nodes_of map n) (suc n) [] 0) (ap (λ (i : ℕ). map / 2 ^ i % 2) x ∙ eqb-true (map / 2 ^ n % 2) 1 e))
+    go false e ih t (no l) = let z : s < length (nodes_of map n) + 0 = rw length-append at t in absurd (omega arith)
 
-pub bit-listed : (map n i : ℕ) → i < n → map / 2 ^ i % 2 ≡ 1 → (s : ℕ) × (s < length (nodesOf map n)) × (get_or (nodesOf map n) s 0 ≡ suc i)
-unfolding nodesOf
+pub bit-listed : (map n i : ℕ) → i < n → map / 2 ^ i % 2 ≡ 1 → (s : ℕ) × (s < length (nodes_of map n)) × (get_or (nodes_of map n) s 0 ≡ suc i)
+unfolding nodes_of
 bit-listed map zero i l h = absurd (not-suc-le-zero l)
 bit-listed map (suc n) i l h = go (ℕ_discrete i n) (bit-listed map n i)
   where
-    go : Dec (i ≡ n) → (i < n → map / 2 ^ i % 2 ≡ 1 → (s : ℕ) × (s < length (nodesOf map n)) × (get_or (nodesOf map n) s 0 ≡ suc i))
-        → (s : ℕ) × (s < length (nodesOf map (suc n))) × (get_or (nodesOf map (suc n)) s 0 ≡ suc i)
+    go : Dec (i ≡ n) → (i < n → map / 2 ^ i % 2 ≡ 1 → (s : ℕ) × (s < length (nodes_of map n)) × (get_or (nodes_of map n) s 0 ≡ suc i))
+        → (s : ℕ) × (s < length (nodes_of map (suc n))) × (get_or (nodes_of map (suc n)) s 0 ≡ suc i)
     go (yes e) ih =
         let b : map / 2 ^ n % 2 ≡ 1 = rw (← e) h in (
-          length (nodesOf map n),
+          length (nodes_of map n),
           omega (arith, nodes-counted map n),
-          rw (eq-eqb (map / 2 ^ n % 2) 1 b) (get_or-append_seam (nodesOf map n) (suc n) [] 0 ∙ ap suc (sym e)),
+          rw (eq-eqb (map / 2 ^ n % 2) 1 b) (get_or-append_seam (nodes_of map n) (suc n) [] 0 ∙ ap suc (sym e)),
         )
     go (no e) ih =
         let x = ih (omega arith) h in (
           x.0,
           omega (arith, nodes-counted map n, x.1),
-          get_or-append (nodesOf map n) (cond (eqb (map / 2 ^ n % 2) 1) (suc n ∷ []) []) 0 x.0 x.1 ∙ x.2,
+          get_or-append (nodes_of map n) (cond (eqb (map / 2 ^ n % 2) 1) (suc n ∷ []) []) 0 x.0 x.1 ∙ x.2,
         )
 
-pub nodes-ascend : (map n s : ℕ) → suc s < length (nodesOf map n) → get_or (nodesOf map n) s 0 < get_or (nodesOf map n) (suc s) 0
-unfolding nodesOf
-nodes-ascend map zero s h = absurd (not-suc-le-zero h)
-nodes-ascend map (suc i) s h = go (eqb (map / 2 ^ i % 2) 1) (nodes-ascend map i s) h (dec_lt (suc s) (length (nodesOf map i)))
+pub nodes_ascend : (map n s : ℕ) → suc s < length (nodes_of map n) → get_or (nodes_of map n) s 0 < get_or (nodes_of map n) (suc s) 0
+unfolding nodes_of
+nodes_ascend map zero s h = absurd (not-suc-le-zero h)
+nodes_ascend map (suc i) s h = go (eqb (map / 2 ^ i % 2) 1) (nodes_ascend map i s) h (dec_lt (suc s) (length (nodes_of map i)))
   where
-    go : (b : Bool) → (suc s < length (nodesOf map i) → get_or (nodesOf map i) s 0 < get_or (nodesOf map i) (suc s) 0)
-        → suc s < length (nodesOf map i ++ cond b (suc i ∷ []) []) → Dec (suc s < length (nodesOf map i))
-        → get_or (nodesOf map i ++ cond b (suc i ∷ []) []) s 0 < get_or (nodesOf map i ++ cond b (suc i ∷ []) []) (suc s) 0
+    go : (b : Bool) → (suc s < length (nodes_of map i) → get_or (nodes_of map i) s 0 < get_or (nodes_of map i) (suc s) 0)
+        → suc s < length (nodes_of map i ++ cond b (suc i ∷ []) []) → Dec (suc s < length (nodes_of map i))
+        → get_or (nodes_of map i ++ cond b (suc i ∷ []) []) s 0 < get_or (nodes_of map i ++ cond b (suc i ∷ []) []) (suc s) 0
     go b ih t (yes l) =
-        let e : get_or (nodesOf map i ++ cond b (suc i ∷ []) []) s 0 ≡ get_or (nodesOf map i) s 0 =
-        get_or-append (nodesOf map i) (cond b (suc i ∷ []) []) 0 s (omega arith)
+        let e : get_or (nodes_of map i ++ cond b (suc i ∷ []) []) s 0 ≡ get_or (nodes_of map i) s 0 =
+        get_or-append (nodes_of map i) (cond b (suc i ∷ []) []) 0 s (omega arith)
         in
-        let f : get_or (nodesOf map i ++ cond b (suc i ∷ []) []) (suc s) 0 ≡ get_or (nodesOf map i) (suc s) 0 =
-        get_or-append (nodesOf map i) (cond b (suc i ∷ []) []) 0 (suc s) l
+        let f : get_or (nodes_of map i ++ cond b (suc i ∷ []) []) (suc s) 0 ≡ get_or (nodes_of map i) (suc s) 0 =
+        get_or-append (nodes_of map i) (cond b (suc i ∷ []) []) 0 (suc s) l
         in omega (arith, ih l)
     go true ih t (no l) =
-        let z : suc s < length (nodesOf map i) + 1 = rw length-append at t in
-        let y : suc s ≡ length (nodesOf map i) = omega arith in
-        let b : s < length (nodesOf map i) = omega arith in
-        let e : get_or (nodesOf map i ++ (suc i ∷ [])) s 0 ≡ get_or (nodesOf map i) s 0 = get_or-append (nodesOf map i) (suc i ∷ []) 0 s b in
-        let f : get_or (nodesOf map i ++ (suc i ∷ [])) (suc s) 0 ≡ suc i =
-        ap (λ (x : ℕ). get_or (nodesOf map i ++ (suc i ∷ [])) x 0) y ∙ get_or-append_seam (nodesOf map i) (suc i) [] 0
+        let z : suc s < length (nodes_of map i) + 1 = rw length-append at t in
+        let y : suc s ≡ length (nodes_of map i) = omega arith in
+        let b : s < length (nodes_of map i) = omega arith in
+        let e : get_or (nodes_of map i ++ (suc i ∷ [])) s 0 ≡ get_or (nodes_of map i) s 0 = get_or-append (nodes_of map i) (suc i ∷ []) 0 s b in
+        let f : get_or (nodes_of map i ++ (suc i ∷ [])) (suc s) 0 ≡ suc i =
+        ap (λ (x : ℕ). get_or (nodes_of map i ++ (suc i ∷ [])) x 0) y ∙ get_or-append_seam (nodes_of map i) (suc i) [] 0
         in omega (arith, nodes-within map i s b)
-    go false ih t (no l) = let z : suc s < length (nodesOf map i) + 0 = rw length-append at t in absurd (omega arith)
+    go false ih t (no l) = let z : suc s < length (nodes_of map i) + 0 = rw length-append at t in absurd (omega arith)
 
 -- a test over no entry, over one, and over one list behind another
 pub all_none : (f : ℕ → Bool) → all f [] ≡ true
@@ -225,8 +225,8 @@ module _ (F : ℕ) (lens xs : List ℕ) (some : 0 < length xs) (len : ℕ) (e : 
       go [] h = absurd (not-suc-le-zero h)
       go (x ∷ xs) h = refl
 
-  pub sound-low : len < 1 → sound F lens xs ≡ false
-  sound-low h = sound-first ∙ simp (lt-leb 1 len h)
+  pub sound_low : len < 1 → sound F lens xs ≡ false
+  sound_low h = sound-first ∙ simp (lt-leb 1 len h)
 
   pub sound-high : 1 ≤ len → F < len → sound F lens xs ≡ false
   sound-high h l = sound-first ∙ simp (le-leb 1 len h, lt-leb len F l)
@@ -234,24 +234,24 @@ module _ (F : ℕ) (lens xs : List ℕ) (some : 0 < length xs) (len : ℕ) (e : 
   pub sound-rest : 1 ≤ len → len ≤ F → sound F lens xs ≡ all (λ i. eqb (get_or lens (i - 1) 0) len) (drop 1 xs)
   sound-rest h l = sound-first ∙ simp (le-leb 1 len h, le-leb len F l)
 
-pub first-length : (lens xs : List ℕ) → 0 < length xs → firstLength lens xs ≡ get_or lens (get_or xs 0 0 - 1) 0
-unfolding firstLength
+pub first-length : (lens xs : List ℕ) → 0 < length xs → first_length lens xs ≡ get_or lens (get_or xs 0 0 - 1) 0
+unfolding first_length
 first-length lens [] h = absurd (not-suc-le-zero h)
 first-length lens (x ∷ xs) h = refl
 
 -- sound pieces have a length from 1 to F
-pub sound-length : (F : ℕ) (lens xs : List ℕ) → 0 < length xs → sound F lens xs ≡ true → (1 ≤ firstLength lens xs) × (firstLength lens xs ≤ F)
+pub sound-length : (F : ℕ) (lens xs : List ℕ) → 0 < length xs → sound F lens xs ≡ true → (1 ≤ first_length lens xs) × (first_length lens xs ≤ F)
 sound-length F lens xs h e = rw (first-length lens xs h) (go (dec_lt (get_or lens (get_or xs 0 0 - 1) 0) 1) (dec_lt F (get_or lens (get_or xs 0 0 - 1) 0)))
   where
     go : Dec (get_or lens (get_or xs 0 0 - 1) 0 < 1) → Dec (F < get_or lens (get_or xs 0 0 - 1) 0)
         → (1 ≤ get_or lens (get_or xs 0 0 - 1) 0) × (get_or lens (get_or xs 0 0 - 1) 0 ≤ F)
-    go (yes l) m = absurd (true≢false (sym e ∙ sound-low F lens xs h (get_or lens (get_or xs 0 0 - 1) 0) refl l))
+    go (yes l) m = absurd (true≢false (sym e ∙ sound_low F lens xs h (get_or lens (get_or xs 0 0 - 1) 0) refl l))
     go (no l) (yes m) = absurd (true≢false (sym e ∙ sound-high F lens xs h (get_or lens (get_or xs 0 0 - 1) 0) refl (omega arith) m))
     go (no l) (no m) = (omega arith, omega arith)
 
 -- a list of nodes shows the nodes
-pub listed_at : (map n : ℕ) (nodes : Nodes) → Named map n nodes → (s : ℕ) → s < nodes.count → get_or nodes.list s 0 ≡ get_or (nodesOf map n) s 0
+pub listed_at : (map n : ℕ) (nodes : Nodes) → Named map n nodes → (s : ℕ) → s < nodes.count → get_or nodes.list s 0 ≡ get_or (nodes_of map n) s 0
 listed_at map n nodes h s l = sym (get_or-take nodes.count nodes.list s 0 l) ∙ ap (λ (t : List ℕ). get_or t s 0) h.first
 
-pub listed-take : (map n : ℕ) (nodes : Nodes) → Named map n nodes → (k : ℕ) → k ≤ nodes.count → take k nodes.list ≡ take k (nodesOf map n)
+pub listed-take : (map n : ℕ) (nodes : Nodes) → Named map n nodes → (k : ℕ) → k ≤ nodes.count → take k nodes.list ≡ take k (nodes_of map n)
 listed-take map n nodes h k l = sym (take-take k nodes.count nodes.list l) ∙ ap (take k) h.first

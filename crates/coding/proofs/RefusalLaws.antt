@@ -4,9 +4,9 @@ use mathlib.Core.Option.{Option, some, none}
 use lib.Seq.{paste}
 use Rattle.coding.specs.Pieces.{proper, columns, piece}
 use Rattle.coding.specs.Answer.{Outcome}
-use Rattle.coding.specs.Nodes.{nodesOf, sound, firstLength}
+use Rattle.coding.specs.Nodes.{nodes_of, sound, first_length}
 use Rattle.coding.specs.Split.{SplitEnd, written, split, cut}
-use Rattle.coding.specs.Join.{joined, page_of, JoinEnd, pageEnd, join}
+use Rattle.coding.specs.Join.{joined, page_of, JoinEnd, page_end, join}
 use Rattle.coding.proofs.JoinEndLaws.{refused}
 
 -- the room of a split that refuses
@@ -56,14 +56,14 @@ pub join_kept : (n k F present : ℕ) (room lens out : List ℕ) (r : ℕ) → (
 unfolding join
 join_kept n k F present room lens out r =
     go (proper n k F) (ltb (length room) (n * F) || (ltb (length lens) n || ltb (length out) (k * F - 4)))
-    (ltb present (2 ^ n) && sound F lens (nodesOf present n)) (ltb (length (nodesOf present n)) k)
-    (page_of k (joined F room (take k (nodesOf present n)) (firstLength lens (nodesOf present n))))
+    (ltb present (2 ^ n) && sound F lens (nodes_of present n)) (ltb (length (nodes_of present n)) k)
+    (page_of k (joined F room (take k (nodes_of present n)) (first_length lens (nodes_of present n))))
   where
     end : Bool → Bool → Bool → Bool → Option (List ℕ) → JoinEnd
     end a b c d o =
         cond a
         (cond b (record { outcome = Outcome.refuses 2; out = out })
-        (cond c (cond d (record { outcome = Outcome.refuses 9; out = out }) (pageEnd o out)) (record { outcome = Outcome.refuses 4; out = out })))
+        (cond c (cond d (record { outcome = Outcome.refuses 9; out = out }) (page_end o out)) (record { outcome = Outcome.refuses 4; out = out })))
         (record { outcome = Outcome.refuses 1; out = out })
 
     go : (a b c d : Bool) (o : Option (List ℕ)) → (end a b c d o).outcome ≡ Outcome.refuses r → (end a b c d o).out ≡ out

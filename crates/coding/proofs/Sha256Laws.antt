@@ -20,17 +20,17 @@ each_turn f l j a h o e k g = go (dec_lt k j)
         let q : k ≡ j = omega arith in
         rw q (get_or-set_same l j a 0 h ∙ e)
 
-pub block-turn : (s m : List ℕ) (at j a : ℕ) → j < length m → take j m ≡ words s at j → a ≡ word s (at + 4 * j)
+pub block_turn : (s m : List ℕ) (at j a : ℕ) → j < length m → take j m ≡ words s at j → a ≡ word s (at + 4 * j)
     → take (j + 1) (set m j a) ≡ words s at (j + 1)
 unfolding words
-block-turn s m at j a h o e = stored m j a h ∙ rw (o, e, add-one j)
+block_turn s m at j a h o e = stored m j a h ∙ rw (o, e, add-one j)
 
 -- step 1
-pub extend-law : (w : List ℕ) (t a : ℕ) → 16 ≤ t → t < length w
+pub extend_law : (w : List ℕ) (t a : ℕ) → 16 ≤ t → t < length w
     → a ≡ scheduled (w ! (t - 2)) (w ! (t - 7)) (w ! (t - 15)) (w ! (t - 16))
     → take (t + 1) (set w t a) ≡ extended (take t w) t
 unfolding extended
-extend-law w t a l h e =
+extend_law w t a l h e =
     stored w t a h
     ∙ rw (
       get_or-take t w (t - 2) 0 (omega arith),
@@ -40,24 +40,24 @@ extend-law w t a l h e =
     )
     (ap (λ (x : ℕ). take t w ++ (x ∷ [])) e)
 
-pub schedule-turn : (m w w' : List ℕ) (t u : ℕ) → u ≡ t + 1 → 16 ≤ t → take t w ≡ schedule m (t - 16)
+pub schedule_turn : (m w w' : List ℕ) (t u : ℕ) → u ≡ t + 1 → 16 ≤ t → take t w ≡ schedule m (t - 16)
     → take (t + 1) w' ≡ extended (take t w) t → take u w' ≡ schedule m (u - 16)
 unfolding schedule
-schedule-turn m w w' t u q l o e =
+schedule_turn m w w' t u q l o e =
     let s : u - 16 ≡ suc (t - 16) = omega arith in
     let b : 16 + (t - 16) ≡ t = omega arith in
     rw (q, ← q, s, b) (rw q (e ∙ ap (λ (x : List ℕ). extended x t) o))
 
 -- step 3
-pub round-turn : (w h v r : List ℕ) (t u : ℕ) → u ≡ t + 1 → v ≡ rounds w h t → r ≡ round v (K ! t) (w ! t)
+pub round_turn : (w h v r : List ℕ) (t u : ℕ) → u ≡ t + 1 → v ≡ rounds w h t → r ≡ round v (K ! t) (w ! t)
     → r ≡ rounds w h u
 unfolding rounds
-round-turn w h v r t u q o e = rw (q, add-one) (e ∙ ap (λ (x : List ℕ). round x (K ! t) (w ! t)) o)
+round_turn w h v r t u q o e = rw (q, add-one) (e ∙ ap (λ (x : List ℕ). round x (K ! t) (w ! t)) o)
 
-pub hash-turn : (h s g m r : List ℕ) (i : ℕ) → g ≡ hash h s i → m ≡ words s (64 * i) 16 → r ≡ compress g m
+pub hash_turn : (h s g m r : List ℕ) (i : ℕ) → g ≡ hash h s i → m ≡ words s (64 * i) 16 → r ≡ compress g m
     → r ≡ hash h s (i + 1)
 unfolding hash
-hash-turn h s g m r i o b e = rw add-one (e ∙ rw (o, b) refl)
+hash_turn h s g m r i o b e = rw add-one (e ∙ rw (o, b) refl)
 
 pub beyond : (a b : List ℕ) (i k : ℕ) → i ≡ length a + k → (a ++ b) ! i ≡ b ! k
 beyond a b i k q = rw q (get_or-append-add a b k 0)
@@ -69,22 +69,22 @@ length-bytes zero x = refl
 length-bytes (suc n) x =
     length-append (bytes n (x / 256)) (x % 256 ∷ []) ∙ omega (arith, length-bytes n (x / 256))
 
-bytes-at : (n x k j : ℕ) → k + j + 1 ≡ n → bytes n x ! k ≡ x / 2 ^ (8 * j) % 256
+bytes_at : (n x k j : ℕ) → k + j + 1 ≡ n → bytes n x ! k ≡ x / 2 ^ (8 * j) % 256
 unfolding bytes
-bytes-at zero x k j q = absurd (omega arith)
-bytes-at (suc n) x k zero q =
+bytes_at zero x k j q = absurd (omega arith)
+bytes_at (suc n) x k zero q =
     let d : x / 1 ≡ x = omega arith in
     rw d (beyond (bytes n (x / 256)) (x % 256 ∷ []) k 0 (omega (arith, length-bytes n (x / 256))))
-bytes-at (suc n) x k (suc j) q =
+bytes_at (suc n) x k (suc j) q =
     let e : 8 + 8 * j ≡ 8 * suc j = omega arith in
     get_or-append (bytes n (x / 256)) (x % 256 ∷ []) 0 k (omega (arith, length-bytes n (x / 256)))
-    ∙ bytes-at n (x / 256) k j (omega arith)
+    ∙ bytes_at n (x / 256) k j (omega arith)
     ∙ ap (λ (y : ℕ). y % 256) (shr-shr x 8 (8 * j) ∙ ap (λ (y : ℕ). x / 2 ^ y) e)
 
-pub joined_at : (h : List ℕ) (i : ℕ) → i < 4 * length h → joined h ! i ≡ h ! (i / 4) / 2 ^ (8 * (3 - i % 4)) % 256
+pub joined_at_lem : (h : List ℕ) (i : ℕ) → i < 4 * length h → joined h ! i ≡ h ! (i / 4) / 2 ^ (8 * (3 - i % 4)) % 256
 unfolding joined
-joined_at [] i g = absurd (omega arith)
-joined_at (x ∷ h) i g = go (dec_lt i 4) (joined_at h (i - 4))
+joined_at_lem [] i g = absurd (omega arith)
+joined_at_lem (x ∷ h) i g = go (dec_lt i 4) (joined_at_lem h (i - 4))
   where
     go : Dec (i < 4)
         → (i - 4 < 4 * length h → joined h ! (i - 4) ≡ h ! ((i - 4) / 4) / 2 ^ (8 * (3 - (i - 4) % 4)) % 256)
@@ -94,7 +94,7 @@ joined_at (x ∷ h) i g = go (dec_lt i 4) (joined_at h (i - 4))
         let b : i % 4 ≡ i = omega arith in
         rw (a, b)
         (get_or-append (bytes 4 x) (joined h) 0 i (omega (arith, length-bytes 4 x))
-        ∙ bytes-at 4 x i (3 - i) (omega arith))
+        ∙ bytes_at 4 x i (3 - i) (omega arith))
     go (no n) r =
         let a : i / 4 ≡ suc ((i - 4) / 4) = omega arith in
         let b : i % 4 ≡ (i - 4) % 4 = omega arith in
@@ -112,14 +112,14 @@ module _ (n : ℕ) where
   unfolding padding
   length-padding = simp (length-append, length-replicate, length-bytes) (omega arith)
 
-  padding-one : padding n ! 0 ≡ 0x80
+  padding_one : padding n ! 0 ≡ 0x80
   unfolding padding
-  padding-one = refl
+  padding_one = refl
 
-  padding-zero : (i : ℕ) → 0 < i → i + 8 < length (padding n) → padding n ! i ≡ 0
+  padding_zero : (i : ℕ) → 0 < i → i + 8 < length (padding n) → padding n ! i ≡ 0
   unfolding padding
-  padding-zero zero g h = absurd (omega arith)
-  padding-zero (suc i) g h =
+  padding_zero zero g h = absurd (omega arith)
+  padding_zero (suc i) g h =
       let z = (119 - n % 64) % 64 in
       let l : i < z = omega (arith, length-padding) in
       get_or-append (replicate z 0) _ 0 i (rw length-replicate l) ∙ get_or-replicate z i 0 0 l
@@ -132,24 +132,24 @@ module _ (n : ℕ) where
       let z = (119 - n % 64) % 64 in
       let e : i ≡ z + (7 - j) = omega (arith, length-padding) in
       beyond (replicate z 0) _ i (7 - j) (rw length-replicate e)
-      ∙ bytes-at 8 ((n * 8) % 2 ^ 64) (7 - j) j (omega arith)
+      ∙ bytes_at 8 ((n * 8) % 2 ^ 64) (7 - j) j (omega arith)
 
   -- it ends a block
   padding-whole : (a : ℕ) → n % 64 ≡ a % 64 → (a % 64 + length (padding n)) % 64 ≡ 0
   padding-whole a h = omega (arith, length-padding)
 
   -- the length counts modulo 2 ^ 64
-  padding-wraps : padding (n % 2 ^ 64) ≡ padding n
+  padding_wraps : padding (n % 2 ^ 64) ≡ padding n
   unfolding padding
-  padding-wraps =
+  padding_wraps =
       let a : n % 2 ^ 64 % 64 ≡ n % 64 = omega arith in
       let b : n % 2 ^ 64 * 8 % 2 ^ 64 ≡ n * 8 % 2 ^ 64 = omega arith in
       rw (a, b)
 
 -- what follows the whole blocks of s
-pub rest-law : (s b : List ℕ) (from n : ℕ) → length s ≡ from + n → ((j : ℕ) → j < n → b ! j ≡ s ! (from + j))
+pub rest_law : (s b : List ℕ) (from n : ℕ) → length s ≡ from + n → ((j : ℕ) → j < n → b ! j ≡ s ! (from + j))
     → ((j : ℕ) → n ≤ j → b ! j ≡ 0) → (j : ℕ) → b ! j ≡ s ! (from + j)
-rest-law s b from n q o z j = go (dec_lt j n)
+rest_law s b from n q o z j = go (dec_lt j n)
   where
     go : Dec (j < n) → b ! j ≡ s ! (from + j)
     go (yes y) = o j y
@@ -159,9 +159,9 @@ rest-law s b from n q o z j = go (dec_lt j n)
 
 -- and the padding behind it: all but the length stands once the one bit is stored
 module _ (s : List ℕ) (n e : ℕ) (ends : e ≡ length s % 64 + length (padding n)) where
-  pub last-start : (b : List ℕ) → length b ≡ 128 → ((j : ℕ) → b ! j ≡ s ! (length s / 64 * 64 + j))
+  pub last_start : (b : List ℕ) → length b ≡ 128 → ((j : ℕ) → b ! j ≡ s ! (length s / 64 * 64 + j))
       → (j : ℕ) → j < e - 8 → set b (length s % 64) 0x80 ! j ≡ (s ++ padding n) ! (length s / 64 * 64 + j)
-  last-start b l o j h = go (dec_lt j r) (dec_lt r j)
+  last_start b l o j h = go (dec_lt j r) (dec_lt r j)
     where
       r : ℕ
       r = length s % 64
@@ -176,12 +176,12 @@ module _ (s : List ℕ) (n e : ℕ) (ends : e ≡ length s % 64 + length (paddin
           get_or-set_other b r j 0x80 0 (λ q. omega arith)
           ∙ o j
           ∙ get_or-eq_default s 0 f
-          ∙ sym (beyond s (padding n) i (j - r) (omega arith) ∙ padding-zero n (j - r) (omega arith) (omega arith))
+          ∙ sym (beyond s (padding n) i (j - r) (omega arith) ∙ padding_zero n (j - r) (omega arith) (omega arith))
       go (no a) (no d) =
           let q : j ≡ r = omega arith in
           ap (λ (x : ℕ). set b r 0x80 ! x) q
           ∙ get_or-set_same b r 0x80 0 (omega arith)
-          ∙ sym (beyond s (padding n) i 0 (omega arith) ∙ padding-one n)
+          ∙ sym (beyond s (padding n) i 0 (omega arith) ∙ padding_one n)
 
   pub last-length : (j : ℕ) → e ≤ j + 8 → j < e
       → (s ++ padding n) ! (length s / 64 * 64 + j) ≡ (n * 8) % 2 ^ 64 / 2 ^ (8 * (e - 1 - j)) % 256
@@ -234,23 +234,23 @@ hash-append h b u n w =
     hash-more h (b ++ u) u q n (λ j l. beyond b u (64 * q + j) j (omega arith))
     ∙ ap (λ (g : List ℕ). hash g u n) (hash-same h (b ++ u) b q (λ j l. get_or-append b u 0 j (omega arith)))
 
-blocks-of : (a s e x : ℕ) → a % 64 ≡ 0 → e % 64 ≡ 0 → x ≡ a + (s / 64 * 64 + e) → x / 64 ≡ a / 64 + (s / 64 + e / 64)
-blocks-of a s e x h k q = omega arith
+blocks_of : (a s e x : ℕ) → a % 64 ≡ 0 → e % 64 ≡ 0 → x ≡ a + (s / 64 * 64 + e) → x / 64 ≡ a / 64 + (s / 64 + e / 64)
+blocks_of a s e x h k q = omega arith
 
 -- the digest of whole blocks b and then s, where the first e bytes of t are what follows the whole blocks of s, with the padding
-pub digest-law : (b s t : List ℕ) (n e : ℕ) → length b % 64 ≡ 0 → n ≡ (length b + length s) % 2 ^ 64
+pub digest_law : (b s t : List ℕ) (n e : ℕ) → length b % 64 ≡ 0 → n ≡ (length b + length s) % 2 ^ 64
     → e ≡ length s % 64 + length (padding n) → length t ≡ 128
     → ((j : ℕ) → j < e → t ! j ≡ (s ++ padding n) ! (length s / 64 * 64 + j))
     → joined (hash (hash (hash H₀ b (length b / 64)) s (length s / 64)) (take e t) (length (take e t) / 64)) ≡ sha256 (b ++ s)
 unfolding sha256 padded
-digest-law b s t n e w m p l o =
+digest_law b s t n e w m p l o =
     let q = length s / 64 in
     let u = s ++ padding n in
     let f : e ≤ length t = omega (arith, length-padding n) in
-    let g : padding (length (b ++ s)) ≡ padding n = rw (length-append b s, m) (sym (padding-wraps (length b + length s))) in
+    let g : padding (length (b ++ s)) ≡ padding n = rw (length-append b s, m) (sym (padding_wraps (length b + length s))) in
     let k : e % 64 ≡ 0 = rw p (padding-whole n (length s) (omega arith)) in
     let c : length (b ++ u) / 64 ≡ length b / 64 + (q + e / 64) =
-    blocks-of (length b) (length s) e (length (b ++ u)) w k (omega (arith, length-append b u, length-append s (padding n))) in
+    blocks_of (length b) (length s) e (length (b ++ u)) w k (omega (arith, length-append b u, length-append s (padding n))) in
     ap joined
     (rw (g, append_assoc b s (padding n), c, length-take-le e t f)
     (sym (hash-append H₀ b u (q + e / 64) w

@@ -18,11 +18,11 @@ number TooLong = 6
 number TooFew = 9
 
 -- a split, whole or of one piece, gives the length of a piece
-abbrev pub splitOutcome : SplitAnswer → Outcome
-splitOutcome (SplitAnswer.Pieces len) = gives len
-splitOutcome (SplitAnswer.Refused r) = refuses (number r)
+abbrev pub split_outcome : SplitAnswer → Outcome
+split_outcome (SplitAnswer.Pieces len) = gives len
+split_outcome (SplitAnswer.Refused r) = refuses (number r)
 
 -- a join gives the length of the page
-abbrev pub joinOutcome : JoinAnswer → Outcome
-joinOutcome (JoinAnswer.Page len) = gives len
-joinOutcome (JoinAnswer.Refused r) = refuses (number r)
+abbrev pub join_outcome : JoinAnswer → Outcome
+join_outcome (JoinAnswer.Page len) = gives len
+join_outcome (JoinAnswer.Refused r) = refuses (number r)

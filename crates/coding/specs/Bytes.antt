@@ -11,8 +11,8 @@ tabulate zero f = []
 tabulate (suc n) f = tabulate n f ++ (f n ∷ [])
 
 -- a number in 4 bytes, high byte first, and back
-abbrev pub fourBytes : ℕ → List ℕ
-fourBytes n = n / 256 / 256 / 256 % 256 ∷ n / 256 / 256 % 256 ∷ n / 256 % 256 ∷ n % 256 ∷ []
+abbrev pub four_bytes : ℕ → List ℕ
+four_bytes n = n / 256 / 256 / 256 % 256 ∷ n / 256 / 256 % 256 ∷ n / 256 % 256 ∷ n % 256 ∷ []
 
-abbrev pub fromFour : List ℕ → ℕ
-fromFour s = ((get_or s 0 0 * 256 + get_or s 1 0) * 256 + get_or s 2 0) * 256 + get_or s 3 0
+abbrev pub from_four : List ℕ → ℕ
+from_four s = ((get_or s 0 0 * 256 + get_or s 1 0) * 256 + get_or s 2 0) * 256 + get_or s 3 0

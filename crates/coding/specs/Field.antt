@@ -7,19 +7,19 @@ abbrev pub ◌⊕◌ : ℕ → ℕ → ℕ
 a ⊕ b = bit_xor a b
 
 -- the product of two polynomials: the sum of b times x^i over the lowest n bits i of a
-unfoldable pub polyProduct : ℕ → ℕ → ℕ → ℕ
-polyProduct zero a b = 0
-polyProduct (suc n) a b = polyProduct n a b ⊕ a / 2 ^ n % 2 * (b * 2 ^ n)
+unfoldable pub poly_product : ℕ → ℕ → ℕ → ℕ
+poly_product zero a b = 0
+poly_product (suc n) a b = poly_product n a b ⊕ a / 2 ^ n % 2 * (b * 2 ^ n)
 
 -- the remainder by hex 11D of a polynomial of degree below 8 + n: its leading terms are cancelled, the highest first
-unfoldable pub polyRemainder : ℕ → ℕ → ℕ
-polyRemainder zero p = p
-polyRemainder (suc n) p = polyRemainder n (p ⊕ p / 2 ^ (8 + n) % 2 * (0x11D * 2 ^ n))
+unfoldable pub poly_remainder : ℕ → ℕ → ℕ
+poly_remainder zero p = p
+poly_remainder (suc n) p = poly_remainder n (p ⊕ p / 2 ^ (8 + n) % 2 * (0x11D * 2 ^ n))
 
 -- the product of two elements; of a number that is no byte the lowest 8 bits count
 unfoldable pub product : ℕ → ℕ → ℕ
-unfolding polyProduct polyRemainder
-product a b = polyRemainder 7 (polyProduct 8 a (b % 256))
+unfolding poly_product poly_remainder
+product a b = poly_remainder 7 (poly_product 8 a (b % 256))
 
 unfoldable pub power : ℕ → ℕ → ℕ
 power a zero = 1

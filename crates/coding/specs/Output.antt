@@ -20,8 +20,8 @@ abbrev pub Within : ℕ → ℕ → ℕ → List ℕ → Type 0
 Within room k F nodes = (s : ℕ) → s < k → (1 ≤ slice_index nodes s) × (slice_index nodes s ≤ 16) × (slice_index nodes s * F ≤ room)
 
 -- byte j of the piece of node i
-abbrev pub byteIn : ℕ → List ℕ → ℕ → ℕ → ℕ
-byteIn F room j i = slice_index room ((i - 1) * F + j)
+abbrev pub byte_in : ℕ → List ℕ → ℕ → ℕ → ℕ
+byte_in F room j i = slice_index room ((i - 1) * F + j)
 
 -- the right half of the row weighs the nodes' values to coefficient r
 abbrev pub Weighs : ℕ → List ℕ → ℕ → List ℕ → Type 0

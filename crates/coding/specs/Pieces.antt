@@ -1,7 +1,7 @@
 -- Pieces: how a page is framed and cut.
 use Rattle.std.specs.Prelude.{ℕ, ◌+◌, ◌-◌, ◌*◌, ◌/◌, Bool, ◌&&◌, List, ◌++◌, length, replicate, nat_le, slice_index}
 use Rattle.coding.specs.Field.{product, power, sum}
-use Rattle.coding.specs.Bytes.{tabulate, fourBytes}
+use Rattle.coding.specs.Bytes.{tabulate, four_bytes}
 
 -- the measures of splitting and joining: n nodes, k pieces make the page, a piece has at most F bytes
 unfoldable pub proper : ℕ → ℕ → ℕ → Bool
@@ -13,12 +13,12 @@ columns k n = (4 + n + (k - 1)) / k
 
 -- Frame: page length in 4 bytes, the page, then fewest zero bytes up to a multiple of k
 unfoldable pub frame : ℕ → List ℕ → List ℕ
-frame k page = fourBytes (length page) ++ (page ++ replicate (columns k (length page) * k - (4 + length page)) 0)
+frame k page = four_bytes (length page) ++ (page ++ replicate (columns k (length page) * k - (4 + length page)) 0)
 
 -- byte j of piece i: the sum over r from 0 to k − 1 of frame byte (jk + r) times i to the power r
-unfoldable pub pieceByte : ℕ → List ℕ → ℕ → ℕ → ℕ
-pieceByte k f i j = sum k (λ r. product (slice_index f (j * k + r)) (power i r))
+unfoldable pub piece_byte : ℕ → List ℕ → ℕ → ℕ → ℕ
+piece_byte k f i j = sum k (λ r. product (slice_index f (j * k + r)) (power i r))
 
 -- piece i of a page
 unfoldable pub piece : ℕ → List ℕ → ℕ → List ℕ
-piece k page i = tabulate (columns k (length page)) (pieceByte k (frame k page) i)
+piece k page i = tabulate (columns k (length page)) (piece_byte k (frame k page) i)

@@ -17,9 +17,9 @@ times c [] = []
 times c (a ∷ p) = product c a ∷ times c p
 
 -- the product of X + x over the points x: its roots are the points
-unfoldable pub rootsAt : List ℕ → List ℕ
-rootsAt [] = 1 ∷ []
-rootsAt (x ∷ xs) = plus (0 ∷ rootsAt xs) (times x (rootsAt xs))
+unfoldable pub roots_at : List ℕ → List ℕ
+roots_at [] = 1 ∷ []
+roots_at (x ∷ xs) = plus (0 ∷ roots_at xs) (times x (roots_at xs))
 
 -- Newton's interpolation: where no point stands twice, the polynomial with as many coefficients as there are points that has the
 -- value f x at each point x
@@ -27,4 +27,4 @@ unfoldable pub interpolate : List ℕ → (ℕ → ℕ) → List ℕ
 interpolate [] f = []
 interpolate (x ∷ xs) f =
     plus (interpolate xs f)
-    (times (product (f x ⊕ value (interpolate xs f) x) (inverse (value (rootsAt xs) x))) (rootsAt xs))
+    (times (product (f x ⊕ value (interpolate xs f) x) (inverse (value (roots_at xs) x))) (roots_at xs))

@@ -1,10 +1,10 @@
--- The two tables by which elements are multiplied. `TableLaws`: `table-rule` has their rule: each entry of the first is twice the
+-- The two tables by which elements are multiplied. `TableLaws`: `table_rule` has their rule: each entry of the first is twice the
 -- last modulo hex 11D, and the second inverts it.
 use Rattle.std.specs.Prelude.{ℕ, List, [], ◌∷◌}
 
 -- the powers of 2: entry i is 2 to the power i
-unfoldable pub expTable : List ℕ
-expTable =
+unfoldable pub exp_table : List ℕ
+exp_table =
     1 ∷ 2 ∷ 4 ∷ 8 ∷ 16 ∷ 32 ∷ 64 ∷ 128 ∷ 29 ∷ 58 ∷ 116 ∷ 232 ∷ 205 ∷ 135 ∷ 19 ∷ 38 ∷
     76 ∷ 152 ∷ 45 ∷ 90 ∷ 180 ∷ 117 ∷ 234 ∷ 201 ∷ 143 ∷ 3 ∷ 6 ∷ 12 ∷ 24 ∷ 48 ∷ 96 ∷ 192 ∷
     157 ∷ 39 ∷ 78 ∷ 156 ∷ 37 ∷ 74 ∷ 148 ∷ 53 ∷ 106 ∷ 212 ∷ 181 ∷ 119 ∷ 238 ∷ 193 ∷ 159 ∷ 35 ∷
@@ -23,8 +23,8 @@ expTable =
     44 ∷ 88 ∷ 176 ∷ 125 ∷ 250 ∷ 233 ∷ 207 ∷ 131 ∷ 27 ∷ 54 ∷ 108 ∷ 216 ∷ 173 ∷ 71 ∷ 142 ∷ []
 
 -- the logarithms to the base 2: entry a, other than 0, is the i below 255 with a the power i of 2
-unfoldable pub logTable : List ℕ
-logTable =
+unfoldable pub log_table : List ℕ
+log_table =
     0 ∷ 0 ∷ 1 ∷ 25 ∷ 2 ∷ 50 ∷ 26 ∷ 198 ∷ 3 ∷ 223 ∷ 51 ∷ 238 ∷ 27 ∷ 104 ∷ 199 ∷ 75 ∷
     4 ∷ 100 ∷ 224 ∷ 14 ∷ 52 ∷ 141 ∷ 239 ∷ 129 ∷ 28 ∷ 193 ∷ 105 ∷ 248 ∷ 200 ∷ 8 ∷ 76 ∷ 113 ∷
     5 ∷ 138 ∷ 101 ∷ 47 ∷ 225 ∷ 36 ∷ 15 ∷ 33 ∷ 53 ∷ 147 ∷ 142 ∷ 218 ∷ 240 ∷ 18 ∷ 130 ∷ 69 ∷

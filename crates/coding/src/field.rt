@@ -2,9 +2,9 @@
 // multiplies takes a copy once and lends it.
 ghost use Rattle.std.specs.Prelude.{◌≡◌, ◌<◌, ◌≢◌, slice_index};
 ghost use Rattle.coding.specs.Field.{product, power, inverse};
-ghost use Rattle.coding.specs.Tables.{expTable, logTable};
+ghost use Rattle.coding.specs.Tables.{exp_table, log_table};
 
-// Each entry is twice the last modulo hex 11D, and LOG inverts it: `TableLaws`: `table-rule`.
+// Each entry is twice the last modulo hex 11D, and LOG inverts it: `TableLaws`: `table_rule`.
 const EXP: [u8; 255] = [
     1, 2, 4, 8, 16, 32, 64, 128, 29, 58, 116, 232, 205, 135, 19, 38, 76, 152, 45, 90, 180, 117,
     234, 201, 143, 3, 6, 12, 24, 48, 96, 192, 157, 39, 78, 156, 37, 74, 148, 53, 106, 212, 181,
@@ -39,34 +39,34 @@ const LOG: [u8; 256] = [
 ];
 
 pub fn exp_table() -> [u8; 255]
-    ensures { result ≡ expTable }
+    ensures { result ≡ exp_table }
 {
     EXP
 }
 
 pub fn log_table() -> [u8; 256]
-    ensures { result ≡ logTable }
+    ensures { result ≡ log_table }
 {
     LOG
 }
 
 // The logarithm of an element other than 0; that of 0 says nothing.
 fn log_of(a: u8, log: &[u8; 256]) -> usize
-    requires { log.now ≡ logTable }
-    ensures { (result ≡ slice_index logTable a) × (result < 255) }
+    requires { log.now ≡ log_table }
+    ensures { (result ≡ slice_index log_table a) × (result < 255) }
 {
     log[a as usize] as usize
 }
 
 fn power_of_two(i: usize, exp: &[u8; 255]) -> u8
-    requires { exp.now ≡ expTable }
+    requires { exp.now ≡ exp_table }
     ensures { result ≡ power 2 i }
 {
     exp[i % 255]
 }
 
 pub fn mul(a: u8, b: u8, exp: &[u8; 255], log: &[u8; 256]) -> u8
-    requires { (exp.now ≡ expTable) × (log.now ≡ logTable) }
+    requires { (exp.now ≡ exp_table) × (log.now ≡ log_table) }
     ensures { result ≡ product a b }
 {
     if a == 0 {
@@ -79,7 +79,7 @@ pub fn mul(a: u8, b: u8, exp: &[u8; 255], log: &[u8; 256]) -> u8
 }
 
 pub fn inv(a: u8, exp: &[u8; 255], log: &[u8; 256]) -> u8
-    requires { (a ≢ 0) × (exp.now ≡ expTable) × (log.now ≡ logTable) }
+    requires { (a ≢ 0) × (exp.now ≡ exp_table) × (log.now ≡ log_table) }
     ensures { result ≡ inverse a }
 {
     power_of_two(255 - log_of(a, log), exp)

@@ -1,10 +1,10 @@
 // The frame as a function of a byte's position: length bytes, page bytes and zeros come from their sources.
 ghost use Rattle.std.specs.Prelude.{◌≡◌, ℕ, ◌+◌, ◌-◌, ◌*◌, ◌^◌, ◌<◌, ◌≤◌, length, slice_index};
-ghost use Rattle.coding.specs.Frame.{frameByte};
+ghost use Rattle.coding.specs.Frame.{frame_byte};
 
 // Byte p of the frame; past the page it is 0.
 pub fn frame_byte(page: &[u8], p: usize) -> u8
-    ensures { result ≡ frameByte page.now p }
+    ensures { result ≡ frame_byte page.now p }
 {
     let n = page.len();
     match p {
@@ -39,7 +39,7 @@ fn gather_inside(page: &[u8], from: usize, k: usize) -> [u8; 16]
 // m bytes of the frame, k apart, where some are length bytes or zeros.
 fn gather_edge(page: &[u8], from: usize, k: usize, m: usize) -> [u8; 16]
     requires { (from + 16 * k < 2 ^ 32) × (k ≤ 16) × (m ≤ 16) }
-    ensures { (l : ℕ) → l < m → slice_index result l ≡ frameByte page.now (from + l * k) }
+    ensures { (l : ℕ) → l < m → slice_index result l ≡ frame_byte page.now (from + l * k) }
 {
     let mut v = [0u8; 16];
     let mut at = from;
@@ -54,7 +54,7 @@ fn gather_edge(page: &[u8], from: usize, k: usize, m: usize) -> [u8; 16]
 // they are used: right for one piece.
 pub fn gather(page: &[u8], from: usize, k: usize, m: usize) -> [u8; 16]
     requires { (from + 16 * k < 2 ^ 32) × (k ≤ 16) × (m ≤ 16) }
-    ensures { (l : ℕ) → l < m → slice_index result l ≡ frameByte page.now (from + l * k) }
+    ensures { (l : ℕ) → l < m → slice_index result l ≡ frame_byte page.now (from + l * k) }
 {
     if 4 <= from {
         if from - 4 + 15 * k < page.len() {
@@ -68,7 +68,7 @@ pub fn gather(page: &[u8], from: usize, k: usize, m: usize) -> [u8; 16]
 // for several pieces, of which each takes the row.
 pub fn gather_whole(page: &[u8], from: usize, k: usize) -> [u8; 16]
     requires { (from + 16 * k < 2 ^ 32) × (k ≤ 16) }
-    ensures { (l : ℕ) → l < 16 → slice_index result l ≡ frameByte page.now (from + l * k) }
+    ensures { (l : ℕ) → l < 16 → slice_index result l ≡ frame_byte page.now (from + l * k) }
 {
     gather(page, from, k, 16)
 }

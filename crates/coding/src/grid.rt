@@ -1,14 +1,14 @@
 // The grid of the powers of some points, reduced to the identity beside its inverse.
 ghost use Rattle.std.specs.Prelude.{◌≡◌, ℕ, ◌<◌, ◌≤◌, [], take, ◌≢◌, slice_index, slice_index_or};
 ghost use Rattle.coding.specs.Field.{◌⊕◌, product};
-ghost use Rattle.coding.specs.Tables.{expTable, logTable};
+ghost use Rattle.coding.specs.Tables.{exp_table, log_table};
 ghost use Rattle.coding.specs.Grid.{Distinct, entry, Powers, Scaled, Added, Cleared, Reduced, Inverts};
 
 use super::field::{exp_table, inv, log_table, mul};
 
 // The powers of `x` beside row `s` of the identity.
 fn powers(x: u8, s: usize, k: usize, exp: &[u8; 255], log: &[u8; 256]) -> [u8; 32]
-    requires { (s < 16) × (k ≤ 16) × (exp.now ≡ expTable) × (log.now ≡ logTable) }
+    requires { (s < 16) × (k ≤ 16) × (exp.now ≡ exp_table) × (log.now ≡ log_table) }
     ensures { Powers k x s result }
 {
     let mut row = [0u8; 32];
@@ -25,7 +25,7 @@ fn powers(x: u8, s: usize, k: usize, exp: &[u8; 255], log: &[u8; 256]) -> [u8; 3
 
 // Row `s` is of node `s`.
 fn build(nodes: [u8; 16], k: usize, exp: &[u8; 255], log: &[u8; 256]) -> [[u8; 32]; 16]
-    requires { (k ≤ 16) × (exp.now ≡ expTable) × (log.now ≡ logTable) }
+    requires { (k ≤ 16) × (exp.now ≡ exp_table) × (log.now ≡ log_table) }
     ensures { (s : ℕ) → s < k → Powers k (slice_index nodes s) s (slice_index_or result s []) }
 {
     let mut m = [[0u8; 32]; 16];
@@ -40,7 +40,7 @@ fn build(nodes: [u8; 16], k: usize, exp: &[u8; 255], log: &[u8; 256]) -> [[u8; 3
 
 // The sum of `a` and `f` times `b`.
 fn added(a: u8, f: u8, b: u8, exp: &[u8; 255], log: &[u8; 256]) -> u8
-    requires { (exp.now ≡ expTable) × (log.now ≡ logTable) }
+    requires { (exp.now ≡ exp_table) × (log.now ≡ log_table) }
     ensures { result ≡ a ⊕ product f b }
 {
     a ^ mul(f, b, exp, log)
@@ -55,7 +55,7 @@ fn add_row(
     exp: &[u8; 255],
     log: &[u8; 256],
 ) -> [u8; 32]
-    requires { (k ≤ 16) × (exp.now ≡ expTable) × (log.now ≡ logTable) }
+    requires { (k ≤ 16) × (exp.now ≡ exp_table) × (log.now ≡ log_table) }
     ensures { Added k f row other result }
 {
     let mut out = row;
@@ -71,7 +71,7 @@ fn add_row(
 }
 
 fn scale(row: [u8; 32], f: u8, k: usize, exp: &[u8; 255], log: &[u8; 256]) -> [u8; 32]
-    requires { (k ≤ 16) × (exp.now ≡ expTable) × (log.now ≡ logTable) }
+    requires { (k ≤ 16) × (exp.now ≡ exp_table) × (log.now ≡ log_table) }
     ensures { Scaled k f row result }
 {
     add_row([0u8; 32], f, row, k, exp, log)
@@ -87,7 +87,7 @@ fn clear(
     exp: &[u8; 255],
     log: &[u8; 256],
 ) -> [u8; 32]
-    requires { (c < 16) × (k ≤ 16) × (exp.now ≡ expTable) × (log.now ≡ logTable) }
+    requires { (c < 16) × (k ≤ 16) × (exp.now ≡ exp_table) × (log.now ≡ log_table) }
     ensures { Cleared k c r pivot row result }
 {
     if r == c {
@@ -104,7 +104,7 @@ fn clear_rows(
     exp: &[u8; 255],
     log: &[u8; 256],
 ) -> [[u8; 32]; 16]
-    requires { (c < 16) × (k ≤ 16) × (exp.now ≡ expTable) × (log.now ≡ logTable) }
+    requires { (c < 16) × (k ≤ 16) × (exp.now ≡ exp_table) × (log.now ≡ log_table) }
     ensures { (r : ℕ) → r < k → Cleared k c r pivot (slice_index_or m r []) (slice_index_or result r []) }
 {
     let mut out = m;
@@ -119,7 +119,7 @@ fn clear_rows(
 
 // Column `c` becomes the identity's.
 fn reduce(m: [[u8; 32]; 16], c: usize, k: usize, exp: &[u8; 255], log: &[u8; 256]) -> [[u8; 32]; 16]
-    requires { (c < k) × (k ≤ 16) × (entry m c c ≢ 0) × (exp.now ≡ expTable) × (log.now ≡ logTable) }
+    requires { (c < k) × (k ≤ 16) × (entry m c c ≢ 0) × (exp.now ≡ exp_table) × (log.now ≡ log_table) }
     ensures { Reduced k c m result }
 {
     let f = inv(m[c][c], exp, log);

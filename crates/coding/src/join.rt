@@ -2,12 +2,12 @@
 ghost use Rattle.std.specs.Prelude.{◌≡◌, ℕ, ◌+◌, ◌-◌, ◌*◌, ◌^◌, ◌<◌, ◌≤◌, true, length, take, drop, nat_eq, slice_index};
 ghost use Rattle.coding.specs.Field.{product, sum};
 ghost use Rattle.coding.specs.Grid.{Inverts, Distinct};
-ghost use Rattle.coding.specs.Bytes.{fromFour};
-ghost use Rattle.coding.specs.Output.{Placed, Stride, Within, Weighs, byteIn};
+ghost use Rattle.coding.specs.Bytes.{from_four};
+ghost use Rattle.coding.specs.Output.{Placed, Stride, Within, Weighs, byte_in};
 ghost use Rattle.coding.specs.Pieces.{proper};
-ghost use Rattle.coding.specs.Answer.{joinOutcome};
+ghost use Rattle.coding.specs.Answer.{join_outcome};
 ghost use Rattle.coding.specs.Nodes.{all};
-ghost use Rattle.coding.specs.Join.{joined, page_of, pageEnd, Joins, join as joinEnd};
+ghost use Rattle.coding.specs.Join.{joined, page_of, page_end, Joins, join as joinEnd};
 
 use crate::answer::{JoinAnswer, Refusal};
 use crate::areas::{block, load_part, load_whole};
@@ -28,7 +28,7 @@ fn weigh_whole(
     room: &[u8],
 ) -> [u8; 16]
     requires { (k ≤ 16) × (f ≤ 4096) × (j + 16 ≤ f) × Within (length room.now) k f nodes }
-    ensures { (l : ℕ) → l < 16 → slice_index result l ≡ sum k (λ s. product (byteIn f room.now (j + l) (slice_index nodes s)) (slice_index row (16 + s))) }
+    ensures { (l : ℕ) → l < 16 → slice_index result l ≡ sum k (λ s. product (byte_in f room.now (j + l) (slice_index nodes s)) (slice_index row (16 + s))) }
 {
     let mut sums = [[0u8; 16]; 8];
     for s in 0..k {
@@ -49,7 +49,7 @@ fn weigh_part(
     room: &[u8],
 ) -> [u8; 16]
     requires { (k ≤ 16) × (f ≤ 4096) × (m ≤ 16) × (j + m ≤ f) × Within (length room.now) k f nodes }
-    ensures { (l : ℕ) → l < m → slice_index result l ≡ sum k (λ s. product (byteIn f room.now (j + l) (slice_index nodes s)) (slice_index row (16 + s))) }
+    ensures { (l : ℕ) → l < m → slice_index result l ≡ sum k (λ s. product (byte_in f room.now (j + l) (slice_index nodes s)) (slice_index row (16 + s))) }
 {
     let mut sums = [0u8; 16];
     for s in 0..k {
@@ -70,7 +70,7 @@ fn weigh(
     room: &[u8],
 ) -> [u8; 16]
     requires { (k ≤ 16) × (f ≤ 4096) × (m ≤ 16) × (j + m ≤ f) × Within (length room.now) k f nodes }
-    ensures { (l : ℕ) → l < m → slice_index result l ≡ sum k (λ s. product (byteIn f room.now (j + l) (slice_index nodes s)) (slice_index row (16 + s))) }
+    ensures { (l : ℕ) → l < m → slice_index result l ≡ sum k (λ s. product (byte_in f room.now (j + l) (slice_index nodes s)) (slice_index row (16 + s))) }
 {
     if m == 16 {
         weigh_whole(row, nodes, k, f, j, room)
@@ -148,7 +148,7 @@ fn joined_length(
     room: &[u8],
 ) -> usize
     requires { (1 ≤ k) × (k ≤ 16) × (f ≤ 4096) × (columns ≤ f) × (4 ≤ columns * k) × Within (length room.now) k f nodes × Inverts k nodes grid }
-    ensures { result ≡ fromFour (joined f room.now (take k nodes) columns) }
+    ensures { result ≡ from_four (joined f room.now (take k nodes) columns) }
 {
     let a = joined_byte(grid, nodes, k, f, columns, 0, room);
     let b = joined_byte(grid, nodes, k, f, columns, 1, room);
@@ -197,8 +197,8 @@ fn join_columns(
     out: &mut [u8],
 ) -> JoinAnswer
     requires { (1 ≤ k) × (k ≤ 16) × (f ≤ 4096) × (columns ≤ f) × (k * f - 4 ≤ length out.old) × Within (length room.now) k f nodes × Distinct (take k nodes) }
-    ensures { (joinOutcome result ≡ (pageEnd (page_of k (joined f room.now (take k nodes) columns)) out.old).outcome)
-        × (out.new ≡ (pageEnd (page_of k (joined f room.now (take k nodes) columns)) out.old).out) }
+    ensures { (join_outcome result ≡ (page_end (page_of k (joined f room.now (take k nodes) columns)) out.old).outcome)
+        × (out.new ≡ (page_end (page_of k (joined f room.now (take k nodes) columns)) out.old).out) }
 {
     let size = columns * k;
     if size < 4 {
@@ -230,7 +230,7 @@ fn join_present(
     out: &mut [u8],
 ) -> JoinAnswer
     requires { (proper n k f ≡ true) × (n * f ≤ length room.now) × (n ≤ length lens.now) × (k * f - 4 ≤ length out.old) × (present < 2 ^ n) }
-    ensures { (joinOutcome result ≡ (joinEnd n k f present room.now lens.now out.old).outcome)
+    ensures { (join_outcome result ≡ (joinEnd n k f present room.now lens.now out.old).outcome)
         × (out.new ≡ (joinEnd n k f present room.now lens.now out.old).out) }
 {
     let nodes = named(present, n);
@@ -256,9 +256,9 @@ pub fn join(
     lens: &[u16],
     out: &mut [u8],
 ) -> JoinAnswer
-    ensures { (joinOutcome result ≡ (joinEnd n k f present room.now lens.now out.old).outcome)
+    ensures { (join_outcome result ≡ (joinEnd n k f present room.now lens.now out.old).outcome)
         × (out.new ≡ (joinEnd n k f present room.now lens.now out.old).out)
-        × Joins n k f present room.now lens.now out.old (joinOutcome result) out.new }
+        × Joins n k f present room.now lens.now out.old (join_outcome result) out.new }
 {
     if !proper_measures(n, k, f) {
         return JoinAnswer::Refused(Refusal::Measures);

@@ -1,7 +1,7 @@
 // The digest of a placed piece. Its version and its node stand before the front of the piece in a first block; the other blocks are
 // read from the piece where it lies.
 ghost use Rattle.std.specs.Prelude.{◌≡◌, ℕ, ◌<◌};
-ghost use Rattle.coding.specs.Placed.{digestInput, pieceDigest};
+ghost use Rattle.coding.specs.Placed.{digest_input, piece_digest};
 ghost use Rattle.coding.specs.Sha256.{◌!◌};
 
 use crate::sha256::{digest, digest_after};
@@ -17,7 +17,7 @@ const FRONT: usize = BLOCK - PLACE;
 
 // Byte j of what is digested, and 0 past it.
 fn placed_byte(version: [u8; 5], node: u8, piece: &[u8], j: usize) -> u8
-    ensures { result ≡ digestInput version node piece.now ! j }
+    ensures { result ≡ digest_input version node piece.now ! j }
 {
     if j < VERSION {
         return version[j];
@@ -32,7 +32,7 @@ fn placed_byte(version: [u8; 5], node: u8, piece: &[u8], j: usize) -> u8
 }
 
 fn first_block(version: [u8; 5], node: u8, piece: &[u8]) -> [u8; 64]
-    ensures { (j : ℕ) → j < 64 → result ! j ≡ digestInput version node piece.now ! j }
+    ensures { (j : ℕ) → j < 64 → result ! j ≡ digest_input version node piece.now ! j }
 {
     let mut b = [0u8; 64];
     let mut j = 0;
@@ -44,7 +44,7 @@ fn first_block(version: [u8; 5], node: u8, piece: &[u8]) -> [u8; 64]
 }
 
 pub fn digest_placed(version: [u8; 5], node: u8, piece: &[u8]) -> [u8; 32]
-    ensures { result ≡ pieceDigest version node piece.now }
+    ensures { result ≡ piece_digest version node piece.now }
 {
     let b = first_block(version, node, piece);
     if piece.len() < FRONT {

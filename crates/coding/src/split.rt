@@ -4,9 +4,9 @@ ghost use Rattle.std.specs.Prelude.{◌≡◌, ℕ, ◌+◌, ◌*◌, ◌<◌, �
 ghost use Rattle.std.proofs.Math.Seq.{paste};
 ghost use Rattle.coding.specs.Field.{◌⊕◌, product};
 ghost use Rattle.coding.specs.Bytes.{tabulate};
-ghost use Rattle.coding.specs.Pieces.{pieceByte, frame};
+ghost use Rattle.coding.specs.Pieces.{piece_byte, frame};
 ghost use Rattle.coding.specs.Areas.{Columns};
-ghost use Rattle.coding.specs.Answer.{splitOutcome};
+ghost use Rattle.coding.specs.Answer.{split_outcome};
 ghost use Rattle.coding.specs.Split.{split as splitEnd, cut as cutEnd};
 
 use crate::answer::{Refusal, SplitAnswer};
@@ -85,7 +85,7 @@ fn write_block(
     room: &mut [u8],
 )
     requires { (j + m ≤ f) × (m ≤ 16) × (first + n ≤ 16) × (f ≤ 4096) × (n * f ≤ length room.old) × (1 ≤ k) × (k ≤ 16) }
-    ensures { Columns n f j m (λ i l. pieceByte k (frame k page.now) (first + i + 1) (j + l))
+    ensures { Columns n f j m (λ i l. piece_byte k (frame k page.now) (first + i + 1) (j + l))
         room.old room.new }
 {
     let mut r = k - 1;
@@ -107,7 +107,7 @@ fn write_pieces(
     room: &mut [u8],
 )
     requires { (len ≤ f) × (first + n ≤ 16) × (f ≤ 4096) × (n * f ≤ length room.old) × (1 ≤ k) × (k ≤ 16) }
-    ensures { Columns n f 0 len (λ i l. pieceByte k (frame k page.now) (first + i + 1) l)
+    ensures { Columns n f 0 len (λ i l. piece_byte k (frame k page.now) (first + i + 1) l)
         room.old room.new }
 {
     let mut j = 0;
@@ -121,7 +121,7 @@ fn write_pieces(
 // Areas that lie a power of two apart share few places of a cache: eight at a time have room there.
 fn write_areas(n: usize, k: usize, f: usize, len: usize, page: &[u8], room: &mut [u8])
     requires { (len ≤ f) × (n ≤ 16) × (f ≤ 4096) × (n * f ≤ length room.old) × (1 ≤ k) × (k ≤ 16) }
-    ensures { Columns n f 0 len (λ i l. pieceByte k (frame k page.now) (i + 1) l)
+    ensures { Columns n f 0 len (λ i l. piece_byte k (frame k page.now) (i + 1) l)
         room.old room.new }
 {
     if n <= 8 {
@@ -136,7 +136,7 @@ fn write_areas(n: usize, k: usize, f: usize, len: usize, page: &[u8], room: &mut
 // The m columns from j on of the piece at the point x: row after row, the highest first.
 fn cut_block(x: u8, k: usize, j: usize, m: usize, page: &[u8]) -> [u8; 16]
     requires { (j ≤ 4096) × (m ≤ 16) × (k ≤ 16) }
-    ensures { (l : ℕ) → l < m → slice_index result l ≡ pieceByte k (frame k page.now) x (j + l) }
+    ensures { (l : ℕ) → l < m → slice_index result l ≡ piece_byte k (frame k page.now) x (j + l) }
 {
     let mut r = k;
     let mut sums = [0u8; 16];
@@ -151,7 +151,7 @@ fn cut_block(x: u8, k: usize, j: usize, m: usize, page: &[u8]) -> [u8; 16]
 // The piece at the point x, 16 columns at a time. Its sums stay in a register until they are whole.
 fn cut_piece(x: u8, k: usize, len: usize, page: &[u8], room: &mut [u8])
     requires { (len ≤ 4096) × (len ≤ length room.old) × (k ≤ 16) }
-    ensures { room.new ≡ paste room.old 0 (tabulate len (pieceByte k (frame k page.now) x)) len }
+    ensures { room.new ≡ paste room.old 0 (tabulate len (piece_byte k (frame k page.now) x)) len }
 {
     let mut j = 0;
     while j < len {
@@ -163,7 +163,7 @@ fn cut_piece(x: u8, k: usize, len: usize, page: &[u8], room: &mut [u8])
 
 // Splits a page into n pieces, any k of which make it. The room is n areas of f bytes, of which each takes one piece.
 pub fn split(n: usize, k: usize, f: usize, page: &[u8], room: &mut [u8]) -> SplitAnswer
-    ensures { (splitOutcome result ≡ (splitEnd n k f page.now room.old).outcome)
+    ensures { (split_outcome result ≡ (splitEnd n k f page.now room.old).outcome)
         × (room.new ≡ (splitEnd n k f page.now room.old).room) }
 {
     if !proper_measures(n, k, f) {
@@ -182,7 +182,7 @@ pub fn split(n: usize, k: usize, f: usize, page: &[u8], room: &mut [u8]) -> Spli
 
 // Node i's piece alone, the same as in the whole split, at the front of a room of f bytes.
 pub fn cut(n: usize, k: usize, f: usize, i: usize, page: &[u8], room: &mut [u8]) -> SplitAnswer
-    ensures { (splitOutcome result ≡ (cutEnd n k f i page.now room.old).outcome)
+    ensures { (split_outcome result ≡ (cutEnd n k f i page.now room.old).outcome)
         × (room.new ≡ (cutEnd n k f i page.now room.old).room) }
 {
     if !proper_measures(n, k, f) {

@@ -3,7 +3,7 @@ use Rattle.std.specs.Prelude.{List, cond, ℕ, length, take, ltb}
 use Rattle.std.proofs.Math.Seq.{paste}
 use Rattle.coding.specs.Answer.{Outcome, gives, refuses}
 use Rattle.coding.specs.Sha256.{sha256}
-use Rattle.coding.specs.Placed.{pieceDigest}
+use Rattle.coding.specs.Placed.{piece_digest}
 
 pub record DigestEnd : Type 0 where
   pub outcome : Outcome
@@ -21,6 +21,6 @@ unfoldable pub digest : List ℕ → List ℕ → DigestEnd
 digest s out = into out (sha256 s)
 
 -- the version is the first five bytes of its slice
-unfoldable pub digestPlaced : List ℕ → ℕ → List ℕ → List ℕ → DigestEnd
-digestPlaced version node piece out =
-    cond (ltb (length version) 5) (short out) (into out (pieceDigest (take 5 version) node piece))
+unfoldable pub digest_placed : List ℕ → ℕ → List ℕ → List ℕ → DigestEnd
+digest_placed version node piece out =
+    cond (ltb (length version) 5) (short out) (into out (piece_digest (take 5 version) node piece))

@@ -2,11 +2,11 @@
 // length is below 2^32, so that a refusal is told apart by that bit.
 ghost use Rattle.std.specs.Prelude.{◌≡◌, ◌≤◌, length, take};
 ghost use Rattle.std.proofs.Math.Seq.{paste};
-ghost use Rattle.coding.specs.Answer.{refuses, number, splitOutcome, joinOutcome};
+ghost use Rattle.coding.specs.Answer.{refuses, number, split_outcome, join_outcome};
 ghost use Rattle.coding.specs.Split.{split, cut};
 ghost use Rattle.coding.specs.Join.{join};
 ghost use Rattle.coding_export.specs.Code.{code};
-ghost use Rattle.coding_export.specs.Digest.{digest, digestPlaced};
+ghost use Rattle.coding_export.specs.Digest.{digest, digest_placed};
 
 use coding::answer::{JoinAnswer, Refusal, SplitAnswer};
 
@@ -24,7 +24,7 @@ fn refused(r: Refusal) -> u64
 }
 
 fn split_code(a: SplitAnswer) -> u64
-    ensures { result ≡ code (splitOutcome a) }
+    ensures { result ≡ code (split_outcome a) }
 {
     match a {
         SplitAnswer::Pieces(len) => len as u64,
@@ -33,7 +33,7 @@ fn split_code(a: SplitAnswer) -> u64
 }
 
 fn join_code(a: JoinAnswer) -> u64
-    ensures { result ≡ code (joinOutcome a) }
+    ensures { result ≡ code (join_outcome a) }
 {
     match a {
         JoinAnswer::Page(len) => len as u64,
@@ -115,8 +115,8 @@ pub extern "C" fn coding_digest_placed(
     piece: &[u8],
     out: &mut [u8],
 ) -> u64
-    ensures { (result ≡ code (digestPlaced version.now node piece.now out.old).outcome)
-        × (out.new ≡ (digestPlaced version.now node piece.now out.old).out) }
+    ensures { (result ≡ code (digest_placed version.now node piece.now out.old).outcome)
+        × (out.new ≡ (digest_placed version.now node piece.now out.old).out) }
 {
     if version.len() < 5 {
         return refused(Refusal::Short);

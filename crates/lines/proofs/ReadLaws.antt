@@ -14,21 +14,21 @@ use lib.Seq.{take_all, take-append-le, take-suc-set}
 use Rattle.lines.specs.declared.read.Reading.{Reading}
 use Rattle.lines.specs.declared.read.Line.{Line}
 use Rattle.lines.specs.declared.read.Page.{Page}
-use Rattle.lines.specs.Words.{words, first, later, lastFrom, final, every, void, odd, same, limit, digit, decimal, number_of, hexValue, hexDigit, hexBytes, emptyWord, page_of, packFrom, packed}
-use Rattle.lines.specs.Line.{numberOr, numbersOf, Kept, PageIs, LineOf}
-use Rattle.lines.specs.Read.{counted, packedWith, capped, valueWith, nameFrom, numberFrom, numbersWith, puts, bytesWith, pageWith, pageFrom}
-use Rattle.lines.specs.Read.{newWord, begun, space_of, letterOf, next_of, nextPage, ended_of, value_of, highFrom, Paired, Read}
-use Rattle.lines.proofs.WordsLaws.{and_left, and_right, words-space, words-letter, every_more, odd-more, same-eq, decimal-more, high-more, high-below, hex-more, small, pack-more, room, pack-below, packed-injective}
+use Rattle.lines.specs.Words.{words, first, later, last_from, final, every, void, odd, same, limit, digit, decimal, number_of, hex_value, hex_digit, hex_bytes, empty_word, page_of, pack_from, packed}
+use Rattle.lines.specs.Line.{number_or, numbers_of, Kept, PageIs, LineOf}
+use Rattle.lines.specs.Read.{counted, packed_with, capped, value_with, name_from, number_from, numbers_with, puts, bytes_with, page_with, page_from}
+use Rattle.lines.specs.Read.{new_word, begun, space_of, letter_of, next_of, next_page, ended_of, value_of, high_from, Paired, Read}
+use Rattle.lines.proofs.WordsLaws.{and_left, and_right, words_space, words_letter, every_more, odd-more, same_eq, decimal-more, high-more, high-below, hex-more, small, pack_more, room, pack_below, packed_injective}
 
 -- ---- a value with one digit more
 
-pub value_none : (v b : ℕ) → digit b ≡ false → limit ≡ valueWith v b
+pub value_none : (v b : ℕ) → digit b ≡ false → limit ≡ value_with v b
 value_none v b e = simp e
 
-pub value-big : (v x b : ℕ) → digit b ≡ true → x ≡ b - 48 → limit ≤ v * 10 + x → limit ≡ valueWith v b
-value-big v x b e q h = simp (e, le-ltb (v * 10 + (b - 48)) limit (omega arith))
+pub value_big : (v x b : ℕ) → digit b ≡ true → x ≡ b - 48 → limit ≤ v * 10 + x → limit ≡ value_with v b
+value_big v x b e q h = simp (e, le-ltb (v * 10 + (b - 48)) limit (omega arith))
 
-pub value-fits : (v x b : ℕ) → digit b ≡ true → x ≡ b - 48 → v * 10 + x < limit → v * 10 + x ≡ valueWith v b
+pub value-fits : (v x b : ℕ) → digit b ≡ true → x ≡ b - 48 → v * 10 + x < limit → v * 10 + x ≡ value_with v b
 value-fits v x b e q h = ap (λ (y : ℕ). v * 10 + y) q ∙ sym (simp (e, lt-ltb (v * 10 + (b - 48)) limit (omega arith)))
 
 value-step : (e t : Bool) (d x : ℕ)
@@ -43,7 +43,7 @@ value-step true false d x = refl
 value-step false true d x = simp (le-ltb (limit * 10 + x) limit (omega arith))
 value-step false false d x = refl
 
-value-more : (w : List ℕ) (b : ℕ) → valueWith (value_of w) b ≡ value_of (w ++ (b ∷ []))
+value-more : (w : List ℕ) (b : ℕ) → value_with (value_of w) b ≡ value_of (w ++ (b ∷ []))
 unfolding value_of
 value-more w b =
     value-step (every digit w) (digit b) (decimal 0 w) (b - 48)
@@ -57,8 +57,8 @@ put_full bs v n page h k =
     let l : length (bs ++ (v ∷ [])) ≡ length bs + 1 = length-append bs (v ∷ []) in
     record { size = omega arith; front = k.front ∙ sym (take-append-le n bs (v ∷ []) (omega arith)) }
 
-put-more : (bs : List ℕ) (v n : ℕ) (page : List ℕ) → n < length page → Kept bs n page → Kept (bs ++ (v ∷ [])) (n + 1) (set page n v)
-put-more bs v n page h k =
+put_more : (bs : List ℕ) (v n : ℕ) (page : List ℕ) → n < length page → Kept bs n page → Kept (bs ++ (v ∷ [])) (n + 1) (set page n v)
+put_more bs v n page h k =
     let s : n ≡ min (length bs) (length page) = k.size in
     let l : length (bs ++ (v ∷ [])) ≡ length bs + 1 = length-append bs (v ∷ []) in
     let m : length (set page n v) ≡ length page = length-set page n v in
@@ -72,26 +72,26 @@ put-more bs v n page h k =
 
 -- ---- a packed word and its length with one byte more
 
-counted-min : (k : ℕ) → counted (min 8 k) ≡ min 8 (k + 1)
-counted-min k = go (dec_lt k 8)
+counted_min : (k : ℕ) → counted (min 8 k) ≡ min 8 (k + 1)
+counted_min k = go (dec_lt k 8)
   where
     go : Dec (k < 8) → counted (min 8 k) ≡ min 8 (k + 1)
     go (yes h) = simp (lt-ltb (min 8 k) 8 (omega arith)) (omega arith)
     go (no h) = simp (le-ltb (min 8 k) 8 (omega arith)) (omega arith)
 
-packed_more : (w : List ℕ) (b : ℕ) → small w → packedWith (packed w) (min 8 (length w)) b ≡ packed (w ++ (b ∷ []))
+packed_more : (w : List ℕ) (b : ℕ) → small w → packed_with (packed w) (min 8 (length w)) b ≡ packed (w ++ (b ∷ []))
 unfolding packed room
 packed_more w b s = go (dec_lt (length w) 7)
   where
-    go : Dec (length w < 7) → packedWith (packed w) (min 8 (length w)) b ≡ packed (w ++ (b ∷ []))
+    go : Dec (length w < 7) → packed_with (packed w) (min 8 (length w)) b ≡ packed (w ++ (b ∷ []))
     go (yes h) =
         let l : length (w ++ (b ∷ [])) ≡ length w + 1 = length-append w (b ∷ []) in
         simp (
           le-leb (length w) 7 (omega arith),
           lt-ltb (min 8 (length w)) 7 (omega arith),
-          lt-ltb (packFrom 1 w) 72057594037927936 (omega (arith, pack-below 6 w 1 2 s (omega arith) (omega arith))),
+          lt-ltb (pack_from 1 w) 72057594037927936 (omega (arith, pack_below 6 w 1 2 s (omega arith) (omega arith))),
           le-leb (length (w ++ (b ∷ []))) 7 (omega arith),
-        ) (sym (pack-more 1 w b))
+        ) (sym (pack_more 1 w b))
     go (no h) =
         let l : length (w ++ (b ∷ [])) ≡ length w + 1 = length-append w (b ∷ []) in
         simp (le-ltb (min 8 (length w)) 7 (omega arith), lt-leb (length (w ++ (b ∷ []))) 7 (omega arith))
@@ -99,34 +99,34 @@ packed_more w b s = go (dec_lt (length w) 7)
 -- ---- the numbers of words that ended
 
 numbers_more : (n : ℕ) (ws : List (List ℕ)) (w : List ℕ) → length ws < n
-    → set (numbersOf n ws) (length ws) (numberOr (number_of w)) ≡ numbersOf n (ws ++ (w ∷ []))
-unfolding numbersOf
+    → set (numbers_of n ws) (length ws) (number_or (number_of w)) ≡ numbers_of n (ws ++ (w ∷ []))
+unfolding numbers_of
 numbers_more zero ws w h = absurd (omega arith)
 numbers_more (suc n) [] w h = refl
-numbers_more (suc n) (v ∷ ws) w h = ap (λ (l : List ℕ). numberOr (number_of v) ∷ l) (numbers_more n ws w (omega arith))
+numbers_more (suc n) (v ∷ ws) w h = ap (λ (l : List ℕ). number_or (number_of v) ∷ l) (numbers_more n ws w (omega arith))
 
-numbers-full : (n : ℕ) (ws : List (List ℕ)) (w : List ℕ) → n ≤ length ws → numbersOf n ws ≡ numbersOf n (ws ++ (w ∷ []))
-unfolding numbersOf
-numbers-full zero ws w h = refl
-numbers-full (suc n) [] w h = absurd (omega arith)
-numbers-full (suc n) (v ∷ ws) w h = ap (λ (l : List ℕ). numberOr (number_of v) ∷ l) (numbers-full n ws w (omega arith))
+numbers_full : (n : ℕ) (ws : List (List ℕ)) (w : List ℕ) → n ≤ length ws → numbers_of n ws ≡ numbers_of n (ws ++ (w ∷ []))
+unfolding numbers_of
+numbers_full zero ws w h = refl
+numbers_full (suc n) [] w h = absurd (omega arith)
+numbers_full (suc n) (v ∷ ws) w h = ap (λ (l : List ℕ). number_or (number_of v) ∷ l) (numbers_full n ws w (omega arith))
 
-number-told : (w : List ℕ) → numberFrom (min 8 (length w)) (value_of w) ≡ numberOr (number_of w)
+number-told : (w : List ℕ) → number_from (min 8 (length w)) (value_of w) ≡ number_or (number_of w)
 unfolding value_of number_of
 number-told [] = refl
 number-told (b ∷ w) =
     simp (ne_eqb (min 8 (suc (length w))) 0 (λ e. omega arith)) (go (every digit (b ∷ w)) (ltb (decimal 0 (b ∷ w)) limit) (decimal 0 (b ∷ w)))
   where
-    go : (e l : Bool) (d : ℕ) → cond e (cond l d limit) limit ≡ numberOr (cond (e && l) (some d) none)
+    go : (e l : Bool) (d : ℕ) → cond e (cond l d limit) limit ≡ number_or (cond (e && l) (some d) none)
     go true true d = refl
     go true false d = refl
     go false l d = refl
 
 -- the word under way ends
-name-told : (ws : List (List ℕ)) (w : List ℕ) (k name word : ℕ) → k ≡ min 8 (length ws + 1)
-    → name ≡ cond (eqb (length ws) 0) 0 (packed (first ws)) → word ≡ packed w → nameFrom k name word ≡ packed (first (ws ++ (w ∷ [])))
-name-told [] w k name word e n q = simp (eq-eqb k 1 (omega arith)) q
-name-told (v ∷ ws) w k name word e n q =
+name_told : (ws : List (List ℕ)) (w : List ℕ) (k name word : ℕ) → k ≡ min 8 (length ws + 1)
+    → name ≡ cond (eqb (length ws) 0) 0 (packed (first ws)) → word ≡ packed w → name_from k name word ≡ packed (first (ws ++ (w ∷ [])))
+name_told [] w k name word e n q = simp (eq-eqb k 1 (omega arith)) q
+name_told (v ∷ ws) w k name word e n q =
     simp (ne_eqb k 1 (λ z. omega arith)) (n ∙ simp (ne_eqb (suc (length ws)) 0 (λ z. omega arith)))
 
 first-told : (ws : List (List ℕ)) (w : List ℕ) → small (first ws) → small w → small (first (ws ++ (w ∷ [])))
@@ -134,69 +134,69 @@ first-told [] w a b = b
 first-told (v ∷ ws) w a b = a
 
 numbers-told : (ws : List (List ℕ)) (w : List ℕ) (k n : ℕ) (numbers : List ℕ) → k ≡ min 8 (length ws + 1)
-    → numbers ≡ numbersOf 6 (later ws) → n ≡ numberOr (number_of w) → numbersWith k numbers n ≡ numbersOf 6 (later (ws ++ (w ∷ [])))
+    → numbers ≡ numbers_of 6 (later ws) → n ≡ number_or (number_of w) → numbers_with k numbers n ≡ numbers_of 6 (later (ws ++ (w ∷ [])))
 numbers-told [] w k n numbers e f q = simp (lt-leb 2 k (omega arith)) f
 numbers-told (v ∷ ws) w k n numbers e f q = go (dec_lt (length ws) 6)
   where
-    go : Dec (length ws < 6) → numbersWith k numbers n ≡ numbersOf 6 (ws ++ (w ∷ []))
+    go : Dec (length ws < 6) → numbers_with k numbers n ≡ numbers_of 6 (ws ++ (w ∷ []))
     go (yes h) =
         let z : k - 2 ≡ length ws = omega arith in
         simp (le-leb 2 k (omega arith), le-leb k 7 (omega arith)) ((λ i. set (f i) (z i) (q i)) ∙ numbers_more 6 ws w h)
-    go (no h) = simp (le-leb 2 k (omega arith), lt-leb k 7 (omega arith)) (f ∙ numbers-full 6 ws w (omega arith))
+    go (no h) = simp (le-leb 2 k (omega arith), lt-leb k 7 (omega arith)) (f ∙ numbers_full 6 ws w (omega arith))
 
-number-of : (w : List ℕ) (len value : ℕ) → len ≡ min 8 (length w) → value ≡ value_of w → numberFrom len value ≡ numberOr (number_of w)
-number-of w len value a b = (λ i. numberFrom (a i) (b i)) ∙ number-told w
+number_of_lem : (w : List ℕ) (len value : ℕ) → len ≡ min 8 (length w) → value ≡ value_of w → number_from len value ≡ number_or (number_of w)
+number_of_lem w len value a b = (λ i. number_from (a i) (b i)) ∙ number-told w
 
 -- ---- what the code keeps and hands on, part by part
 
 module _ (odd : Bool) (high n bytes : ℕ) (page : List ℕ) where
-  pub put-none : puts odd high n bytes (length page) ≡ false → (bytes ≡ bytesWith odd high n bytes (length page)) × (page ≡ pageWith odd high n bytes page)
-  put-none e = rw e (refl, refl)
+  pub put_none : puts odd high n bytes (length page) ≡ false → (bytes ≡ bytes_with odd high n bytes (length page)) × (page ≡ page_with odd high n bytes page)
+  put_none e = rw e (refl, refl)
 
   pub put_one : odd ≡ true → bytes < length page → high < 16 → n < 16
-      → (bytes + 1 ≡ bytesWith odd high n bytes (length page)) × (set page bytes (high * 16 + n) ≡ pageWith odd high n bytes page)
+      → (bytes + 1 ≡ bytes_with odd high n bytes (length page)) × (set page bytes (high * 16 + n) ≡ page_with odd high n bytes page)
   put_one e f g h = rw (e, lt-ltb bytes (length page) f, lt-ltb high 16 g, lt-ltb n 16 h) (refl, refl)
 
-pub space-told : (r : Reading) (words name n : ℕ) (numbers : List ℕ) → words ≡ counted r.words → name ≡ nameFrom r.words r.name r.word
-    → n ≡ numberFrom r.len r.value → numbers ≡ numbersWith r.words r.numbers n → newWord words name numbers ≡ space_of r
-space-told r words name n numbers a b e f =
-    let g : numbers ≡ numbersWith r.words r.numbers (numberFrom r.len r.value) = f ∙ ap (numbersWith r.words r.numbers) e in
-    λ i. newWord (a i) (b i) (g i)
+pub space_told : (r : Reading) (words name n : ℕ) (numbers : List ℕ) → words ≡ counted r.words → name ≡ name_from r.words r.name r.word
+    → n ≡ number_from r.len r.value → numbers ≡ numbers_with r.words r.numbers n → new_word words name numbers ≡ space_of r
+space_told r words name n numbers a b e f =
+    let g : numbers ≡ numbers_with r.words r.numbers (number_from r.len r.value) = f ∙ ap (numbers_with r.words r.numbers) e in
+    λ i. new_word (a i) (b i) (g i)
 
-pub letter-told : (r s : Reading) (b n room : ℕ) → s.words ≡ r.words → s.name ≡ r.name → s.numbers ≡ r.numbers → s.word ≡ packedWith r.word r.len b
-    → s.len ≡ counted r.len → s.value ≡ valueWith r.value b → n ≡ hexValue b → s.hex ≡ (r.hex && ltb n 16) → s.odd ≡ not r.odd → s.high ≡ n
-    → s.bytes ≡ bytesWith r.odd r.high n r.bytes room → s ≡ letterOf r b room
-letter-told r s b n room a c d e f g m k l x y =
-    let v : s.high ≡ hexValue b = x ∙ m in
-    let w : s.hex ≡ (r.hex && hexDigit b) = k ∙ ap (λ (z : ℕ). r.hex && ltb z 16) m in
-    let u : s.bytes ≡ bytesWith r.odd r.high (hexValue b) r.bytes room = y ∙ ap (λ (z : ℕ). bytesWith r.odd r.high z r.bytes room) m in
+pub letter_told : (r s : Reading) (b n room : ℕ) → s.words ≡ r.words → s.name ≡ r.name → s.numbers ≡ r.numbers → s.word ≡ packed_with r.word r.len b
+    → s.len ≡ counted r.len → s.value ≡ value_with r.value b → n ≡ hex_value b → s.hex ≡ (r.hex && ltb n 16) → s.odd ≡ not r.odd → s.high ≡ n
+    → s.bytes ≡ bytes_with r.odd r.high n r.bytes room → s ≡ letter_of r b room
+letter_told r s b n room a c d e f g m k l x y =
+    let v : s.high ≡ hex_value b = x ∙ m in
+    let w : s.hex ≡ (r.hex && hex_digit b) = k ∙ ap (λ (z : ℕ). r.hex && ltb z 16) m in
+    let u : s.bytes ≡ bytes_with r.odd r.high (hex_value b) r.bytes room = y ∙ ap (λ (z : ℕ). bytes_with r.odd r.high z r.bytes room) m in
     λ i. record { words = a i; name = c i; numbers = d i; word = e i; len = f i; value = g i; hex = w i; odd = l i; high = v i; bytes = u i }
 
-pub page-more : (r : Reading) (b n : ℕ) (page after : List ℕ) → n ≡ hexValue b → after ≡ pageWith r.odd r.high n r.bytes page
-    → after ≡ pageWith r.odd r.high (hexValue b) r.bytes page
-page-more r b n page after m e = e ∙ ap (λ (z : ℕ). pageWith r.odd r.high z r.bytes page) m
+pub page-more : (r : Reading) (b n : ℕ) (page after : List ℕ) → n ≡ hex_value b → after ≡ page_with r.odd r.high n r.bytes page
+    → after ≡ page_with r.odd r.high (hex_value b) r.bytes page
+page-more r b n page after m e = e ∙ ap (λ (z : ℕ). page_with r.odd r.high z r.bytes page) m
 
 module _ (r : Reading) (b : ℕ) (page : List ℕ) where
-  pub next-space : b ≡ 32 → (space_of r ≡ next_of r b (length page)) × (page ≡ nextPage r b page)
-  unfolding next_of nextPage
-  next-space e = (simp (eq-eqb b 32 e), simp (eq-eqb b 32 e))
+  pub next_space : b ≡ 32 → (space_of r ≡ next_of r b (length page)) × (page ≡ next_page r b page)
+  unfolding next_of next_page
+  next_space e = (simp (eq-eqb b 32 e), simp (eq-eqb b 32 e))
 
-  pub next-letter : (b ≡ 32 → ⊥)
-      → (letterOf r b (length page) ≡ next_of r b (length page)) × (pageWith r.odd r.high (hexValue b) r.bytes page ≡ nextPage r b page)
-  unfolding next_of nextPage
-  next-letter e = (simp (ne_eqb b 32 e), simp (ne_eqb b 32 e))
+  pub next_letter : (b ≡ 32 → ⊥)
+      → (letter_of r b (length page) ≡ next_of r b (length page)) × (page_with r.odd r.high (hex_value b) r.bytes page ≡ next_page r b page)
+  unfolding next_of next_page
+  next_letter e = (simp (ne_eqb b 32 e), simp (ne_eqb b 32 e))
 
-pub ended-told : (r : Reading) (l : Line) (n : ℕ) → l.words ≡ r.words → l.name ≡ nameFrom r.words r.name r.word
-    → n ≡ numberFrom r.len r.value → l.numbers ≡ numbersWith r.words r.numbers n → l.page ≡ pageFrom r → l ≡ ended_of r
+pub ended-told : (r : Reading) (l : Line) (n : ℕ) → l.words ≡ r.words → l.name ≡ name_from r.words r.name r.word
+    → n ≡ number_from r.len r.value → l.numbers ≡ numbers_with r.words r.numbers n → l.page ≡ page_from r → l ≡ ended_of r
 unfolding ended_of
 ended-told r l n a b e f g =
-    let h : l.numbers ≡ numbersWith r.words r.numbers (numberFrom r.len r.value) = f ∙ ap (numbersWith r.words r.numbers) e in
+    let h : l.numbers ≡ numbers_with r.words r.numbers (number_from r.len r.value) = f ∙ ap (numbers_with r.words r.numbers) e in
     λ i. record { words = a i; name = b i; numbers = h i; page = g i }
 
 -- ---- what is kept, from the start and with each byte more
 
 pub begun-read : (page : List ℕ) → Read [] begun page
-unfolding begun words numbersOf every packed packFrom value_of decimal odd highFrom hexBytes
+unfolding begun words numbers_of every packed pack_from value_of decimal odd high_from hex_bytes
 begun-read page =
     record {
       ended = [];
@@ -214,22 +214,22 @@ begun-read page =
       pairs = λ t. record { half = refl; high = refl; kept = record { size = omega arith; front = refl } };
     }
 
-space-read : (p page : List ℕ) (r : Reading) → Read p r page → Read (p ++ (32 ∷ [])) (space_of r) page
-unfolding every packed packFrom value_of decimal odd highFrom hexBytes
-space-read p page r o =
+space_read : (p page : List ℕ) (r : Reading) → Read p r page → Read (p ++ (32 ∷ [])) (space_of r) page
+unfolding every packed pack_from value_of decimal odd high_from hex_bytes
+space_read p page r o =
     let ws = o.ended in
     let w = o.under in
     let l : length (ws ++ (w ∷ [])) ≡ length ws + 1 = length-append ws (w ∷ []) in
     record {
       ended = ws ++ (w ∷ []);
       under = [];
-      whole = words-space p ∙ ap (λ (x : List (List ℕ)). x ++ ([] ∷ [])) o.whole;
-      count = ap counted o.count ∙ counted-min (length ws + 1) ∙ ap (λ (x : ℕ). min 8 (x + 1)) (sym l);
+      whole = words_space p ∙ ap (λ (x : List (List ℕ)). x ++ ([] ∷ [])) o.whole;
+      count = ap counted o.count ∙ counted_min (length ws + 1) ∙ ap (λ (x : ℕ). min 8 (x + 1)) (sym l);
       opened = first-told ws w o.opened o.bytes;
       called =
-          name-told ws w r.words r.name r.word o.count o.called o.word
+          name_told ws w r.words r.name r.word o.count o.called o.word
           ∙ sym (simp (ne_eqb (length (ws ++ (w ∷ []))) 0 (λ y. omega arith)));
-      given = numbers-told ws w r.words (numberFrom r.len r.value) r.numbers o.count o.given (number-of w r.len r.value o.long o.value);
+      given = numbers-told ws w r.words (number_from r.len r.value) r.numbers o.count o.given (number_of_lem w r.len r.value o.long o.value);
       bytes = refl;
       word = refl;
       long = refl;
@@ -239,24 +239,24 @@ space-read p page r o =
     }
 
 -- a byte goes into the page
-put-read : (t : Bool) (bs : List ℕ) (high n bytes : ℕ) (page : List ℕ) → high < 16 → n < 16 → Kept bs bytes page
-    → Kept (cond t (bs ++ ((high * 16 + n) ∷ [])) bs) (bytesWith t high n bytes (length page)) (pageWith t high n bytes page)
-put-read false bs high n bytes page h l k = k
-put-read true bs high n bytes page h l k = go (dec_lt bytes (length page))
+put_read : (t : Bool) (bs : List ℕ) (high n bytes : ℕ) (page : List ℕ) → high < 16 → n < 16 → Kept bs bytes page
+    → Kept (cond t (bs ++ ((high * 16 + n) ∷ [])) bs) (bytes_with t high n bytes (length page)) (page_with t high n bytes page)
+put_read false bs high n bytes page h l k = k
+put_read true bs high n bytes page h l k = go (dec_lt bytes (length page))
   where
     go : Dec (bytes < length page)
-        → Kept (bs ++ ((high * 16 + n) ∷ [])) (bytesWith true high n bytes (length page)) (pageWith true high n bytes page)
-    go (yes r) = rw (lt-ltb bytes (length page) r, lt-ltb high 16 h, lt-ltb n 16 l) (put-more bs (high * 16 + n) bytes page r k)
+        → Kept (bs ++ ((high * 16 + n) ∷ [])) (bytes_with true high n bytes (length page)) (page_with true high n bytes page)
+    go (yes r) = rw (lt-ltb bytes (length page) r, lt-ltb high 16 h, lt-ltb n 16 l) (put_more bs (high * 16 + n) bytes page r k)
     go (no r) = rw (le-ltb bytes (length page) (omega arith)) (put_full bs (high * 16 + n) bytes page (omega arith) k)
 
-pairs-more : (w : List ℕ) (r : Reading) (b : ℕ) (page : List ℕ) → hexDigit b ≡ true → every hexDigit w ≡ true → Paired w r page
-    → Paired (w ++ (b ∷ [])) (letterOf r b (length page)) (pageWith r.odd r.high (hexValue b) r.bytes page)
+pairs-more : (w : List ℕ) (r : Reading) (b : ℕ) (page : List ℕ) → hex_digit b ≡ true → every hex_digit w ≡ true → Paired w r page
+    → Paired (w ++ (b ∷ [])) (letter_of r b (length page)) (page_with r.odd r.high (hex_value b) r.bytes page)
 pairs-more w r b page d e o =
-    let h : highFrom 0 w < 16 = high-below 0 w (omega arith) e in
-    let v : r.high ≡ highFrom 0 w = o.high in
-    let k = put-read r.odd (hexBytes w) r.high (hexValue b) r.bytes page (omega arith) (ltb-true (hexValue b) 16 d) o.kept in
-    let q : cond r.odd (hexBytes w ++ ((r.high * 16 + hexValue b) ∷ [])) (hexBytes w) ≡ hexBytes (w ++ (b ∷ [])) =
-    (λ i. cond (o.half i) (hexBytes w ++ ((v i * 16 + hexValue b) ∷ [])) (hexBytes w)) ∙ hex-more 0 w b
+    let h : high_from 0 w < 16 = high-below 0 w (omega arith) e in
+    let v : r.high ≡ high_from 0 w = o.high in
+    let k = put_read r.odd (hex_bytes w) r.high (hex_value b) r.bytes page (omega arith) (ltb-true (hex_value b) 16 d) o.kept in
+    let q : cond r.odd (hex_bytes w ++ ((r.high * 16 + hex_value b) ∷ [])) (hex_bytes w) ≡ hex_bytes (w ++ (b ∷ [])) =
+    (λ i. cond (o.half i) (hex_bytes w ++ ((v i * 16 + hex_value b) ∷ [])) (hex_bytes w)) ∙ hex-more 0 w b
     in
     record {
       half = ap not o.half ∙ sym (odd-more w b);
@@ -264,96 +264,96 @@ pairs-more w r b page d e o =
       kept = rw q at k;
     }
 
-letter-read : (p : List ℕ) (r : Reading) (b : ℕ) (page : List ℕ) → b < 256 → (b ≡ 32 → ⊥) → Read p r page
-    → Read (p ++ (b ∷ [])) (letterOf r b (length page)) (pageWith r.odd r.high (hexValue b) r.bytes page)
-letter-read p r b page u h o =
+letter_read : (p : List ℕ) (r : Reading) (b : ℕ) (page : List ℕ) → b < 256 → (b ≡ 32 → ⊥) → Read p r page
+    → Read (p ++ (b ∷ [])) (letter_of r b (length page)) (page_with r.odd r.high (hex_value b) r.bytes page)
+letter_read p r b page u h o =
     let ws = o.ended in
     let w = o.under in
-    let y : every hexDigit (w ++ (b ∷ [])) ≡ (every hexDigit w && hexDigit b) = every_more hexDigit w b in
+    let y : every hex_digit (w ++ (b ∷ [])) ≡ (every hex_digit w && hex_digit b) = every_more hex_digit w b in
     record {
       ended = ws;
       under = w ++ (b ∷ []);
-      whole = words-letter b h p ws w o.whole;
+      whole = words_letter b h p ws w o.whole;
       count = o.count;
       opened = o.opened;
       called = o.called;
       given = o.given;
       bytes = every_more (λ x. ltb x 256) w b ∙ (λ i. o.bytes i && lt-ltb b 256 u i);
-      word = (λ i. packedWith (o.word i) (o.long i) b) ∙ packed_more w b o.bytes;
-      long = ap counted o.long ∙ counted-min (length w) ∙ ap (min 8) (sym (length-append w (b ∷ [])));
-      value = ap (λ (v : ℕ). valueWith v b) o.value ∙ value-more w b;
-      hex = (λ i. o.hex i && hexDigit b) ∙ sym y;
+      word = (λ i. packed_with (o.word i) (o.long i) b) ∙ packed_more w b o.bytes;
+      long = ap counted o.long ∙ counted_min (length w) ∙ ap (min 8) (sym (length-append w (b ∷ [])));
+      value = ap (λ (v : ℕ). value_with v b) o.value ∙ value-more w b;
+      hex = (λ i. o.hex i && hex_digit b) ∙ sym y;
       pairs =
           λ z.
-          let q : (every hexDigit w && hexDigit b) ≡ true = sym y ∙ z in
-          let v : every hexDigit w ≡ true = and_left (every hexDigit w) (hexDigit b) q in
-          pairs-more w r b page (and_right (every hexDigit w) (hexDigit b) q) v (o.pairs v);
+          let q : (every hex_digit w && hex_digit b) ≡ true = sym y ∙ z in
+          let v : every hex_digit w ≡ true = and_left (every hex_digit w) (hex_digit b) q in
+          pairs-more w r b page (and_right (every hex_digit w) (hex_digit b) q) v (o.pairs v);
     }
 
 -- one byte more of the line
-pub next-read : (p : List ℕ) (r : Reading) (b : ℕ) (page : List ℕ) → b < 256 → Read p r page → Read (p ++ (b ∷ [])) (next_of r b (length page)) (nextPage r b page)
-unfolding next_of nextPage
+pub next-read : (p : List ℕ) (r : Reading) (b : ℕ) (page : List ℕ) → b < 256 → Read p r page → Read (p ++ (b ∷ [])) (next_of r b (length page)) (next_page r b page)
+unfolding next_of next_page
 next-read p r b page u o = go (ℕ_discrete b 32)
   where
-    go : Dec (b ≡ 32) → Read (p ++ (b ∷ [])) (cond (eqb b 32) (space_of r) (letterOf r b (length page))) (cond (eqb b 32) page (pageWith r.odd r.high (hexValue b) r.bytes page))
-    go (yes e) = rw e (space-read p page r o)
-    go (no e) = rw (ne_eqb b 32 e) (letter-read p r b page u e o)
+    go : Dec (b ≡ 32) → Read (p ++ (b ∷ [])) (cond (eqb b 32) (space_of r) (letter_of r b (length page))) (cond (eqb b 32) page (page_with r.odd r.high (hex_value b) r.bytes page))
+    go (yes e) = rw e (space_read p page r o)
+    go (no e) = rw (ne_eqb b 32 e) (letter_read p r b page u e o)
 
 -- ---- the line's end
 
-pub page-short : (r : Reading) → (r.word ≡ 1535139411065 → ⊥) → r.hex ≡ true → r.odd ≡ false → r.len ≡ 0 → Page.Nothing ≡ pageFrom r
-unfolding packed packFrom
+pub page-short : (r : Reading) → (r.word ≡ 1535139411065 → ⊥) → r.hex ≡ true → r.odd ≡ false → r.len ≡ 0 → Page.Nothing ≡ page_from r
+unfolding packed pack_from
 page-short r a b c d = sym (simp (ne_eqb r.word 1535139411065 a, b, c, eq-eqb r.len 0 d))
 
-pub page-bytes : (r : Reading) → (r.word ≡ 1535139411065 → ⊥) → r.hex ≡ true → r.odd ≡ false → (r.len ≡ 0 → ⊥) → Page.Bytes r.bytes ≡ pageFrom r
-unfolding packed packFrom
+pub page-bytes : (r : Reading) → (r.word ≡ 1535139411065 → ⊥) → r.hex ≡ true → r.odd ≡ false → (r.len ≡ 0 → ⊥) → Page.Bytes r.bytes ≡ page_from r
+unfolding packed pack_from
 page-bytes r a b c d = sym (simp (ne_eqb r.word 1535139411065 a, b, c, ne_eqb r.len 0 d))
 
 void-length : (w : List ℕ) → eqb (min 8 (length w)) 0 ≡ void w
 void-length [] = refl
 void-length (b ∷ w) = ne_eqb (min 8 (suc (length w))) 0 (λ e. omega arith)
 
-last_end : (v : List ℕ) (ws : List (List ℕ)) (w : List ℕ) → lastFrom v (ws ++ (w ∷ [])) ≡ w
+last_end : (v : List ℕ) (ws : List (List ℕ)) (w : List ℕ) → last_from v (ws ++ (w ∷ [])) ≡ w
 last_end v [] w = refl
 last_end v (u ∷ ws) w = last_end u ws w
 
 -- the word packs to `empty` where it is that word
-is-empty : (w : List ℕ) → small w → packed w ≡ packed emptyWord → w ≡ emptyWord
-unfolding packed packFrom every
-is-empty w s e = packed-injective w emptyWord s refl e (λ z. omega (arith, z))
+is_empty : (w : List ℕ) → small w → packed w ≡ packed empty_word → w ≡ empty_word
+unfolding packed pack_from every
+is_empty w s e = packed_injective w empty_word s refl e (λ z. omega (arith, z))
 
-not-empty : (w : List ℕ) → (packed w ≡ packed emptyWord → ⊥) → same w emptyWord ≡ false
-not-empty w h = go (same w emptyWord) refl
+not_empty : (w : List ℕ) → (packed w ≡ packed empty_word → ⊥) → same w empty_word ≡ false
+not_empty w h = go (same w empty_word) refl
   where
-    go : (t : Bool) → same w emptyWord ≡ t → same w emptyWord ≡ false
-    go true e = absurd (h (ap packed (same-eq w emptyWord e)))
+    go : (t : Bool) → same w empty_word ≡ t → same w empty_word ≡ false
+    go true e = absurd (h (ap packed (same_eq w empty_word e)))
     go false e = e
 
 page-pick : (w : List ℕ) (page : List ℕ) (e o v : Bool) (n : ℕ) (x y : Bool) → x ≡ e → (e ≡ true → y ≡ o)
-    → (e ≡ true → Kept (hexBytes w) n page)
-    → PageIs (cond (e && not o && not v) (some (hexBytes w)) none) page (cond x (cond y Page.Nothing (cond v Page.Nothing (Page.Bytes n))) Page.Nothing)
+    → (e ≡ true → Kept (hex_bytes w) n page)
+    → PageIs (cond (e && not o && not v) (some (hex_bytes w)) none) page (cond x (cond y Page.Nothing (cond v Page.Nothing (Page.Bytes n))) Page.Nothing)
 page-pick w page false o v n x y a b k = rw a tt
 page-pick w page true o v n x y a b k = go o v (b refl)
   where
     go : (o v : Bool) → y ≡ o
-        → PageIs (cond (not o && not v) (some (hexBytes w)) none) page (cond x (cond y Page.Nothing (cond v Page.Nothing (Page.Bytes n))) Page.Nothing)
+        → PageIs (cond (not o && not v) (some (hex_bytes w)) none) page (cond x (cond y Page.Nothing (cond v Page.Nothing (Page.Bytes n))) Page.Nothing)
     go true v q = rw (a, q) tt
     go false true q = rw (a, q) tt
     go false false q = rw (a, q) (k refl)
 
-page-told : (w page : List ℕ) (r : Reading) → small w → r.word ≡ packed w → r.len ≡ min 8 (length w) → r.hex ≡ every hexDigit w
-    → (every hexDigit w ≡ true → Paired w r page) → PageIs (page_of w) page (pageFrom r)
+page-told : (w page : List ℕ) (r : Reading) → small w → r.word ≡ packed w → r.len ≡ min 8 (length w) → r.hex ≡ every hex_digit w
+    → (every hex_digit w ≡ true → Paired w r page) → PageIs (page_of w) page (page_from r)
 unfolding page_of same
-page-told w page r s a l x k = go (ℕ_discrete r.word (packed emptyWord))
+page-told w page r s a l x k = go (ℕ_discrete r.word (packed empty_word))
   where
-    go : Dec (r.word ≡ packed emptyWord) → PageIs (page_of w) page (pageFrom r)
+    go : Dec (r.word ≡ packed empty_word) → PageIs (page_of w) page (page_from r)
     go (yes e) =
-        let z : same w emptyWord ≡ true = ap (λ (v : List ℕ). same v emptyWord) (is-empty w s (sym a ∙ e)) in
-        rw (eq-eqb r.word (packed emptyWord) e, z) (record { size = omega arith; front = refl })
+        let z : same w empty_word ≡ true = ap (λ (v : List ℕ). same v empty_word) (is_empty w s (sym a ∙ e)) in
+        rw (eq-eqb r.word (packed empty_word) e, z) (record { size = omega arith; front = refl })
     go (no e) =
         let z : eqb r.len 0 ≡ void w = ap (λ (n : ℕ). eqb n 0) l ∙ void-length w in
-        rw (ne_eqb r.word (packed emptyWord) e, not-empty w (λ q. e (a ∙ q)), z)
-        (page-pick w page (every hexDigit w) (odd w) (void w) r.bytes r.hex r.odd x (λ t. (k t).half) (λ t. (k t).kept))
+        rw (ne_eqb r.word (packed empty_word) e, not_empty w (λ q. e (a ∙ q)), z)
+        (page-pick w page (every hex_digit w) (odd w) (void w) r.bytes r.hex r.odd x (λ t. (k t).half) (λ t. (k t).kept))
 
 pub ended-read : (p page : List ℕ) (r : Reading) → Read p r page → LineOf p page (ended_of r)
 unfolding ended_of
@@ -362,13 +362,13 @@ ended-read p page r o =
     let w = o.under in
     let n : length (words p) ≡ length ws + 1 = ap length o.whole ∙ length-append ws (w ∷ []) in
     let f : final (words p) ≡ w = ap final o.whole ∙ last_end [] ws w in
-    let g : PageIs (page_of w) page (pageFrom r) = page-told w page r o.bytes o.word o.long o.hex o.pairs in
+    let g : PageIs (page_of w) page (page_from r) = page-told w page r o.bytes o.word o.long o.hex o.pairs in
     record {
       count = o.count ∙ ap (min 8) (sym n);
       bytes = ap (λ (x : List (List ℕ)). every (λ b. ltb b 256) (first x)) o.whole ∙ first-told ws w o.opened o.bytes;
-      called = name-told ws w r.words r.name r.word o.count o.called o.word ∙ ap (λ (x : List (List ℕ)). packed (first x)) (sym o.whole);
+      called = name_told ws w r.words r.name r.word o.count o.called o.word ∙ ap (λ (x : List (List ℕ)). packed (first x)) (sym o.whole);
       given =
-          numbers-told ws w r.words (numberFrom r.len r.value) r.numbers o.count o.given (number-of w r.len r.value o.long o.value)
-          ∙ ap (λ (x : List (List ℕ)). numbersOf 6 (later x)) (sym o.whole);
+          numbers-told ws w r.words (number_from r.len r.value) r.numbers o.count o.given (number_of_lem w r.len r.value o.long o.value)
+          ∙ ap (λ (x : List (List ℕ)). numbers_of 6 (later x)) (sym o.whole);
       shown = rw f g;
     }

@@ -7,17 +7,17 @@ use native.Mathlib.Omega.{arith}
 use lib.Dec.{leb}
 use borrow.Author.Tests.{lt-leb, le-leb}
 use lib.ListN.{length, drop, length-append}
-use Rattle.lines.specs.Text.{over, Written, written, put_at, putLine, hexOf}
+use Rattle.lines.specs.Text.{over, Written, written, put_at, put_line, hex_of}
 use Rattle.lines.specs.Ascii.{ascii}
-use Rattle.lines.specs.Sentences.{spacedNumber, shown, headerLine, refusedLine, depositedLine, nothingLine, pageLine, Adds}
+use Rattle.lines.specs.Sentences.{spaced_number, shown, header_line, refused_line, deposited_line, nothing_line, page_line, Adds}
 use Rattle.lines.proofs.TextLaws.{over-length, over-join, hex-length}
 
 pub adds_one : (t : List ℕ) (at : ℕ) (b s : List ℕ) (r : ℕ) → written s r ≡ put_at t at b → Adds t at b s r
 unfolding put_at
 adds_one t at b s r e = record { fits = λ h. e ∙ simp (le-leb (at + length b) (length t) h) }
 
-pub adds-join : {t : List ℕ} {at : ℕ} {b s : List ℕ} {q : ℕ} {d u : List ℕ} {r : ℕ} → Adds t at b s q → Adds s q d u r → Adds t at (b ++ d) u r
-adds-join {t} {at} {b} {s} {q} {d} {u} {r} x y =
+pub adds_join : {t : List ℕ} {at : ℕ} {b s : List ℕ} {q : ℕ} {d u : List ℕ} {r : ℕ} → Adds t at b s q → Adds s q d u r → Adds t at (b ++ d) u r
+adds_join {t} {at} {b} {s} {q} {d} {u} {r} x y =
     record {
       fits = λ h.
           let l : length (b ++ d) ≡ length b + length d = length-append b d in
@@ -30,42 +30,42 @@ adds-join {t} {at} {b} {s} {q} {d} {u} {r} x y =
           y.fits (omega arith) ∙ (λ i. written (k i) (n i));
     }
 
-pub adds-more : {t : List ℕ} {at : ℕ} {b s : List ℕ} {q : ℕ} (d u : List ℕ) (r : ℕ) → Adds t at b s q → written u r ≡ put_at s q d → Adds t at (b ++ d) u r
-adds-more {t} {at} {b} {s} {q} d u r x p = adds-join x (adds_one s q d u r p)
+pub adds_more : {t : List ℕ} {at : ℕ} {b s : List ℕ} {q : ℕ} (d u : List ℕ) (r : ℕ) → Adds t at b s q → written u r ≡ put_at s q d → Adds t at (b ++ d) u r
+adds_more {t} {at} {b} {s} {q} d u r x p = adds_join x (adds_one s q d u r p)
 
 -- what stands at the front, part by part, is a line
-pub line-fits : {t s : List ℕ} {r : ℕ} (l p : List ℕ) → length l ≤ length t → l ≡ p → Adds t 0 p s r → written s r ≡ putLine t l
-unfolding over putLine
+pub line-fits : {t s : List ℕ} {r : ℕ} (l p : List ℕ) → length l ≤ length t → l ≡ p → Adds t 0 p s r → written s r ≡ put_line t l
+unfolding over put_line
 line-fits {t} {s} {r} l p h e x =
     let f : 0 + length p ≡ length l = omega (arith, ap length e) in
     let g : p ++ drop (0 + length p) t ≡ l ++ drop (length l) t = λ i. sym e i ++ drop (f i) t in
     rw (le-leb (length l) (length t) h) (x.fits (omega arith) ∙ (λ i. written (g i) (f i)))
 
-pub header-parts : (m n k t f : ℕ)
-    → headerLine m n k t f ≡ ascii "AWE" ++ spacedNumber m ++ spacedNumber n ++ spacedNumber k ++ spacedNumber t ++ spacedNumber f ++ (10 ∷ [])
-unfolding headerLine
-header-parts m n k t f = refl
+pub header_parts : (m n k t f : ℕ)
+    → header_line m n k t f ≡ ascii "AWE" ++ spaced_number m ++ spaced_number n ++ spaced_number k ++ spaced_number t ++ spaced_number f ++ (10 ∷ [])
+unfolding header_line
+header_parts m n k t f = refl
 
-pub refused-parts : (x : ℕ) → refusedLine x ≡ ascii "REFUSED" ++ spacedNumber x ++ (10 ∷ [])
-unfolding refusedLine
+pub refused-parts : (x : ℕ) → refused_line x ≡ ascii "REFUSED" ++ spaced_number x ++ (10 ∷ [])
+unfolding refused_line
 refused-parts x = refl
 
-pub deposited-parts : (c q : ℕ) → depositedLine c q ≡ ascii "DEPOSIT" ++ spacedNumber c ++ spacedNumber q ++ (10 ∷ [])
-unfolding depositedLine
+pub deposited-parts : (c q : ℕ) → deposited_line c q ≡ ascii "DEPOSIT" ++ spaced_number c ++ spaced_number q ++ (10 ∷ [])
+unfolding deposited_line
 deposited-parts c q = refl
 
-pub nothing-parts : (c : ℕ) → nothingLine c ≡ ascii "READ" ++ spacedNumber c ++ ascii " 0 none -\n"
-unfolding nothingLine
+pub nothing-parts : (c : ℕ) → nothing_line c ≡ ascii "READ" ++ spaced_number c ++ ascii " 0 none -\n"
+unfolding nothing_line
 nothing-parts c = refl
 
 pub page-parts : (c q w : ℕ) (page : List ℕ)
-    → pageLine c q w page ≡ ascii "READ" ++ spacedNumber c ++ spacedNumber q ++ spacedNumber w ++ (32 ∷ []) ++ shown page ++ (10 ∷ [])
-unfolding pageLine
+    → page_line c q w page ≡ ascii "READ" ++ spaced_number c ++ spaced_number q ++ spaced_number w ++ (32 ∷ []) ++ shown page ++ (10 ∷ [])
+unfolding page_line
 page-parts c q w page = refl
 
-pub line-full : (t l : List ℕ) → length t < length l → written t 0 ≡ putLine t l
-unfolding putLine
-line-full t l h = sym (simp (lt-leb (length l) (length t) h))
+pub line_full : (t l : List ℕ) → length t < length l → written t 0 ≡ put_line t l
+unfolding put_line
+line_full t l h = sym (simp (lt-leb (length l) (length t) h))
 
 -- a page as it is shown
 shown-none : (b : List ℕ) → length b ≡ 0 → shown b ≡ ascii "empty"
@@ -73,23 +73,23 @@ unfolding shown
 shown-none [] h = refl
 shown-none (x ∷ b) h = absurd (omega arith)
 
-shown-some : (b : List ℕ) → (length b ≡ 0 → ⊥) → shown b ≡ hexOf b
+shown_some : (b : List ℕ) → (length b ≡ 0 → ⊥) → shown b ≡ hex_of b
 unfolding shown
-shown-some [] h = absurd (h refl)
-shown-some (x ∷ b) h = refl
+shown_some [] h = absurd (h refl)
+shown_some (x ∷ b) h = refl
 
-pub show-none : (t : List ℕ) (at : ℕ) (s : List ℕ) (r : ℕ) (b : List ℕ) → length b ≡ 0 → written s r ≡ put_at t at (ascii "empty") → written s r ≡ put_at t at (shown b)
-show-none t at s r b h p = p ∙ ap (put_at t at) (sym (shown-none b h))
+pub show_none : (t : List ℕ) (at : ℕ) (s : List ℕ) (r : ℕ) (b : List ℕ) → length b ≡ 0 → written s r ≡ put_at t at (ascii "empty") → written s r ≡ put_at t at (shown b)
+show_none t at s r b h p = p ∙ ap (put_at t at) (sym (shown-none b h))
 
-pub show-some : (t : List ℕ) (at : ℕ) (s : List ℕ) (r : ℕ) (b : List ℕ) → (length b ≡ 0 → ⊥) → written s r ≡ put_at t at (hexOf b) → written s r ≡ put_at t at (shown b)
-show-some t at s r b h p = p ∙ ap (put_at t at) (sym (shown-some b h))
+pub show_some : (t : List ℕ) (at : ℕ) (s : List ℕ) (r : ℕ) (b : List ℕ) → (length b ≡ 0 → ⊥) → written s r ≡ put_at t at (hex_of b) → written s r ≡ put_at t at (shown b)
+show_some t at s r b h p = p ∙ ap (put_at t at) (sym (shown_some b h))
 
 -- and how long it is
 pub shown-short : (b : List ℕ) → length b ≡ 0 → length (shown b) ≡ 5
 shown-short b h = ap length (shown-none b h)
 
 pub shown-long : (b : List ℕ) → (length b ≡ 0 → ⊥) → length (shown b) ≡ 2 * length b
-shown-long b h = ap length (shown-some b h) ∙ hex-length b
+shown-long b h = ap length (shown_some b h) ∙ hex-length b
 
 pub half-fits : (b : List ℕ) (room : ℕ) → (length b ≡ 0 → ⊥) → leb (length b) (room / 2) ≡ leb (length (shown b)) room
 half-fits b room h = go (dec_le (length b) (room / 2))

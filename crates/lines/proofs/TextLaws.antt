@@ -9,7 +9,7 @@ use borrow.Author.Tests.{lt-ltb, le-ltb, lt-leb, le-leb}
 use lib.ListN.{length, get_or, take, drop, set, length-append, length-take, length-drop, take-append-drop}
 use lib.Seq.{take-suc, take_all, drop-cons, set_at, take_at, drop_at, length-take-le, drop-drop}
 use Rattle.io.specs.Digits.{hex_digit_ascii, last_digits, IsDigitCount}
-use Rattle.lines.specs.Text.{over, written, put_at, decimalWithin, decimalOf, hexDigit, hexOf}
+use Rattle.lines.specs.Text.{over, written, put_at, decimal_within, decimal_of, hex_digit, hex_of}
 
 pub over_none : (t : List ℕ) (at : ℕ) → over t at [] ≡ t
 unfolding over
@@ -20,8 +20,8 @@ unfolding over
 over-length t at b h = simp (length-append, length-take, length-drop) (omega arith)
 
 -- what stands before the bytes, with them
-head-length : (t : List ℕ) (at : ℕ) (b : List ℕ) → at + length b ≤ length t → length (take at t ++ b) ≡ at + length b
-head-length t at b h = simp (length-append, length-take) (omega arith)
+head_length : (t : List ℕ) (at : ℕ) (b : List ℕ) → at + length b ≤ length t → length (take at t ++ b) ≡ at + length b
+head_length t at b h = simp (length-append, length-take) (omega arith)
 
 -- one byte more
 over-more : (t : List ℕ) (at : ℕ) (b : List ℕ) (x : ℕ) → at + length b < length t → set (over t at b) (at + length b) x ≡ over t at (b ++ (x ∷ []))
@@ -29,7 +29,7 @@ unfolding over
 over-more t at b x h =
     let e : suc (at + length b) ≡ at + length (b ++ (x ∷ [])) = simp length-append (omega arith) in
     ap (λ (l : List ℕ). set l (at + length b) x) (sym (append_assoc (take at t) b (drop (at + length b) t)) ∙ ap (λ (l : List ℕ). (take at t ++ b) ++ l) (drop-cons t (at + length b) 0 h))
-    ∙ set_at (take at t ++ b) (get_or t (at + length b) 0) (drop (suc (at + length b)) t) x (at + length b) (head-length t at b (omega arith))
+    ∙ set_at (take at t ++ b) (get_or t (at + length b) 0) (drop (suc (at + length b)) t) x (at + length b) (head_length t at b (omega arith))
     ∙ append_assoc (take at t) b (x ∷ drop (suc (at + length b)) t)
     ∙ ap (λ (l : List ℕ). take at t ++ l) (sym (append_assoc b (x ∷ []) (drop (suc (at + length b)) t)) ∙ ap (λ (n : ℕ). (b ++ (x ∷ [])) ++ drop n t) e)
 
@@ -39,7 +39,7 @@ unfolding over
 over-join t at b d h =
     let n = at + length b in
     let p = take at t ++ b in
-    let l : length p ≡ n = head-length t at b (omega arith) in
+    let l : length p ≡ n = head_length t at b (omega arith) in
     let e : n + length d ≡ at + length (b ++ d) = simp length-append (omega arith) in
     let a : take at t ++ (b ++ drop n t) ≡ p ++ drop n t = sym (append_assoc (take at t) b (drop n t)) in
     let f : take n (p ++ drop n t) ≡ p = take_at p (drop n t) n l in
@@ -57,9 +57,9 @@ pub put_full : (t : List ℕ) (at : ℕ) (b : List ℕ) → length t < at + leng
 unfolding put_at
 put_full t at b h = sym (simp (lt-leb (at + length b) (length t) h))
 
-pub put-fits : (t : List ℕ) (at : ℕ) (b s : List ℕ) (r : ℕ) → at + length b ≤ length t → r ≡ at + length b → s ≡ over t at b → written s r ≡ put_at t at b
+pub put_fits : (t : List ℕ) (at : ℕ) (b s : List ℕ) (r : ℕ) → at + length b ≤ length t → r ≡ at + length b → s ≡ over t at b → written s r ≡ put_at t at b
 unfolding put_at
-put-fits t at b s r h e f = rw (le-leb (at + length b) (length t) h) (λ i. written (f i) (e i))
+put_fits t at b s r h e f = rw (le-leb (at + length b) (length t) h) (λ i. written (f i) (e i))
 
 -- ---- bytes as they are
 
@@ -71,8 +71,8 @@ copy_more t at b i s h l e =
     (λ j. set (e j) (at + sym z j) (get_or b i 0)) ∙ over-more t at (take i b) (get_or b i 0) g
     ∙ ap (over t at) (sym (take-suc b i 0 l) ∙ ap (λ (n : ℕ). take n b) (sym (add-one i)))
 
-pub copy-all : (t : List ℕ) (at : ℕ) (b : List ℕ) (i : ℕ) (s : List ℕ) → length b ≤ i → s ≡ over t at (take i b) → s ≡ over t at b
-copy-all t at b i s h e = e ∙ ap (over t at) (take_all i b h)
+pub copy_all : (t : List ℕ) (at : ℕ) (b : List ℕ) (i : ℕ) (s : List ℕ) → length b ≤ i → s ≡ over t at (take i b) → s ≡ over t at b
+copy_all t at b i s h e = e ∙ ap (over t at) (take_all i b h)
 
 pub byte_put : (t : List ℕ) (at x : ℕ) → at < length t → set t at x ≡ over t at (x ∷ [])
 byte_put t at x h =
@@ -81,27 +81,27 @@ byte_put t at x h =
 
 -- ---- hexadecimal
 
-hex-append : (a b : List ℕ) → hexOf (a ++ b) ≡ hexOf a ++ hexOf b
-unfolding hexOf
+hex-append : (a b : List ℕ) → hex_of (a ++ b) ≡ hex_of a ++ hex_of b
+unfolding hex_of
 hex-append [] b = refl
-hex-append (x ∷ a) b = ap (λ (l : List ℕ). hexDigit (x / 16) ∷ hexDigit (x % 16) ∷ l) (hex-append a b)
+hex-append (x ∷ a) b = ap (λ (l : List ℕ). hex_digit (x / 16) ∷ hex_digit (x % 16) ∷ l) (hex-append a b)
 
-pub hex-length : (b : List ℕ) → length (hexOf b) ≡ 2 * length b
-unfolding hexOf
+pub hex-length : (b : List ℕ) → length (hex_of b) ≡ 2 * length b
+unfolding hex_of
 hex-length [] = refl
 hex-length (x ∷ b) = omega (arith, hex-length b)
 
-pub hex-none : (t : List ℕ) (at : ℕ) → over t at (hexOf []) ≡ t
-unfolding hexOf
+pub hex-none : (t : List ℕ) (at : ℕ) → over t at (hex_of []) ≡ t
+unfolding hex_of
 hex-none t at = over_none t at
 
 pub hex-more : (t : List ℕ) (at : ℕ) (b : List ℕ) (i : ℕ) (s : List ℕ) (u v : ℕ) → at + 2 * length b ≤ length t → i < length b
-    → s ≡ over t at (hexOf (take i b)) → u ≡ hexDigit (get_or b i 0 / 16) → v ≡ hexDigit (get_or b i 0 % 16)
-    → set (set s (at + 2 * i) u) (at + 2 * i + 1) v ≡ over t at (hexOf (take (i + 1) b))
-unfolding hexOf
+    → s ≡ over t at (hex_of (take i b)) → u ≡ hex_digit (get_or b i 0 / 16) → v ≡ hex_digit (get_or b i 0 % 16)
+    → set (set s (at + 2 * i) u) (at + 2 * i + 1) v ≡ over t at (hex_of (take (i + 1) b))
+unfolding hex_of
 hex-more t at b i s u v h l e eu ev =
     let x = get_or b i 0 in
-    let w = hexOf (take i b) in
+    let w = hex_of (take i b) in
     let z : length w ≡ 2 * i = hex-length (take i b) ∙ ap (λ (n : ℕ). 2 * n) (length-take-le i b (omega arith)) in
     let y : length (w ++ (u ∷ [])) ≡ 2 * i + 1 = simp length-append (omega arith) in
     let p : at + length (w ++ (u ∷ [])) ≡ at + 2 * i + 1 = omega arith in
@@ -110,34 +110,34 @@ hex-more t at b i s u v h l e eu ev =
     ∙ ap (λ (n : ℕ). set (over t at (w ++ (u ∷ []))) n v) (sym p)
     ∙ over-more t at (w ++ (u ∷ [])) v (omega arith)
     ∙ ap (over t at) (append_assoc w (u ∷ []) (v ∷ []) ∙ (λ j. w ++ (eu j ∷ ev j ∷ [])) ∙ sym (hex-append (take i b) (x ∷ []))
-    ∙ ap hexOf (sym (take-suc b i 0 l) ∙ ap (λ (n : ℕ). take n b) (sym (add-one i))))
+    ∙ ap hex_of (sym (take-suc b i 0 l) ∙ ap (λ (n : ℕ). take n b) (sym (add-one i))))
 
-pub hex-all : (t : List ℕ) (at : ℕ) (b : List ℕ) (i : ℕ) (s : List ℕ) → length b ≤ i → s ≡ over t at (hexOf (take i b)) → s ≡ over t at (hexOf b)
-hex-all t at b i s h e = e ∙ ap (λ (l : List ℕ). over t at (hexOf l)) (take_all i b h)
+pub hex-all : (t : List ℕ) (at : ℕ) (b : List ℕ) (i : ℕ) (s : List ℕ) → length b ≤ i → s ≡ over t at (hex_of (take i b)) → s ≡ over t at (hex_of b)
+hex-all t at b i s h e = e ∙ ap (λ (l : List ℕ). over t at (hex_of l)) (take_all i b h)
 
-pub hex-put : (t : List ℕ) (at : ℕ) (b s : List ℕ) → at + 2 * length b ≤ length t → s ≡ over t at (hexOf b)
-    → written s (at + 2 * length b) ≡ put_at t at (hexOf b)
-hex-put t at b s h e = put-fits t at (hexOf b) s (at + 2 * length b) (omega (arith, hex-length b)) (omega (arith, hex-length b)) e
+pub hex_put : (t : List ℕ) (at : ℕ) (b s : List ℕ) → at + 2 * length b ≤ length t → s ≡ over t at (hex_of b)
+    → written s (at + 2 * length b) ≡ put_at t at (hex_of b)
+hex_put t at b s h e = put_fits t at (hex_of b) s (at + 2 * length b) (omega (arith, hex-length b)) (omega (arith, hex-length b)) e
 
-pub hex-full : (t : List ℕ) (at : ℕ) (b : List ℕ) → length t < at + 2 * length b → written t at ≡ put_at t at (hexOf b)
-hex-full t at b h = put_full t at (hexOf b) (omega (arith, hex-length b))
+pub hex_full : (t : List ℕ) (at : ℕ) (b : List ℕ) → length t < at + 2 * length b → written t at ≡ put_at t at (hex_of b)
+hex_full t at b h = put_full t at (hex_of b) (omega (arith, hex-length b))
 
 -- ---- decimal
 
 -- a last digit
-glyph-small : (d : ℕ) → d < 10 → hex_digit_ascii d ≡ 48 + d
-glyph-small d h = simp (lt-ltb d 10 h)
+glyph_small : (d : ℕ) → d < 10 → hex_digit_ascii d ≡ 48 + d
+glyph_small d h = simp (lt-ltb d 10 h)
 
 -- the fewest digits of a number are those of its decimal form
-digits-within : (k n most : ℕ) → IsDigitCount 10 1 n k → n < most → last_digits 10 k n ≡ decimalWithin most n
-unfolding decimalWithin
-digits-within zero n most f h = absurd (omega (arith, f.0))
-digits-within (suc k) n zero f h = absurd (omega arith)
-digits-within (suc zero) n (suc most) f h =
+digits_within : (k n most : ℕ) → IsDigitCount 10 1 n k → n < most → last_digits 10 k n ≡ decimal_within most n
+unfolding decimal_within
+digits_within zero n most f h = absurd (omega (arith, f.0))
+digits_within (suc k) n zero f h = absurd (omega arith)
+digits_within (suc zero) n (suc most) f h =
     let l : n < 10 = f.1 in
     let e : n % 10 ≡ n = omega arith in
-    simp (lt-ltb n 10 l) (ap (λ (d : ℕ). d ∷ []) (glyph-small (n % 10) (omega arith) ∙ ap (λ (d : ℕ). 48 + d) e))
-digits-within (suc (suc k)) n (suc most) f h =
+    simp (lt-ltb n 10 l) (ap (λ (d : ℕ). d ∷ []) (glyph_small (n % 10) (omega arith) ∙ ap (λ (d : ℕ). 48 + d) e))
+digits_within (suc (suc k)) n (suc most) f h =
     let p : 10 ^ suc k ≡ 10 ^ k * 10 = pow-suc 10 k in
     let q : 10 ^ suc (suc k) ≡ 10 ^ suc k * 10 = pow-suc 10 (suc k) in
     let o : 1 ≤ 10 ^ k = one-le-pow k 10 (omega arith) in
@@ -146,11 +146,11 @@ digits-within (suc (suc k)) n (suc most) f h =
     let t : 10 ≤ n = omega arith in
     let g : IsDigitCount 10 1 (n / 10) (suc k) = (omega arith, omega arith, λ _. simp unary_clauses (omega arith)) in
     simp (le-ltb n 10 t)
-    (λ i. digits-within (suc k) (n / 10) most g (omega arith) i ++ (glyph-small (n % 10) (omega arith) i ∷ []))
+    (λ i. digits_within (suc k) (n / 10) most g (omega arith) i ++ (glyph_small (n % 10) (omega arith) i ∷ []))
 
-pub decimal-digits : (k n : ℕ) → IsDigitCount 10 1 n k → last_digits 10 k n ≡ decimalOf n
-decimal-digits k n f = digits-within k n (suc n) f (omega arith)
+pub decimal_digits : (k n : ℕ) → IsDigitCount 10 1 n k → last_digits 10 k n ≡ decimal_of n
+decimal_digits k n f = digits_within k n (suc n) f (omega arith)
 
-pub decimal-put : (t : List ℕ) (at k n : ℕ) (l s : List ℕ) (r : ℕ) → IsDigitCount 10 1 n k → l ≡ last_digits 10 k n → written s r ≡ put_at t at l
-    → written s r ≡ put_at t at (decimalOf n)
-decimal-put t at k n l s r f e p = p ∙ ap (put_at t at) (e ∙ decimal-digits k n f)
+pub decimal_put : (t : List ℕ) (at k n : ℕ) (l s : List ℕ) (r : ℕ) → IsDigitCount 10 1 n k → l ≡ last_digits 10 k n → written s r ≡ put_at t at l
+    → written s r ≡ put_at t at (decimal_of n)
+decimal_put t at k n l s r f e p = p ∙ ap (put_at t at) (e ∙ decimal_digits k n f)

@@ -8,8 +8,8 @@ use native.Mathlib.Omega.{arith}
 use borrow.Author.Tests.{leb-true, ltb-true, eqb-true, ne_eqb, lt-ltb}
 use lib.Dec.{leb, ltb, eqb}
 use lib.ListN.{length}
-use Rattle.lines.specs.Words.{grow, words, first, every, odd, same, between, decimal, hexValue, hexDigit, hexBytes, packFrom, packed}
-use Rattle.lines.specs.Read.{highFrom}
+use Rattle.lines.specs.Words.{grow, words, first, every, odd, same, between, decimal, hex_value, hex_digit, hex_bytes, pack_from, packed}
+use Rattle.lines.specs.Read.{high_from}
 
 pub and_left : (a b : Bool) → (a && b) ≡ true → a ≡ true
 and_left true b e = refl
@@ -19,8 +19,8 @@ pub and_right : (a b : Bool) → (a && b) ≡ true → b ≡ true
 and_right true b e = e
 and_right false b e = absurd (let z : ◌≡◌ {A = ℕ} 0 1 = cc in omega arith)
 
-pub between-low : (low high b : ℕ) → between low high b ≡ true → low ≤ b
-between-low low high b e = leb-true low b (and_left (leb low b) (leb b high) e)
+pub between_low : (low high b : ℕ) → between low high b ≡ true → low ≤ b
+between_low low high b e = leb-true low b (and_left (leb low b) (leb b high) e)
 
 -- ---- words, with a byte more at the end
 
@@ -28,10 +28,10 @@ abbrev some_word : List (List ℕ) → Type 0
 some_word [] = ⊥
 some_word (w ∷ ws) = Unit {0}
 
-words-some : (p : List ℕ) → some_word (words p)
+words_some : (p : List ℕ) → some_word (words p)
 unfolding words
-words-some [] = tt
-words-some (b ∷ p) = go (eqb b 32) (words p)
+words_some [] = tt
+words_some (b ∷ p) = go (eqb b 32) (words p)
   where
     go : (t : Bool) (l : List (List ℕ)) → some_word (cond t ([] ∷ l) (grow b l))
     go true l = tt
@@ -39,11 +39,11 @@ words-some (b ∷ p) = go (eqb b 32) (words p)
     go false (w ∷ ws) = tt
 
 -- a space begins a word
-pub words-space : (p : List ℕ) → words (p ++ (32 ∷ [])) ≡ words p ++ ([] ∷ [])
+pub words_space : (p : List ℕ) → words (p ++ (32 ∷ [])) ≡ words p ++ ([] ∷ [])
 unfolding words
-words-space [] = refl
-words-space (b ∷ p) =
-    ap (λ (l : List (List ℕ)). cond (eqb b 32) ([] ∷ l) (grow b l)) (words-space p) ∙ go (eqb b 32) (words p) (words-some p)
+words_space [] = refl
+words_space (b ∷ p) =
+    ap (λ (l : List (List ℕ)). cond (eqb b 32) ([] ∷ l) (grow b l)) (words_space p) ∙ go (eqb b 32) (words p) (words_some p)
   where
     go : (t : Bool) (l : List (List ℕ)) → some_word l
         → cond t ([] ∷ (l ++ ([] ∷ []))) (grow b (l ++ ([] ∷ []))) ≡ cond t ([] ∷ l) (grow b l) ++ ([] ∷ [])
@@ -52,34 +52,34 @@ words-space (b ∷ p) =
     go false (w ∷ ws) f = refl
 
 -- the last word with a byte more
-unfoldable on-last : ℕ → List (List ℕ) → List (List ℕ)
-on-last b [] = (b ∷ []) ∷ []
-on-last b (w ∷ []) = (w ++ (b ∷ [])) ∷ []
-on-last b (w ∷ v ∷ ws) = w ∷ on-last b (v ∷ ws)
+unfoldable on_last : ℕ → List (List ℕ) → List (List ℕ)
+on_last b [] = (b ∷ []) ∷ []
+on_last b (w ∷ []) = (w ++ (b ∷ [])) ∷ []
+on_last b (w ∷ v ∷ ws) = w ∷ on_last b (v ∷ ws)
 
-on-last-end : (b : ℕ) (ws : List (List ℕ)) (w : List ℕ) → on-last b (ws ++ (w ∷ [])) ≡ ws ++ ((w ++ (b ∷ [])) ∷ [])
-unfolding on-last
-on-last-end b [] w = refl
-on-last-end b (v ∷ []) w = refl
-on-last-end b (v ∷ u ∷ ws) w = ap (λ (l : List (List ℕ)). v ∷ l) (on-last-end b (u ∷ ws) w)
+on_last_end : (b : ℕ) (ws : List (List ℕ)) (w : List ℕ) → on_last b (ws ++ (w ∷ [])) ≡ ws ++ ((w ++ (b ∷ [])) ∷ [])
+unfolding on_last
+on_last_end b [] w = refl
+on_last_end b (v ∷ []) w = refl
+on_last_end b (v ∷ u ∷ ws) w = ap (λ (l : List (List ℕ)). v ∷ l) (on_last_end b (u ∷ ws) w)
 
 -- any other byte goes to the last word
-words_last : (b : ℕ) → (b ≡ 32 → ⊥) → (p : List ℕ) → words (p ++ (b ∷ [])) ≡ on-last b (words p)
-unfolding words on-last
+words_last : (b : ℕ) → (b ≡ 32 → ⊥) → (p : List ℕ) → words (p ++ (b ∷ [])) ≡ on_last b (words p)
+unfolding words on_last
 words_last b h [] = simp (ne_eqb b 32 h)
 words_last b h (c ∷ p) =
-    ap (λ (l : List (List ℕ)). cond (eqb c 32) ([] ∷ l) (grow c l)) (words_last b h p) ∙ go (eqb c 32) (words p) (words-some p)
+    ap (λ (l : List (List ℕ)). cond (eqb c 32) ([] ∷ l) (grow c l)) (words_last b h p) ∙ go (eqb c 32) (words p) (words_some p)
   where
     go : (t : Bool) (l : List (List ℕ)) → some_word l
-        → cond t ([] ∷ on-last b l) (grow c (on-last b l)) ≡ on-last b (cond t ([] ∷ l) (grow c l))
+        → cond t ([] ∷ on_last b l) (grow c (on_last b l)) ≡ on_last b (cond t ([] ∷ l) (grow c l))
     go t [] f = absurd f
     go true (w ∷ ws) f = refl
     go false (w ∷ []) f = refl
     go false (w ∷ v ∷ ws) f = refl
 
-pub words-letter : (b : ℕ) → (b ≡ 32 → ⊥) → (p : List ℕ) (ws : List (List ℕ)) (w : List ℕ) → words p ≡ ws ++ (w ∷ [])
+pub words_letter : (b : ℕ) → (b ≡ 32 → ⊥) → (p : List ℕ) (ws : List (List ℕ)) (w : List ℕ) → words p ≡ ws ++ (w ∷ [])
     → words (p ++ (b ∷ [])) ≡ ws ++ ((w ++ (b ∷ [])) ∷ [])
-words-letter b h p ws w e = words_last b h p ∙ ap (on-last b) e ∙ on-last-end b ws w
+words_letter b h p ws w e = words_last b h p ∙ ap (on_last b) e ∙ on_last_end b ws w
 
 -- ---- tests of a word with a byte more
 
@@ -101,14 +101,14 @@ unfolding odd
 odd-more [] b = refl
 odd-more (c ∷ w) b = ap not (odd-more w b)
 
-pub same-eq : (w v : List ℕ) → same w v ≡ true → w ≡ v
+pub same_eq : (w v : List ℕ) → same w v ≡ true → w ≡ v
 unfolding same
-same-eq [] [] e = refl
-same-eq [] (c ∷ v) e = absurd (let z : ◌≡◌ {A = ℕ} 0 1 = cc in omega arith)
-same-eq (b ∷ w) [] e = absurd (let z : ◌≡◌ {A = ℕ} 0 1 = cc in omega arith)
-same-eq (b ∷ w) (c ∷ v) e =
+same_eq [] [] e = refl
+same_eq [] (c ∷ v) e = absurd (let z : ◌≡◌ {A = ℕ} 0 1 = cc in omega arith)
+same_eq (b ∷ w) [] e = absurd (let z : ◌≡◌ {A = ℕ} 0 1 = cc in omega arith)
+same_eq (b ∷ w) (c ∷ v) e =
     let h : b ≡ c = eqb-true b c (and_left (eqb b c) (same w v) e) in
-    let t : w ≡ v = same-eq w v (and_right (eqb b c) (same w v) e) in
+    let t : w ≡ v = same_eq w v (and_right (eqb b c) (same w v) e) in
     λ i. h i ∷ t i
 
 -- ---- numbers and pages with a digit more
@@ -118,30 +118,30 @@ unfolding decimal
 decimal-more n [] b = refl
 decimal-more n (c ∷ w) b = decimal-more (n * 10 + (c - 48)) w b
 
-pub high-more : (h : ℕ) (w : List ℕ) (b : ℕ) → highFrom h (w ++ (b ∷ [])) ≡ hexValue b
-unfolding highFrom
+pub high-more : (h : ℕ) (w : List ℕ) (b : ℕ) → high_from h (w ++ (b ∷ [])) ≡ hex_value b
+unfolding high_from
 high-more h [] b = refl
-high-more h (c ∷ w) b = high-more (hexValue c) w b
+high-more h (c ∷ w) b = high-more (hex_value c) w b
 
-pub high-below : (h : ℕ) (w : List ℕ) → h < 16 → every hexDigit w ≡ true → highFrom h w < 16
-unfolding highFrom every
+pub high-below : (h : ℕ) (w : List ℕ) → h < 16 → every hex_digit w ≡ true → high_from h w < 16
+unfolding high_from every
 high-below h [] l e = l
 high-below h (c ∷ w) l e =
-    high-below (hexValue c) w (ltb-true (hexValue c) 16 (and_left (hexDigit c) (every hexDigit w) e)) (and_right (hexDigit c) (every hexDigit w) e)
+    high-below (hex_value c) w (ltb-true (hex_value c) 16 (and_left (hex_digit c) (every hex_digit w) e)) (and_right (hex_digit c) (every hex_digit w) e)
 
 -- with a second digit a byte is whole
 pub hex-more : (h : ℕ) (w : List ℕ) (b : ℕ)
-    → cond (odd w) (hexBytes w ++ ((highFrom h w * 16 + hexValue b) ∷ [])) (hexBytes w) ≡ hexBytes (w ++ (b ∷ []))
-unfolding hexBytes odd highFrom
+    → cond (odd w) (hex_bytes w ++ ((high_from h w * 16 + hex_value b) ∷ [])) (hex_bytes w) ≡ hex_bytes (w ++ (b ∷ []))
+unfolding hex_bytes odd high_from
 hex-more h [] b = refl
 hex-more h (a ∷ []) b = refl
 hex-more h (a ∷ c ∷ w) b =
-    go (odd w) ∙ ap (λ (l : List ℕ). (hexValue a * 16 + hexValue c) ∷ l) (hex-more (hexValue c) w b)
+    go (odd w) ∙ ap (λ (l : List ℕ). (hex_value a * 16 + hex_value c) ∷ l) (hex-more (hex_value c) w b)
   where
     go : (t : Bool)
-        → cond (not (not t)) ((hexValue a * 16 + hexValue c) ∷ (hexBytes w ++ ((highFrom (hexValue c) w * 16 + hexValue b) ∷ [])))
-        ((hexValue a * 16 + hexValue c) ∷ hexBytes w)
-        ≡ (hexValue a * 16 + hexValue c) ∷ cond t (hexBytes w ++ ((highFrom (hexValue c) w * 16 + hexValue b) ∷ [])) (hexBytes w)
+        → cond (not (not t)) ((hex_value a * 16 + hex_value c) ∷ (hex_bytes w ++ ((high_from (hex_value c) w * 16 + hex_value b) ∷ [])))
+        ((hex_value a * 16 + hex_value c) ∷ hex_bytes w)
+        ≡ (hex_value a * 16 + hex_value c) ∷ cond t (hex_bytes w ++ ((high_from (hex_value c) w * 16 + hex_value b) ∷ [])) (hex_bytes w)
     go true = refl
     go false = refl
 
@@ -150,15 +150,15 @@ hex-more h (a ∷ c ∷ w) b =
 abbrev pub small : List ℕ → Type 0
 small w = every (λ b. ltb b 256) w ≡ true
 
-small-head : (b : ℕ) (w : List ℕ) → small (b ∷ w) → b < 256
+small_head : (b : ℕ) (w : List ℕ) → small (b ∷ w) → b < 256
 unfolding every
-small-head b w e = ltb-true b 256 (and_left (ltb b 256) (every (λ b. ltb b 256) w) e)
+small_head b w e = ltb-true b 256 (and_left (ltb b 256) (every (λ b. ltb b 256) w) e)
 
 small-rest : (b : ℕ) (w : List ℕ) → small (b ∷ w) → small w
 unfolding every
 small-rest b w e = and_right (ltb b 256) (every (λ b. ltb b 256) w) e
 
--- of bytes, the first word is of bytes: `packed-injective` tells it by its number
+-- of bytes, the first word is of bytes: `packed_injective` tells it by its number
 pub first_small : (p : List ℕ) → small p → small (first (words p))
 unfolding words every
 first_small [] s = refl
@@ -166,72 +166,72 @@ first_small (b ∷ p) s = go (eqb b 32) (words p) (first_small p (small-rest b p
   where
     go : (t : Bool) (l : List (List ℕ)) → small (first l) → small (first (cond t ([] ∷ l) (grow b l)))
     go true l f = refl
-    go false [] f = ap (λ (u : Bool). u && true) (lt-ltb b 256 (small-head b p s))
-    go false (w ∷ ws) f = λ i. lt-ltb b 256 (small-head b p s) i && f i
+    go false [] f = ap (λ (u : Bool). u && true) (lt-ltb b 256 (small_head b p s))
+    go false (w ∷ ws) f = λ i. lt-ltb b 256 (small_head b p s) i && f i
 
-pub pack-more : (n : ℕ) (w : List ℕ) (b : ℕ) → packFrom n (w ++ (b ∷ [])) ≡ packFrom n w * 256 + b
-unfolding packFrom
-pack-more n [] b = refl
-pack-more n (c ∷ w) b = pack-more (n * 256 + c) w b
+pub pack_more : (n : ℕ) (w : List ℕ) (b : ℕ) → pack_from n (w ++ (b ∷ [])) ≡ pack_from n w * 256 + b
+unfolding pack_from
+pack_more n [] b = refl
+pack_more n (c ∷ w) b = pack_more (n * 256 + c) w b
 
 -- m with so many bytes after it, each 0
 unfoldable pub room : ℕ → ℕ → ℕ
 room m zero = m
 room m (suc k) = room (m * 256) k
 
-pub pack-below : (k : ℕ) (w : List ℕ) (n m : ℕ) → small w → length w ≤ k → n < m → packFrom n w < room m k
-unfolding packFrom room
-pack-below zero [] n m s l h = h
-pack-below zero (b ∷ w) n m s l h = absurd (omega arith)
-pack-below (suc k) [] n m s l h = pack-below k [] n (m * 256) s (omega arith) (omega arith)
-pack-below (suc k) (b ∷ w) n m s l h =
-    let f : b < 256 = small-head b w s in
-    pack-below k w (n * 256 + b) (m * 256) (small-rest b w s) (omega arith) (omega arith)
+pub pack_below : (k : ℕ) (w : List ℕ) (n m : ℕ) → small w → length w ≤ k → n < m → pack_from n w < room m k
+unfolding pack_from room
+pack_below zero [] n m s l h = h
+pack_below zero (b ∷ w) n m s l h = absurd (omega arith)
+pack_below (suc k) [] n m s l h = pack_below k [] n (m * 256) s (omega arith) (omega arith)
+pack_below (suc k) (b ∷ w) n m s l h =
+    let f : b < 256 = small_head b w s in
+    pack_below k w (n * 256 + b) (m * 256) (small-rest b w s) (omega arith) (omega arith)
 
-pack-above : (k : ℕ) (w : List ℕ) (n m : ℕ) → k ≤ length w → m ≤ n → room m k ≤ packFrom n w
-unfolding packFrom room
-pack-above zero [] n m l h = h
-pack-above zero (b ∷ w) n m l h = pack-above zero w (n * 256 + b) m (omega arith) (omega arith)
-pack-above (suc k) [] n m l h = absurd (omega arith)
-pack-above (suc k) (b ∷ w) n m l h = pack-above k w (n * 256 + b) (m * 256) (omega arith) (omega arith)
+pack_above : (k : ℕ) (w : List ℕ) (n m : ℕ) → k ≤ length w → m ≤ n → room m k ≤ pack_from n w
+unfolding pack_from room
+pack_above zero [] n m l h = h
+pack_above zero (b ∷ w) n m l h = pack_above zero w (n * 256 + b) m (omega arith) (omega arith)
+pack_above (suc k) [] n m l h = absurd (omega arith)
+pack_above (suc k) (b ∷ w) n m l h = pack_above k w (n * 256 + b) (m * 256) (omega arith) (omega arith)
 
 -- the longer word packs to more
-pack-longer : (w v : List ℕ) → small w → length w < length v → packFrom 1 w < packFrom 1 v
-unfolding packFrom
-pack-longer w [] s h = absurd (omega arith)
-pack-longer w (c ∷ v) s h =
-    omega (arith, pack-below (length w) w 1 2 s (omega arith) (omega arith), pack-above (length w) v (1 * 256 + c) 2 (omega arith) (omega arith))
+pack_longer : (w v : List ℕ) → small w → length w < length v → pack_from 1 w < pack_from 1 v
+unfolding pack_from
+pack_longer w [] s h = absurd (omega arith)
+pack_longer w (c ∷ v) s h =
+    omega (arith, pack_below (length w) w 1 2 s (omega arith) (omega arith), pack_above (length w) v (1 * 256 + c) 2 (omega arith) (omega arith))
 
-pack-same : (w v : List ℕ) (n m : ℕ) → small w → small v → length w ≡ length v → packFrom n w ≡ packFrom m v → (n ≡ m) × (w ≡ v)
-unfolding packFrom
-pack-same [] [] n m s t l e = (e, refl)
-pack-same [] (c ∷ v) n m s t l e = absurd (omega arith)
-pack-same (b ∷ w) [] n m s t l e = absurd (omega arith)
-pack-same (b ∷ w) (c ∷ v) n m s t l e =
-    let f : b < 256 = small-head b w s in
-    let g : c < 256 = small-head c v t in
-    let r = pack-same w v (n * 256 + b) (m * 256 + c) (small-rest b w s) (small-rest c v t) (omega arith) e in
+pack_same : (w v : List ℕ) (n m : ℕ) → small w → small v → length w ≡ length v → pack_from n w ≡ pack_from m v → (n ≡ m) × (w ≡ v)
+unfolding pack_from
+pack_same [] [] n m s t l e = (e, refl)
+pack_same [] (c ∷ v) n m s t l e = absurd (omega arith)
+pack_same (b ∷ w) [] n m s t l e = absurd (omega arith)
+pack_same (b ∷ w) (c ∷ v) n m s t l e =
+    let f : b < 256 = small_head b w s in
+    let g : c < 256 = small_head c v t in
+    let r = pack_same w v (n * 256 + b) (m * 256 + c) (small-rest b w s) (small-rest c v t) (omega arith) e in
     let q : n * 256 + b ≡ m * 256 + c = r.0 in
     let h : b ≡ c = omega arith in
     let k : w ≡ v = r.1 in
     (omega arith, λ i. h i ∷ k i)
 
-packed-short : (w : List ℕ) → (packed w ≡ 0 → ⊥) → packed w ≡ packFrom 1 w
+packed-short : (w : List ℕ) → (packed w ≡ 0 → ⊥) → packed w ≡ pack_from 1 w
 unfolding packed
 packed-short w h = go (leb (length w) 7) refl
   where
-    go : (t : Bool) → leb (length w) 7 ≡ t → packed w ≡ packFrom 1 w
+    go : (t : Bool) → leb (length w) 7 ≡ t → packed w ≡ pack_from 1 w
     go true e = simp e
     go false e = absurd (h (simp e))
 
 -- no two words of at most 7 bytes pack alike, and a longer one packs to 0
-pub packed-injective : (w v : List ℕ) → small w → small v → packed w ≡ packed v → (packed v ≡ 0 → ⊥) → w ≡ v
-packed-injective w v s t e h = go (dec_lt (length w) (length v)) (dec_lt (length v) (length w))
+pub packed_injective : (w v : List ℕ) → small w → small v → packed w ≡ packed v → (packed v ≡ 0 → ⊥) → w ≡ v
+packed_injective w v s t e h = go (dec_lt (length w) (length v)) (dec_lt (length v) (length w))
   where
-    p : packFrom 1 w ≡ packFrom 1 v
+    p : pack_from 1 w ≡ pack_from 1 v
     p = sym (packed-short w (λ z. h (sym e ∙ z))) ∙ e ∙ packed-short v h
 
     go : Dec (length w < length v) → Dec (length v < length w) → w ≡ v
-    go (yes a) b = absurd (omega (arith, p, pack-longer w v s a))
-    go (no a) (yes b) = absurd (omega (arith, p, pack-longer v w t b))
-    go (no a) (no b) = (pack-same w v 1 1 s t (omega arith) p).1
+    go (yes a) b = absurd (omega (arith, p, pack_longer w v s a))
+    go (no a) (yes b) = absurd (omega (arith, p, pack_longer v w t b))
+    go (no a) (no b) = (pack_same w v 1 1 s t (omega arith) p).1

@@ -15,49 +15,49 @@ pub data Asked : Type 0 where
   -- a line of another form
   other : Asked
 
-abbrev pub configOf : Option ℕ → Option ℕ → Option ℕ → Option ℕ → Option ℕ → Asked
-configOf none n k t f = other
-configOf (some m) none k t f = other
-configOf (some m) (some n) none t f = other
-configOf (some m) (some n) (some k) none f = other
-configOf (some m) (some n) (some k) (some t) none = other
-configOf (some m) (some n) (some k) (some t) (some f) = config m n k t f
+abbrev pub config_of : Option ℕ → Option ℕ → Option ℕ → Option ℕ → Option ℕ → Asked
+config_of none n k t f = other
+config_of (some m) none k t f = other
+config_of (some m) (some n) none t f = other
+config_of (some m) (some n) (some k) none f = other
+config_of (some m) (some n) (some k) (some t) none = other
+config_of (some m) (some n) (some k) (some t) (some f) = config m n k t f
 
 abbrev pub read_of : Option ℕ → Asked
 read_of none = other
 read_of (some c) = read c
 
-abbrev pub depositOf : Option ℕ → Option (List ℕ) → Asked
-depositOf none page = other
-depositOf (some c) none = other
-depositOf (some c) (some page) = deposit c page
+abbrev pub deposit_of : Option ℕ → Option (List ℕ) → Asked
+deposit_of none page = other
+deposit_of (some c) none = other
+deposit_of (some c) (some page) = deposit c page
 
 abbrev pub word : List (List ℕ) → ℕ → List ℕ
 word ws i = get_or ws i []
 
 -- each form has so many words, the first one too
-unfoldable pub configAsked : List (List ℕ) → Asked
-configAsked ws =
+unfoldable pub config_asked : List (List ℕ) → Asked
+config_asked ws =
     cond (eqb (length ws) 6)
-    (configOf (number_of (word ws 1)) (number_of (word ws 2)) (number_of (word ws 3)) (number_of (word ws 4)) (number_of (word ws 5)))
+    (config_of (number_of (word ws 1)) (number_of (word ws 2)) (number_of (word ws 3)) (number_of (word ws 4)) (number_of (word ws 5)))
     other
 
-unfoldable pub readAsked : List (List ℕ) → Asked
-readAsked ws = cond (eqb (length ws) 2) (read_of (number_of (word ws 1))) other
+unfoldable pub read_asked : List (List ℕ) → Asked
+read_asked ws = cond (eqb (length ws) 2) (read_of (number_of (word ws 1))) other
 
-unfoldable pub depositAsked : List (List ℕ) → Asked
-depositAsked ws = cond (eqb (length ws) 3) (depositOf (number_of (word ws 1)) (page_of (word ws 2))) other
+unfoldable pub deposit_asked : List (List ℕ) → Asked
+deposit_asked ws = cond (eqb (length ws) 3) (deposit_of (number_of (word ws 1)) (page_of (word ws 2))) other
 
 -- the first word says which form it is
 unfoldable pub asked : List (List ℕ) → Asked
 asked ws =
-    cond (same (first ws) (ascii "config")) (configAsked ws)
-    (cond (same (first ws) (ascii "read")) (readAsked ws)
-    (cond (same (first ws) (ascii "deposit")) (depositAsked ws) other))
+    cond (same (first ws) (ascii "config")) (config_asked ws)
+    (cond (same (first ws) (ascii "read")) (read_asked ws)
+    (cond (same (first ws) (ascii "deposit")) (deposit_asked ws) other))
 
 -- what the bytes of a line ask for
-unfoldable pub standLine : List ℕ → Asked
-standLine p = asked (words p)
+unfoldable pub stand_line : List ℕ → Asked
+stand_line p = asked (words p)
 
 -- as the code hands it on: a page stands at the front of the slice
 abbrev pub Asks : Asked → List ℕ → Command → Type 0
@@ -87,27 +87,27 @@ number l i = get_or l.numbers i 0
 abbrev pub is_number : Line → ℕ → Bool
 is_number l i = ltb (number l i) limit
 
-abbrev pub configFrom : Line → Command
-configFrom l =
+abbrev pub config_from : Line → Command
+config_from l =
     cond (eqb l.words 6 && (is_number l 0 && (is_number l 1 && (is_number l 2 && (is_number l 3 && is_number l 4)))))
     (Command.Config (number l 0) (number l 1) (number l 2) (number l 3) (number l 4))
     Command.Other
 
-abbrev pub readFrom : Line → Command
-readFrom l = cond (eqb l.words 2 && is_number l 0) (Command.Read (number l 0)) Command.Other
+abbrev pub read_from : Line → Command
+read_from l = cond (eqb l.words 2 && is_number l 0) (Command.Read (number l 0)) Command.Other
 
-abbrev pub depositOr : ℕ → Page → Command
-depositOr c (Page.Bytes n) = Command.Deposit c n
-depositOr c Page.Nothing = Command.Other
+abbrev pub deposit_or : ℕ → Page → Command
+deposit_or c (Page.Bytes n) = Command.Deposit c n
+deposit_or c Page.Nothing = Command.Other
 
-abbrev pub depositFrom : Line → Command
-depositFrom l = cond (eqb l.words 3 && is_number l 0) (depositOr (number l 0) l.page) Command.Other
+abbrev pub deposit_from : Line → Command
+deposit_from l = cond (eqb l.words 3 && is_number l 0) (deposit_or (number l 0) l.page) Command.Other
 
 unfoldable pub asked_of : Line → Command
 asked_of l =
-    cond (eqb l.name (packed (ascii "config"))) (configFrom l)
-    (cond (eqb l.name (packed (ascii "read"))) (readFrom l)
-    (cond (eqb l.name (packed (ascii "deposit"))) (depositFrom l) Command.Other))
+    cond (eqb l.name (packed (ascii "config"))) (config_from l)
+    (cond (eqb l.name (packed (ascii "read"))) (read_from l)
+    (cond (eqb l.name (packed (ascii "deposit"))) (deposit_from l) Command.Other))
 
 -- with the bytes of a page, which stand at the front of the slice
 abbrev pub given : Command → List ℕ → Asked

@@ -19,23 +19,23 @@ put_at text at b = cond (leb (at + length b) (length text)) (written (over text 
 
 -- a line is put at the front of a text, and the answer is its length; where it does not fit, the text stays as it was, and the answer is 0, which is
 -- no line's length
-unfoldable pub putLine : List ℕ → List ℕ → Written
-putLine text line = cond (leb (length line) (length text)) (written (line ++ drop (length line) text) (length line)) (written text 0)
+unfoldable pub put_line : List ℕ → List ℕ → Written
+put_line text line = cond (leb (length line) (length text)) (written (line ++ drop (length line) text) (length line)) (written text 0)
 
 -- a number in decimal: one digit below 10, else the digits of its tenth and then its last digit; at most so many digits
-unfoldable pub decimalWithin : ℕ → ℕ → List ℕ
-decimalWithin zero n = []
-decimalWithin (suc most) n = cond (ltb n 10) ((48 + n) ∷ []) (decimalWithin most (n / 10) ++ ((48 + n % 10) ∷ []))
+unfoldable pub decimal_within : ℕ → ℕ → List ℕ
+decimal_within zero n = []
+decimal_within (suc most) n = cond (ltb n 10) ((48 + n) ∷ []) (decimal_within most (n / 10) ++ ((48 + n % 10) ∷ []))
 
 -- a number in decimal: it has no more digits than its successor counts
-abbrev pub decimalOf : ℕ → List ℕ
-decimalOf n = decimalWithin (suc n) n
+abbrev pub decimal_of : ℕ → List ℕ
+decimal_of n = decimal_within (suc n) n
 
 -- a digit in hexadecimal: `0` to `9`, `A` to `F`
-abbrev pub hexDigit : ℕ → ℕ
-hexDigit d = cond (ltb d 10) (48 + d) (55 + d)
+abbrev pub hex_digit : ℕ → ℕ
+hex_digit d = cond (ltb d 10) (48 + d) (55 + d)
 
 -- bytes in hexadecimal, two digits each
-unfoldable pub hexOf : List ℕ → List ℕ
-hexOf [] = []
-hexOf (b ∷ l) = hexDigit (b / 16) ∷ hexDigit (b % 16) ∷ hexOf l
+unfoldable pub hex_of : List ℕ → List ℕ
+hex_of [] = []
+hex_of (b ∷ l) = hex_digit (b / 16) ∷ hex_digit (b % 16) ∷ hex_of l

@@ -22,12 +22,12 @@ abbrev pub later : List (List ℕ) → List (List ℕ)
 later [] = []
 later (w ∷ ws) = ws
 
-abbrev pub lastFrom : List ℕ → List (List ℕ) → List ℕ
-lastFrom w [] = w
-lastFrom w (v ∷ ws) = lastFrom v ws
+abbrev pub last_from : List ℕ → List (List ℕ) → List ℕ
+last_from w [] = w
+last_from w (v ∷ ws) = last_from v ws
 
 abbrev pub final : List (List ℕ) → List ℕ
-final ws = lastFrom [] ws
+final ws = last_from [] ws
 
 -- ---- tests of a word
 
@@ -70,28 +70,28 @@ number_of w = cond (not (void w) && every digit w && ltb (decimal 0 w) limit) (s
 -- ---- a page: hex digits of either case, two to a byte and at least two, or the word `empty` for no bytes
 
 -- a hex digit's value; 16 for any other byte
-unfoldable pub hexValue : ℕ → ℕ
-hexValue b = cond (between 48 57 b) (b - 48) (cond (between 65 70 b) (b - 55) (cond (between 97 102 b) (b - 87) 16))
+unfoldable pub hex_value : ℕ → ℕ
+hex_value b = cond (between 48 57 b) (b - 48) (cond (between 65 70 b) (b - 55) (cond (between 97 102 b) (b - 87) 16))
 
-abbrev pub hexDigit : ℕ → Bool
-hexDigit b = ltb (hexValue b) 16
+abbrev pub hex_digit : ℕ → Bool
+hex_digit b = ltb (hex_value b) 16
 
-unfoldable pub hexBytes : List ℕ → List ℕ
-hexBytes [] = []
-hexBytes (a ∷ []) = []
-hexBytes (a ∷ b ∷ w) = (hexValue a * 16 + hexValue b) ∷ hexBytes w
+unfoldable pub hex_bytes : List ℕ → List ℕ
+hex_bytes [] = []
+hex_bytes (a ∷ []) = []
+hex_bytes (a ∷ b ∷ w) = (hex_value a * 16 + hex_value b) ∷ hex_bytes w
 
-abbrev pub emptyWord : List ℕ
-emptyWord = ascii "empty"
+abbrev pub empty_word : List ℕ
+empty_word = ascii "empty"
 
 unfoldable pub page_of : List ℕ → Option (List ℕ)
-page_of w = cond (same w emptyWord) (some []) (cond (every hexDigit w && not (odd w) && not (void w)) (some (hexBytes w)) none)
+page_of w = cond (same w empty_word) (some []) (cond (every hex_digit w && not (odd w) && not (void w)) (some (hex_bytes w)) none)
 
 -- ---- a word as one number: its bytes after a 1; 0 for a word of more than 7 bytes
 
-unfoldable pub packFrom : ℕ → List ℕ → ℕ
-packFrom n [] = n
-packFrom n (b ∷ w) = packFrom (n * 256 + b) w
+unfoldable pub pack_from : ℕ → List ℕ → ℕ
+pack_from n [] = n
+pack_from n (b ∷ w) = pack_from (n * 256 + b) w
 
 unfoldable pub packed : List ℕ → ℕ
-packed w = cond (leb (length w) 7) (packFrom 1 w) 0
+packed w = cond (leb (length w) 7) (pack_from 1 w) 0

@@ -1,6 +1,6 @@
 // What a line of `stand` asks for.
 ghost use Rattle.std.specs.Prelude.{◌≡◌};
-ghost use Rattle.lines.specs.Command.{configFrom, readFrom, depositFrom, asked_of};
+ghost use Rattle.lines.specs.Command.{config_from, read_from, deposit_from, asked_of};
 
 use crate::read::{Line, Page};
 
@@ -17,7 +17,7 @@ pub enum Command {
 
 // All words after the first are numbers: 2^32 stands for a word that is none.
 fn config(l: Line) -> Command
-    ensures { result ≡ configFrom l }
+    ensures { result ≡ config_from l }
 {
     let v = l.numbers;
     if l.words != 6 {
@@ -48,7 +48,7 @@ fn config(l: Line) -> Command
 }
 
 fn read(l: Line) -> Command
-    ensures { result ≡ readFrom l }
+    ensures { result ≡ read_from l }
 {
     let v = l.numbers;
     if l.words != 2 {
@@ -61,7 +61,7 @@ fn read(l: Line) -> Command
 }
 
 fn deposit(l: Line) -> Command
-    ensures { result ≡ depositFrom l }
+    ensures { result ≡ deposit_from l }
 {
     let v = l.numbers;
     if l.words != 3 {

@@ -1,7 +1,7 @@
 // A line of text of any length, read byte by byte: its words, as numbers, and the last one as a page.
 ghost use Rattle.std.specs.Prelude.{◌≡◌, ◌&&◌, ◌<◌, ltb, length};
-ghost use Rattle.lines.specs.Words.{between as within, hexValue};
-ghost use Rattle.lines.specs.Read.{counted, packedWith, valueWith, bytesWith, pageWith, nameFrom, numberFrom, numbersWith, begun, space_of, letterOf, next_of, nextPage, pageFrom, ended_of};
+ghost use Rattle.lines.specs.Words.{between as within, hex_value};
+ghost use Rattle.lines.specs.Read.{counted, packed_with, value_with, bytes_with, page_with, name_from, number_from, numbers_with, begun, space_of, letter_of, next_of, next_page, page_from, ended_of};
 
 // What was read of a line so far.
 #[derive(Drop)]
@@ -73,7 +73,7 @@ fn count(n: usize) -> usize
 
 // A word of so many bytes with one byte more, packed; 0 for more than 7 bytes.
 fn packed_with(word: u64, len: usize, b: u8) -> u64
-    ensures { result ≡ packedWith word len b }
+    ensures { result ≡ packed_with word len b }
 {
     if 7 <= len {
         return 0;
@@ -86,7 +86,7 @@ fn packed_with(word: u64, len: usize, b: u8) -> u64
 
 // A value with one digit more; 2^32 where it is no digit, and for all that are too big.
 fn value_with(value: u64, b: u8) -> u64
-    ensures { result ≡ valueWith value b }
+    ensures { result ≡ value_with value b }
 {
     if !between(b, 48, 57) {
         return 4294967296;
@@ -103,7 +103,7 @@ fn value_with(value: u64, b: u8) -> u64
 
 // A hex digit's value; 16 for any other byte.
 fn nibble(b: u8) -> u8
-    ensures { result ≡ hexValue b }
+    ensures { result ≡ hex_value b }
 {
     if between(b, 48, 57) {
         return b - 48;
@@ -129,7 +129,7 @@ fn hex_with(hex: bool, n: u8) -> bool
 
 // The second hex digit of a byte: the byte goes into the page where there is room.
 fn put(odd: bool, high: u8, n: u8, bytes: usize, page: &mut [u8]) -> usize
-    ensures { (result ≡ bytesWith odd high n bytes (length page.old)) × (page.new ≡ pageWith odd high n bytes page.old) }
+    ensures { (result ≡ bytes_with odd high n bytes (length page.old)) × (page.new ≡ page_with odd high n bytes page.old) }
 {
     if !odd {
         return bytes;
@@ -149,7 +149,7 @@ fn put(odd: bool, high: u8, n: u8, bytes: usize, page: &mut [u8]) -> usize
 
 // The first word is the name.
 fn name_from(words: usize, name: u64, word: u64) -> u64
-    ensures { result ≡ nameFrom words name word }
+    ensures { result ≡ name_from words name word }
 {
     if words == 1 {
         return word;
@@ -159,7 +159,7 @@ fn name_from(words: usize, name: u64, word: u64) -> u64
 
 // A word of no bytes is no number.
 fn number_from(len: usize, value: u64) -> u64
-    ensures { result ≡ numberFrom len value }
+    ensures { result ≡ number_from len value }
 {
     if len == 0 {
         return 4294967296;
@@ -169,7 +169,7 @@ fn number_from(len: usize, value: u64) -> u64
 
 // The number of the word that ended goes to its place.
 fn numbers_with(words: usize, numbers: [u64; 6], n: u64) -> [u64; 6]
-    ensures { result ≡ numbersWith words numbers n }
+    ensures { result ≡ numbers_with words numbers n }
 {
     if words < 2 {
         return numbers;
@@ -225,7 +225,7 @@ fn space(r: Reading) -> Reading
 
 // One byte more of the word under way.
 fn letter(r: Reading, b: u8, page: &mut [u8]) -> Reading
-    ensures { (result ≡ letterOf r b (length page.old)) × (page.new ≡ pageWith r.odd r.high (hexValue b) r.bytes page.old) }
+    ensures { (result ≡ letter_of r b (length page.old)) × (page.new ≡ page_with r.odd r.high (hex_value b) r.bytes page.old) }
 {
     let numbers = r.numbers;
     let word = packed_with(r.word, r.len, b);
@@ -250,7 +250,7 @@ fn letter(r: Reading, b: u8, page: &mut [u8]) -> Reading
 
 // One byte more of the line.
 pub fn next(r: Reading, b: u8, page: &mut [u8]) -> Reading
-    ensures { (result ≡ next_of r b (length page.old)) × (page.new ≡ nextPage r b page.old) }
+    ensures { (result ≡ next_of r b (length page.old)) × (page.new ≡ next_page r b page.old) }
 {
     if b == 32 {
         return space(r);
@@ -260,7 +260,7 @@ pub fn next(r: Reading, b: u8, page: &mut [u8]) -> Reading
 
 // The word under way as a page: hex digits in pairs, or `empty`.
 fn page_from(r: Reading) -> Page
-    ensures { result ≡ pageFrom r }
+    ensures { result ≡ page_from r }
 {
     if r.word == 1535139411065 {
         return Page::Bytes(0);

@@ -1,7 +1,7 @@
 // Words put into a lent slice, one after another from its front, for a line that is then written as a whole.
 ghost use Rattle.std.specs.Prelude.{◌≡◌, [], ◌∷◌, ◌+◌, ◌*◌, ◌<◌, ◌≤◌, leb, length};
-ghost use Rattle.lines.specs.Text.{over, written, put_at, putLine, decimalOf, hexDigit, hexOf};
-ghost use Rattle.lines.specs.Sentences.{spacedNumber, shown, headerLine, refusedLine, depositedLine, nothingLine, pageLine, Adds};
+ghost use Rattle.lines.specs.Text.{over, written, put_at, put_line, decimal_of, hex_digit, hex_of};
+ghost use Rattle.lines.specs.Sentences.{spaced_number, shown, header_line, refused_line, deposited_line, nothing_line, page_line, Adds};
 
 // Bytes that fit.
 fn copy(text: &mut [u8], at: usize, b: &[u8])
@@ -39,7 +39,7 @@ pub fn byte(text: &mut [u8], at: usize, b: u8) -> usize
 
 fn digit(d: u8) -> u8
     requires { d < 16 }
-    ensures { result ≡ hexDigit d }
+    ensures { result ≡ hex_digit d }
 {
     if d < 10 { 48 + d } else { 55 + d }
 }
@@ -47,7 +47,7 @@ fn digit(d: u8) -> u8
 // Two digits for each byte, which fit.
 fn spell(text: &mut [u8], at: usize, b: &[u8])
     requires { at + 2 * length b.now ≤ length text.old }
-    ensures { text.new ≡ over text.old at (hexOf b.now) }
+    ensures { text.new ≡ over text.old at (hex_of b.now) }
 {
     for i in 0..b.len() {
         let x = b[i];
@@ -58,7 +58,7 @@ fn spell(text: &mut [u8], at: usize, b: &[u8])
 
 // Bytes in hexadecimal, uppercase.
 pub fn hex(text: &mut [u8], at: usize, b: &[u8]) -> usize
-    ensures { written text.new result ≡ put_at text.old at (hexOf b.now) }
+    ensures { written text.new result ≡ put_at text.old at (hex_of b.now) }
 {
     if text.len() < at {
         return at;
@@ -73,7 +73,7 @@ pub fn hex(text: &mut [u8], at: usize, b: &[u8]) -> usize
 
 // A number in decimal, without leading zeros.
 pub fn decimal(text: &mut [u8], at: usize, x: u64) -> usize
-    ensures { written text.new result ≡ put_at text.old at (decimalOf x) }
+    ensures { written text.new result ≡ put_at text.old at (decimal_of x) }
 {
     let mut digits = [0u8; 20];
     let n = io::decimal(x, &mut digits);
@@ -82,7 +82,7 @@ pub fn decimal(text: &mut [u8], at: usize, x: u64) -> usize
 
 // A number after a space.
 fn spaced(text: &mut [u8], at: usize, x: u64) -> usize
-    ensures { Adds text.old at (spacedNumber x) text.new result }
+    ensures { Adds text.old at (spaced_number x) text.new result }
 {
     let n = byte(text, at, b' ');
     decimal(text, n, x)
@@ -100,7 +100,7 @@ fn show(text: &mut [u8], at: usize, b: &[u8]) -> usize
 
 // How many bytes a number takes after a space.
 fn width(x: u64) -> usize
-    ensures { (result ≡ length (spacedNumber x)) × (result ≤ 21) }
+    ensures { (result ≡ length (spaced_number x)) × (result ≤ 21) }
 {
     let mut digits = [0u8; 20];
     io::decimal(x, &mut digits) + 1
@@ -119,7 +119,7 @@ fn show_fits(b: &[u8], room: usize) -> bool
 
 // The measures, in front of all other lines.
 pub fn header(text: &mut [u8], m: usize, n: usize, k: usize, t: usize, f: usize) -> usize
-    ensures { written text.new result ≡ putLine text.old (headerLine m n k t f) }
+    ensures { written text.new result ≡ put_line text.old (header_line m n k t f) }
 {
     let size = 4
         + width(m as u64)
@@ -141,7 +141,7 @@ pub fn header(text: &mut [u8], m: usize, n: usize, k: usize, t: usize, f: usize)
 
 // A refusal, by its number.
 pub fn refused(text: &mut [u8], x: usize) -> usize
-    ensures { written text.new result ≡ putLine text.old (refusedLine x) }
+    ensures { written text.new result ≡ put_line text.old (refused_line x) }
 {
     if text.len() < 8 + width(x as u64) {
         return 0;
@@ -153,7 +153,7 @@ pub fn refused(text: &mut [u8], x: usize) -> usize
 
 // A deposit that ended.
 pub fn deposited(text: &mut [u8], c: usize, sequence: u32) -> usize
-    ensures { written text.new result ≡ putLine text.old (depositedLine c sequence) }
+    ensures { written text.new result ≡ put_line text.old (deposited_line c sequence) }
 {
     if text.len() < 8 + width(c as u64) + width(sequence as u64) {
         return 0;
@@ -166,7 +166,7 @@ pub fn deposited(text: &mut [u8], c: usize, sequence: u32) -> usize
 
 // A reading that found nothing.
 pub fn read_nothing(text: &mut [u8], c: usize) -> usize
-    ensures { written text.new result ≡ putLine text.old (nothingLine c) }
+    ensures { written text.new result ≡ put_line text.old (nothing_line c) }
 {
     if text.len() < 14 + width(c as u64) {
         return 0;
@@ -178,7 +178,7 @@ pub fn read_nothing(text: &mut [u8], c: usize) -> usize
 
 // A reading that found a page.
 pub fn read_page(text: &mut [u8], c: usize, sequence: u32, writer: u8, page: &[u8]) -> usize
-    ensures { written text.new result ≡ putLine text.old (pageLine c sequence writer page.now) }
+    ensures { written text.new result ≡ put_line text.old (page_line c sequence writer page.now) }
 {
     let rest = 6 + width(c as u64) + width(sequence as u64) + width(writer as u64);
     if text.len() < rest {

@@ -16,18 +16,18 @@ code (refuses n) = 2 ^ 32 + n
 abbrev pub four : ℕ → ℕ → ℕ → ℕ → List ℕ
 four kind sequence client n = kind ∷ sequence ∷ client ∷ n ∷ []
 
-abbrev pub ofVersion : ℕ → Version → ℕ → List ℕ
-ofVersion kind v n = four kind v.sequence.0 v.client n
+abbrev pub of_version : ℕ → Version → ℕ → List ℕ
+of_version kind v n = four kind v.sequence.0 v.client n
 
 abbrev pub told : ClientAnswer → List ℕ
 told (refused n) = four 0 0 0 n
 told waits = four 1 0 0 0
 told scan = four 2 0 0 0
 told (update len) = four 3 0 0 len
-told (stores v len) = ofVersion 4 v len
-told (requests v nodes) = ofVersion 5 v nodes
-told (deposited v len) = ofVersion 6 v len
+told (stores v len) = of_version 4 v len
+told (requests v nodes) = of_version 5 v nodes
+told (deposited v len) = of_version 6 v len
 told empty = four 7 0 0 0
-told (page v len) = ofVersion 8 v len
+told (page v len) = of_version 8 v len
 told spent = four 9 0 0 0
 told failed = four 10 0 0 0

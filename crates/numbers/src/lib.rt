@@ -4,7 +4,7 @@ ghost use Rattle.parties.specs.protocol.Answer.{refuses};
 ghost use Rattle.parties.specs.records.Answer.{number};
 ghost use Rattle.parties.specs.Answer.{served};
 ghost use Rattle.parties.specs.client.Answer.{answered};
-ghost use Rattle.numbers.specs.Code.{code, ofVersion, told};
+ghost use Rattle.numbers.specs.Code.{code, of_version, told};
 
 use parties::{ClientAnswer, Refusal, Service, Version};
 
@@ -37,7 +37,7 @@ pub fn service_code(a: Service) -> u64
 }
 
 fn of_version(kind: u64, v: Version, n: u64) -> [u64; 4]
-    ensures { result ≡ ofVersion kind v n }
+    ensures { result ≡ of_version kind v n }
 {
     let q = v.sequence;
     [kind, q.0 as u64, v.client as u64, n]

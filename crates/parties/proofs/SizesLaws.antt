@@ -6,8 +6,8 @@ use Rattle.parties.specs.declared.Measures.{Measures}
 use Rattle.parties.specs.protocol.Measures.{passes}
 use Rattle.parties.specs.Sizes.{sized}
 
-pub sized-passed : (s : Measures) (size : ℕ) → passes s ≡ true → sized s size ≡ size
-sized-passed s size h = ap (λ (b : Bool). cond b size 0) h
+pub sized_passed : (s : Measures) (size : ℕ) → passes s ≡ true → sized s size ≡ size
+sized_passed s size h = ap (λ (b : Bool). cond b size 0) h
 
 pub sized-failed : (s : Measures) (size : ℕ) → passes s ≡ false → sized s size ≡ 0
 sized-failed s size h = ap (λ (b : Bool). cond b size 0) h

@@ -1,7 +1,7 @@
 -- Sizes that follow from the measures.
 use Rattle.std.specs.Prelude.{cond, ℕ, ◌≤◌}
 use Rattle.parties.specs.declared.Measures.{Measures}
-use Rattle.parties.specs.protocol.Measures.{passes, rowSize}
+use Rattle.parties.specs.protocol.Measures.{passes, row_size}
 use Rattle.parties.specs.protocol.Answer.{ClientAnswer, refused, waits, scan, update, stores, requests, deposited, empty, page, spent, failed}
 
 -- one that is asked for whatever the measures: 0 where they do not pass
@@ -13,10 +13,10 @@ abbrev pub Sized : Measures → ClientAnswer → Type 0
 Sized s (refused n) = Unit {0}
 Sized s waits = Unit {0}
 Sized s scan = Unit {0}
-Sized s (update len) = len ≤ rowSize s
+Sized s (update len) = len ≤ row_size s
 Sized s (stores v len) = len ≤ s.f
 Sized s (requests v nodes) = Unit {0}
-Sized s (deposited v len) = len ≤ rowSize s
+Sized s (deposited v len) = len ≤ row_size s
 Sized s empty = Unit {0}
 Sized s (page v len) = Unit {0}
 Sized s spent = Unit {0}

@@ -2,13 +2,13 @@
 ghost use Rattle.std.specs.Prelude.{◌≡◌, true, ◌++◌, ◌+◌, ◌*◌, ◌≤◌, ◌<◌, length, take, drop, get_or, replicate};
 ghost use Rattle.std.proofs.Math.Option.{some};
 ghost use Rattle.std.proofs.Math.Seq.{paste};
-ghost use Rattle.parties.specs.protocol.Format.{writeMany};
-ghost use Rattle.parties.specs.protocol.Measures.{passes, rowSize};
-ghost use Rattle.parties.specs.protocol.Directory.{fresh_row, writeRow, readRow};
-ghost use Rattle.parties.specs.protocol.DirectoryEvents.{directoryFresh, directoryUpdate, directoryScan};
+ghost use Rattle.parties.specs.protocol.Format.{write_many};
+ghost use Rattle.parties.specs.protocol.Measures.{passes, row_size};
+ghost use Rattle.parties.specs.protocol.Directory.{fresh_row, write_row, read_row};
+ghost use Rattle.parties.specs.protocol.DirectoryEvents.{directory_fresh, directory_update, directory_scan};
 ghost use Rattle.parties.specs.Answer.{served};
 ghost use Rattle.parties.specs.records.Form.{rest, Walked};
-ghost use Rattle.parties.specs.directory.Room.{longestRow, Built, Ordered, Renewed, part, renewed};
+ghost use Rattle.parties.specs.directory.Room.{longest_row, Built, Ordered, Renewed, part, renewed};
 
 use crate::protocol::version::NO_CLIENT;
 use crate::records::bytes::copy;
@@ -23,8 +23,8 @@ const LONGEST_ROW: usize = 4708;
 
 // A fresh row: the map of all fields, and pointers that are none; the rest is zero.
 fn fresh_row(s: Measures, room: &mut [u8])
-    requires { (passes s ≡ true) × (room.old ≡ replicate longestRow 0) }
-    ensures { Built (writeRow (fresh_row s)) room.new }
+    requires { (passes s ≡ true) × (room.old ≡ replicate longest_row 0) }
+    ensures { Built (write_row (fresh_row s)) room.new }
 {
     room[0] = ROW_MAP;
     let pointers = s.m + 1;
@@ -36,7 +36,7 @@ fn fresh_row(s: Measures, room: &mut [u8])
 // The first bytes of a room, so many times one after the other.
 fn repeat(rows: usize, size: usize, row: &[u8], table: &mut [u8])
     requires { (size ≤ length row.now) × (rows * size ≤ length table.old) }
-    ensures { table.new ≡ writeMany (λ d. d) (replicate rows (take size row.now)) ++ drop (rows * size) table.old }
+    ensures { table.new ≡ write_many (λ d. d) (replicate rows (take size row.now)) ++ drop (rows * size) table.old }
 {
     let mut at = 0;
     let mut i = 0;
@@ -49,8 +49,8 @@ fn repeat(rows: usize, size: usize, row: &[u8], table: &mut [u8])
 
 // All pointers are none and all indices 0.
 pub fn fresh_directory(s: Measures, table: &mut [u8]) -> Service
-    ensures { (served result ≡ (directoryFresh s table.old).answer)
-        × (table.new ≡ (directoryFresh s table.old).table) }
+    ensures { (served result ≡ (directory_fresh s table.old).answer)
+        × (table.new ≡ (directory_fresh s table.old).table) }
 {
     if !s.pass() {
         return Service::Refused(Refusal::Measures);
@@ -93,8 +93,8 @@ fn put(
 
 // The row at a place of the table, put together anew.
 fn rebuild(fields: &[u8], e: Ends, table: &[u8], at: usize, f: Ends, room: &mut [u8])
-    requires { (0 < length fields.now) × (room.old ≡ replicate longestRow 0) × Ordered 1 e (length fields.now) × Ordered (at + 1) f (length table.now)
-        × (length (renewed (get_or fields.now 0 0) fields.now e table.now at f) ≤ longestRow) }
+    requires { (0 < length fields.now) × (room.old ≡ replicate longest_row 0) × Ordered 1 e (length fields.now) × Ordered (at + 1) f (length table.now)
+        × (length (renewed (get_or fields.now 0 0) fields.now e table.now at f) ≤ longest_row) }
     ensures { Built (renewed (get_or fields.now 0 0) fields.now e table.now at f) room.new }
 {
     let map = fields[0];
@@ -147,8 +147,8 @@ fn rebuild(fields: &[u8], e: Ends, table: &[u8], at: usize, f: Ends, room: &mut 
 
 // The fields of a sound record over those of a sound row. Pointers may grow or shrink, so the row is put together beside the table.
 fn renew(s: Measures, size: usize, at: usize, e: Ends, fields: &[u8], table: &mut [u8])
-    requires { (passes s ≡ true) × (size ≡ rowSize s) × (at + rowSize s ≤ length table.old) × Walked s fields.now e
-        × (rest (readRow s (drop at table.old)) ≡ some (drop (at + rowSize s) table.old)) }
+    requires { (passes s ≡ true) × (size ≡ row_size s) × (at + row_size s ≤ length table.old) × Walked s fields.now e
+        × (rest (read_row s (drop at table.old)) ≡ some (drop (at + row_size s) table.old)) }
     ensures { Renewed s at fields.now table.old table.new }
 {
     let Parts::Sound(f) = field_ends(s, Rule::Proper, ROW_MAP, table, at + 1) else {
@@ -162,8 +162,8 @@ fn renew(s: Measures, size: usize, at: usize, e: Ends, fields: &[u8], table: &mu
 
 // The fields whose bit stands in the record are replaced in the client's row.
 pub fn update(s: Measures, own: usize, table: &mut [u8], fields: &[u8]) -> Service
-    ensures { (served result ≡ (directoryUpdate s own table.old fields.now).answer)
-        × (table.new ≡ (directoryUpdate s own table.old fields.now).table) }
+    ensures { (served result ≡ (directory_update s own table.old fields.now).answer)
+        × (table.new ≡ (directory_update s own table.old fields.now).table) }
 {
     if !s.pass() {
         return Service::Refused(Refusal::Measures);
@@ -195,8 +195,8 @@ pub fn update(s: Measures, own: usize, table: &mut [u8], fields: &[u8]) -> Servi
 
 // The rows, in the answer's room.
 pub fn scan(s: Measures, table: &[u8], room: &mut [u8]) -> Service
-    ensures { (served result ≡ (directoryScan s table.now room.old).answer)
-        × (room.new ≡ (directoryScan s table.now room.old).room) }
+    ensures { (served result ≡ (directory_scan s table.now room.old).answer)
+        × (room.new ≡ (directory_scan s table.now room.old).room) }
 {
     if !s.pass() {
         return Service::Refused(Refusal::Measures);

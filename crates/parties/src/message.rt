@@ -1,7 +1,7 @@
 // Messages to a node: their forms.
 ghost use Rattle.std.specs.Prelude.{◌≡◌, ◌+◌, ◌*◌, ◌≤◌, length};
-ghost use Rattle.parties.specs.protocol.Version.{noVersion};
-ghost use Rattle.parties.specs.node.ToNode.{listedFrom, storeSound, freeSound};
+ghost use Rattle.parties.specs.protocol.Version.{no_version};
+ghost use Rattle.parties.specs.node.ToNode.{listed_from, store_sound, free_sound};
 
 use crate::Measures;
 use crate::protocol::version::NONE;
@@ -10,7 +10,7 @@ use crate::records::version::{proper_at, version_at};
 // A version, then a piece of 1 to F bytes.
 pub fn store_sound(s: Measures, b: &[u8]) -> bool
     requires { s.f ≤ 4096 }
-    ensures { result ≡ storeSound s b.now }
+    ensures { result ≡ store_sound s b.now }
 {
     if b.len() < 7 {
         return false;
@@ -24,7 +24,7 @@ pub fn store_sound(s: Measures, b: &[u8]) -> bool
 // Versions, each above the one before.
 fn list_sound(s: Measures, b: &[u8], count: usize) -> bool
     requires { 1 + count * 5 ≤ length b.now }
-    ensures { result ≡ listedFrom s b.now noVersion 1 count }
+    ensures { result ≡ listed_from s b.now no_version 1 count }
 {
     let mut previous = NONE;
     let mut at = 1;
@@ -46,7 +46,7 @@ fn list_sound(s: Measures, b: &[u8], count: usize) -> bool
 
 pub fn free_sound(s: Measures, b: &[u8]) -> bool
     requires { 1 ≤ length b.now }
-    ensures { result ≡ freeSound s b.now }
+    ensures { result ≡ free_sound s b.now }
 {
     let len = b.len() - 1;
     if len % 5 != 0 {

@@ -1,13 +1,13 @@
 // A data node's events on its lent table.
 ghost use Rattle.std.specs.Prelude.{◌≡◌, true, ◌∷◌, ◌+◌, ◌-◌, ◌*◌, ◌/◌, ◌<◌, ◌≤◌, length, get_or, take, drop};
-ghost use Rattle.parties.specs.protocol.Measures.{passes, places, placeSize};
-ghost use Rattle.parties.specs.protocol.Version.{noVersion};
-ghost use Rattle.parties.specs.protocol.Message.{storeTag, requestTag, freeTag};
-ghost use Rattle.parties.specs.protocol.NodeEvents.{nodeFresh, nodeMessage, tableSize};
+ghost use Rattle.parties.specs.protocol.Measures.{passes, places, place_size};
+ghost use Rattle.parties.specs.protocol.Version.{no_version};
+ghost use Rattle.parties.specs.protocol.Message.{store_tag, request_tag, free_tag};
+ghost use Rattle.parties.specs.protocol.NodeEvents.{node_fresh, node_message, table_size};
 ghost use Rattle.parties.specs.Answer.{served};
-ghost use Rattle.parties.specs.records.Places.{number_at, soundAt, soundFrom, soundTable, rank, standsAt, splice, place_of, versionAlone};
-ghost use Rattle.parties.specs.node.ToNode.{storeSound};
-ghost use Rattle.parties.specs.node.NodeCode.{NodeReady, Ends, event, broughtBy, inserted, listBehind, listNames, Listed, Released};
+ghost use Rattle.parties.specs.records.Places.{number_at, sound_at, sound_from, sound_table, rank, stands_at, splice, place_of, version_alone};
+ghost use Rattle.parties.specs.node.ToNode.{store_sound};
+ghost use Rattle.parties.specs.node.NodeCode.{NodeReady, Ends, event, brought_by, inserted, list_behind, list_names, Listed, Released};
 
 use crate::message::{free_sound, store_sound};
 use crate::protocol::tags::{FREE, FREED, REPLY, REQUEST, STORE, STORED};
@@ -26,8 +26,8 @@ fn length_at(t: &[u8], at: usize) -> usize
 
 // A filled place has a proper version, a piece of 1 to F bytes, and zeros after it.
 fn place_sound(s: Measures, t: &[u8], at: usize) -> bool
-    requires { at + placeSize s ≤ length t.now }
-    ensures { result ≡ soundAt s t.now at }
+    requires { at + place_size s ≤ length t.now }
+    ensures { result ≡ sound_at s t.now at }
 {
     if !proper_at(s, t, at) {
         return false;
@@ -44,8 +44,8 @@ fn place_sound(s: Measures, t: &[u8], at: usize) -> bool
 
 // The filled places, each with a version above the one before.
 fn places_sound(s: Measures, t: &[u8], count: usize) -> bool
-    requires { 2 + count * placeSize s ≤ length t.now }
-    ensures { result ≡ soundFrom s t.now noVersion 2 count }
+    requires { 2 + count * place_size s ≤ length t.now }
+    ensures { result ≡ sound_from s t.now no_version 2 count }
 {
     let mut previous = NONE;
     let mut at = 2;
@@ -67,8 +67,8 @@ fn places_sound(s: Measures, t: &[u8], count: usize) -> bool
 
 // The form of a table: count, filled places, zeros.
 fn table_sound(s: Measures, t: &[u8]) -> bool
-    requires { (passes s ≡ true) × (2 + places s * placeSize s ≤ length t.now) }
-    ensures { result ≡ soundTable s t.now }
+    requires { (passes s ≡ true) × (2 + places s * place_size s ≤ length t.now) }
+    ensures { result ≡ sound_table s t.now }
 {
     let count = length_at(t, 0);
     let places = 2 * (s.m * s.m);
@@ -102,7 +102,7 @@ fn seek(z: usize, t: &[u8], count: usize, v: Version) -> usize
 // The next place holds v.
 fn stands(z: usize, t: &[u8], count: usize, j: usize, v: Version) -> bool
     requires { (5 ≤ z) × (2 + count * z ≤ length t.now) }
-    ensures { result ≡ standsAt z t.now count j v }
+    ensures { result ≡ stands_at z t.now count j v }
 {
     if count <= j {
         return false;
@@ -121,8 +121,8 @@ fn put_head(room: &mut [u8], tag: u8, b: &[u8])
 
 // The place of the piece that the message brings.
 fn put_place(s: Measures, t: &mut [u8], at: usize, b: &[u8])
-    requires { (at + placeSize s ≤ length t.old) × (7 ≤ length b.now) × (length b.now ≤ 6 + s.f) × (s.f ≤ 4096) }
-    ensures { t.new ≡ splice t.old at (place_of s (broughtBy b.now)) }
+    requires { (at + place_size s ≤ length t.old) × (7 ≤ length b.now) × (length b.now ≤ 6 + s.f) × (s.f ≤ 4096) }
+    ensures { t.new ≡ splice t.old at (place_of s (brought_by b.now)) }
 {
     let len = b.len() - 6;
     copy(t, at, b, 1, 5);
@@ -133,8 +133,8 @@ fn put_place(s: Measures, t: &mut [u8], at: usize, b: &[u8])
 
 // The places from `at` on go up by one.
 fn insert(s: Measures, t: &mut [u8], count: usize, at: usize, b: &[u8])
-    requires { (at ≤ 2 + count * placeSize s) × (2 ≤ at) × (2 + count * placeSize s + placeSize s ≤ length t.old) × (count < 65535) × (7 ≤ length b.now) × (length b.now ≤ 6 + s.f) × (s.f ≤ 4096) }
-    ensures { t.new ≡ inserted s t.old at (2 + count * placeSize s) (broughtBy b.now) (count + 1) }
+    requires { (at ≤ 2 + count * place_size s) × (2 ≤ at) × (2 + count * place_size s + place_size s ≤ length t.old) × (count < 65535) × (7 ≤ length b.now) × (length b.now ≤ 6 + s.f) × (s.f ≤ 4096) }
+    ensures { t.new ≡ inserted s t.old at (2 + count * place_size s) (brought_by b.now) (count + 1) }
 {
     let z = 7 + s.f;
     move_up(t, at, 2 + count * z, z);
@@ -144,7 +144,7 @@ fn insert(s: Measures, t: &mut [u8], count: usize, at: usize, b: &[u8])
 
 // A piece is kept in its version's place; 8 for a new version at a full table.
 fn keep(s: Measures, t: &mut [u8], b: &[u8], room: &mut [u8]) -> Service
-    requires { NodeReady s t.old room.old × (1 ≤ length b.now) × (get_or b.now 0 0 ≡ storeTag) × (storeSound s b.now ≡ true) }
+    requires { NodeReady s t.old room.old × (1 ≤ length b.now) × (get_or b.now 0 0 ≡ store_tag) × (store_sound s b.now ≡ true) }
     ensures { Ends (event s t.old b.now room.old) (served result) t.new room.new }
 {
     let z = 7 + s.f;
@@ -166,7 +166,7 @@ fn keep(s: Measures, t: &mut [u8], b: &[u8], room: &mut [u8]) -> Service
 }
 
 fn store(s: Measures, t: &mut [u8], b: &[u8], room: &mut [u8]) -> Service
-    requires { NodeReady s t.old room.old × (1 ≤ length b.now) × (get_or b.now 0 0 ≡ storeTag) }
+    requires { NodeReady s t.old room.old × (1 ≤ length b.now) × (get_or b.now 0 0 ≡ store_tag) }
     ensures { Ends (event s t.old b.now room.old) (served result) t.new room.new }
 {
     if !store_sound(s, b) {
@@ -177,7 +177,7 @@ fn store(s: Measures, t: &mut [u8], b: &[u8], room: &mut [u8]) -> Service
 
 // A piece is handed back, or "not held".
 fn hand_back(s: Measures, t: &[u8], b: &[u8], room: &mut [u8]) -> Service
-    requires { NodeReady s t.now room.old × (1 ≤ length b.now) × (get_or b.now 0 0 ≡ requestTag) × (versionAlone s b.now ≡ true) }
+    requires { NodeReady s t.now room.old × (1 ≤ length b.now) × (get_or b.now 0 0 ≡ request_tag) × (version_alone s b.now ≡ true) }
     ensures { Ends (event s t.now b.now room.old) (served result) t.now room.new }
 {
     let z = 7 + s.f;
@@ -197,7 +197,7 @@ fn hand_back(s: Measures, t: &[u8], b: &[u8], room: &mut [u8]) -> Service
 }
 
 fn request(s: Measures, t: &[u8], b: &[u8], room: &mut [u8]) -> Service
-    requires { NodeReady s t.now room.old × (1 ≤ length b.now) × (get_or b.now 0 0 ≡ requestTag) }
+    requires { NodeReady s t.now room.old × (1 ≤ length b.now) × (get_or b.now 0 0 ≡ request_tag) }
     ensures { Ends (event s t.now b.now room.old) (served result) t.now room.new }
 {
     if !version_alone(s, b) {
@@ -209,7 +209,7 @@ fn request(s: Measures, t: &[u8], b: &[u8], room: &mut [u8]) -> Service
 // The next listed version is below v.
 fn list_behind(v: Version, b: &[u8], at: usize, listed: usize) -> bool
     requires { at + listed * 5 ≤ length b.now }
-    ensures { result ≡ listBehind v b.now at listed }
+    ensures { result ≡ list_behind v b.now at listed }
 {
     if listed < 1 {
         return false;
@@ -220,7 +220,7 @@ fn list_behind(v: Version, b: &[u8], at: usize, listed: usize) -> bool
 // The next listed version is v.
 fn list_names(v: Version, b: &[u8], at: usize, listed: usize) -> bool
     requires { at + listed * 5 ≤ length b.now }
-    ensures { result ≡ listNames v b.now at listed }
+    ensures { result ≡ list_names v b.now at listed }
 {
     if listed < 1 {
         return false;
@@ -277,7 +277,7 @@ fn release(s: Measures, t: &mut [u8], b: &[u8], count: usize, listed: usize) -> 
 
 // The listed versions that are held are dropped.
 fn free(s: Measures, t: &mut [u8], b: &[u8], room: &mut [u8]) -> Service
-    requires { NodeReady s t.old room.old × (1 ≤ length b.now) × (get_or b.now 0 0 ≡ freeTag) }
+    requires { NodeReady s t.old room.old × (1 ≤ length b.now) × (get_or b.now 0 0 ≡ free_tag) }
     ensures { Ends (event s t.old b.now room.old) (served result) t.new room.new }
 {
     if !free_sound(s, b) {
@@ -295,14 +295,14 @@ fn free(s: Measures, t: &mut [u8], b: &[u8], room: &mut [u8]) -> Service
 // A count and the places, each of a version, a length and a piece.
 pub(crate) fn table_size(s: Measures) -> usize
     requires { passes s ≡ true }
-    ensures { result ≡ tableSize s }
+    ensures { result ≡ table_size s }
 {
     2 + 2 * (s.m * s.m) * (7 + s.f)
 }
 
 // A message, once measures, slices and node number are sound.
 fn receive(s: Measures, t: &mut [u8], b: &[u8], room: &mut [u8]) -> Service
-    requires { (passes s ≡ true) × (2 + places s * placeSize s ≤ length t.old) × (7 + s.f ≤ length room.old) }
+    requires { (passes s ≡ true) × (2 + places s * place_size s ≤ length t.old) × (7 + s.f ≤ length room.old) }
     ensures { Ends (event s t.old b.now room.old) (served result) t.new room.new }
 {
     if !table_sound(s, t) {
@@ -326,9 +326,9 @@ fn receive(s: Measures, t: &mut [u8], b: &[u8], room: &mut [u8]) -> Service
 
 // A message handed to node i.
 pub fn message(s: Measures, i: usize, table: &mut [u8], message: &[u8], room: &mut [u8]) -> Service
-    ensures { (served result ≡ (nodeMessage s i table.old message.now room.old).answer)
-        × (table.new ≡ (nodeMessage s i table.old message.now room.old).table)
-        × (room.new ≡ (nodeMessage s i table.old message.now room.old).room) }
+    ensures { (served result ≡ (node_message s i table.old message.now room.old).answer)
+        × (table.new ≡ (node_message s i table.old message.now room.old).table)
+        × (room.new ≡ (node_message s i table.old message.now room.old).room) }
 {
     if !s.pass() {
         return Service::Refused(Refusal::Measures);
@@ -351,7 +351,7 @@ pub fn message(s: Measures, i: usize, table: &mut [u8], message: &[u8], room: &m
 
 // A table that holds no piece.
 pub fn fresh_table(s: Measures, table: &mut [u8]) -> Service
-    ensures { (served result ≡ (nodeFresh s table.old).answer) × (table.new ≡ (nodeFresh s table.old).table) }
+    ensures { (served result ≡ (node_fresh s table.old).answer) × (table.new ≡ (node_fresh s table.old).table) }
 {
     if !s.pass() {
         return Service::Refused(Refusal::Measures);

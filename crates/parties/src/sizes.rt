@@ -1,9 +1,9 @@
 // How many bytes lent slices need, by the measures alone; 0 where these do not pass.
 ghost use Rattle.std.specs.Prelude.{◌≡◌};
-ghost use Rattle.parties.specs.protocol.DirectoryEvents.{directorySize};
-ghost use Rattle.parties.specs.protocol.NodeEvents.{tableSize};
-ghost use Rattle.parties.specs.protocol.Client.{clientSize};
-ghost use Rattle.parties.specs.protocol.ClientEvents.{roomSize};
+ghost use Rattle.parties.specs.protocol.DirectoryEvents.{directory_size};
+ghost use Rattle.parties.specs.protocol.NodeEvents.{table_size};
+ghost use Rattle.parties.specs.protocol.Client.{client_size};
+ghost use Rattle.parties.specs.protocol.ClientEvents.{room_size};
 ghost use Rattle.parties.specs.Sizes.{sized};
 
 use crate::Measures;
@@ -14,7 +14,7 @@ use crate::records::form::row_size;
 
 // The directory's table.
 pub fn directory(s: Measures) -> usize
-    ensures { result ≡ sized s (directorySize s) }
+    ensures { result ≡ sized s (directory_size s) }
 {
     if !s.pass() {
         return 0;
@@ -25,7 +25,7 @@ pub fn directory(s: Measures) -> usize
 
 // A node's table.
 pub fn table(s: Measures) -> usize
-    ensures { result ≡ sized s (tableSize s) }
+    ensures { result ≡ sized s (table_size s) }
 {
     if !s.pass() {
         return 0;
@@ -35,7 +35,7 @@ pub fn table(s: Measures) -> usize
 
 // A client's record: its phase and its area.
 pub fn record(s: Measures) -> usize
-    ensures { result ≡ sized s (clientSize s) }
+    ensures { result ≡ sized s (client_size s) }
 {
     if !s.pass() {
         return 0;
@@ -46,7 +46,7 @@ pub fn record(s: Measures) -> usize
 
 // The room of a client's events.
 pub fn room(s: Measures) -> usize
-    ensures { result ≡ sized s (roomSize s) }
+    ensures { result ≡ sized s (room_size s) }
 {
     if !s.pass() {
         return 0;

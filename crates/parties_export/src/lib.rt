@@ -1,8 +1,8 @@
 // Directory, data node and client for C and Rust: each function takes numbers and slices, and requires nothing.
 ghost use Rattle.std.specs.Prelude.{◌≡◌};
-ghost use Rattle.parties.specs.protocol.DirectoryEvents.{directoryFresh, directoryUpdate, directoryScan};
-ghost use Rattle.parties.specs.protocol.NodeEvents.{nodeFresh, nodeMessage};
-ghost use Rattle.parties.specs.protocol.ClientEvents.{clientFresh, startDeposit, startReading, updateAnswer, scanAnswer, clientMessage};
+ghost use Rattle.parties.specs.protocol.DirectoryEvents.{directory_fresh, directory_update, directory_scan};
+ghost use Rattle.parties.specs.protocol.NodeEvents.{node_fresh, node_message};
+ghost use Rattle.parties.specs.protocol.ClientEvents.{client_fresh, start_deposit, start_reading, update_answer, scan_answer, client_message};
 ghost use Rattle.numbers.specs.Code.{measured, code, told};
 
 use numbers::{numbers_of, service_code};
@@ -17,8 +17,8 @@ pub extern "C" fn directory_fresh(
     f: usize,
     table: &mut [u8],
 ) -> u64
-    ensures { (result ≡ code (directoryFresh (measured m n k t f) table.old).answer)
-        × (table.new ≡ (directoryFresh (measured m n k t f) table.old).table) }
+    ensures { (result ≡ code (directory_fresh (measured m n k t f) table.old).answer)
+        × (table.new ≡ (directory_fresh (measured m n k t f) table.old).table) }
 {
     service_code(parties::directory::fresh_directory(Measures { m, n, k, t, f }, table))
 }
@@ -34,8 +34,8 @@ pub extern "C" fn directory_update(
     table: &mut [u8],
     fields: &[u8],
 ) -> u64
-    ensures { (result ≡ code (directoryUpdate (measured m n k t f) own table.old fields.now).answer)
-        × (table.new ≡ (directoryUpdate (measured m n k t f) own table.old fields.now).table) }
+    ensures { (result ≡ code (directory_update (measured m n k t f) own table.old fields.now).answer)
+        × (table.new ≡ (directory_update (measured m n k t f) own table.old fields.now).table) }
 {
     service_code(parties::directory::update(Measures { m, n, k, t, f }, own, table, fields))
 }
@@ -50,8 +50,8 @@ pub extern "C" fn directory_scan(
     table: &[u8],
     room: &mut [u8],
 ) -> u64
-    ensures { (result ≡ code (directoryScan (measured m n k t f) table.now room.old).answer)
-        × (room.new ≡ (directoryScan (measured m n k t f) table.now room.old).room) }
+    ensures { (result ≡ code (directory_scan (measured m n k t f) table.now room.old).answer)
+        × (room.new ≡ (directory_scan (measured m n k t f) table.now room.old).room) }
 {
     service_code(parties::directory::scan(Measures { m, n, k, t, f }, table, room))
 }
@@ -65,8 +65,8 @@ pub extern "C" fn node_fresh(
     f: usize,
     table: &mut [u8],
 ) -> u64
-    ensures { (result ≡ code (nodeFresh (measured m n k t f) table.old).answer)
-        × (table.new ≡ (nodeFresh (measured m n k t f) table.old).table) }
+    ensures { (result ≡ code (node_fresh (measured m n k t f) table.old).answer)
+        × (table.new ≡ (node_fresh (measured m n k t f) table.old).table) }
 {
     service_code(parties::node::fresh_table(Measures { m, n, k, t, f }, table))
 }
@@ -83,9 +83,9 @@ pub extern "C" fn node_message(
     message: &[u8],
     room: &mut [u8],
 ) -> u64
-    ensures { (result ≡ code (nodeMessage (measured m n k t f) i table.old message.now room.old).answer)
-        × (table.new ≡ (nodeMessage (measured m n k t f) i table.old message.now room.old).table)
-        × (room.new ≡ (nodeMessage (measured m n k t f) i table.old message.now room.old).room) }
+    ensures { (result ≡ code (node_message (measured m n k t f) i table.old message.now room.old).answer)
+        × (table.new ≡ (node_message (measured m n k t f) i table.old message.now room.old).table)
+        × (room.new ≡ (node_message (measured m n k t f) i table.old message.now room.old).room) }
 {
     service_code(parties::node::message(Measures { m, n, k, t, f }, i, table, message, room))
 }
@@ -101,8 +101,8 @@ pub extern "C" fn client_fresh(
     client: &mut [u8],
     answer: &mut [u64; 4],
 )
-    ensures { (answer.new ≡ told (clientFresh (measured m n k t f) client.old).answer)
-        × (client.new ≡ (clientFresh (measured m n k t f) client.old).client) }
+    ensures { (answer.new ≡ told (client_fresh (measured m n k t f) client.old).answer)
+        × (client.new ≡ (client_fresh (measured m n k t f) client.old).client) }
 {
     *answer = numbers_of(parties::client::record::fresh(Measures { m, n, k, t, f }, client));
 }
@@ -119,8 +119,8 @@ pub extern "C" fn client_deposit(
     page: &[u8],
     answer: &mut [u64; 4],
 )
-    ensures { (answer.new ≡ told (startDeposit (measured m n k t f) own client.old page.now).answer)
-        × (client.new ≡ (startDeposit (measured m n k t f) own client.old page.now).client) }
+    ensures { (answer.new ≡ told (start_deposit (measured m n k t f) own client.old page.now).answer)
+        × (client.new ≡ (start_deposit (measured m n k t f) own client.old page.now).client) }
 {
     *answer = numbers_of(parties::client::record::deposit(
         Measures { m, n, k, t, f },
@@ -142,9 +142,9 @@ pub extern "C" fn client_read(
     room: &mut [u8],
     answer: &mut [u64; 4],
 )
-    ensures { (answer.new ≡ told (startReading (measured m n k t f) own client.old room.old).answer)
-        × (client.new ≡ (startReading (measured m n k t f) own client.old room.old).client)
-        × (room.new ≡ (startReading (measured m n k t f) own client.old room.old).room) }
+    ensures { (answer.new ≡ told (start_reading (measured m n k t f) own client.old room.old).answer)
+        × (client.new ≡ (start_reading (measured m n k t f) own client.old room.old).client)
+        × (room.new ≡ (start_reading (measured m n k t f) own client.old room.old).room) }
 {
     *answer = numbers_of(parties::client::record::read(
         Measures { m, n, k, t, f },
@@ -166,9 +166,9 @@ pub extern "C" fn client_updated(
     room: &mut [u8],
     answer: &mut [u64; 4],
 )
-    ensures { (answer.new ≡ told (updateAnswer (measured m n k t f) own client.old room.old).answer)
-        × (client.new ≡ (updateAnswer (measured m n k t f) own client.old room.old).client)
-        × (room.new ≡ (updateAnswer (measured m n k t f) own client.old room.old).room) }
+    ensures { (answer.new ≡ told (update_answer (measured m n k t f) own client.old room.old).answer)
+        × (client.new ≡ (update_answer (measured m n k t f) own client.old room.old).client)
+        × (room.new ≡ (update_answer (measured m n k t f) own client.old room.old).room) }
 {
     *answer = numbers_of(parties::client::record::updated(
         Measures { m, n, k, t, f },
@@ -191,9 +191,9 @@ pub extern "C" fn client_scanned(
     room: &mut [u8],
     answer: &mut [u64; 4],
 )
-    ensures { (answer.new ≡ told (scanAnswer (measured m n k t f) own client.old rows.now room.old).answer)
-        × (client.new ≡ (scanAnswer (measured m n k t f) own client.old rows.now room.old).client)
-        × (room.new ≡ (scanAnswer (measured m n k t f) own client.old rows.now room.old).room) }
+    ensures { (answer.new ≡ told (scan_answer (measured m n k t f) own client.old rows.now room.old).answer)
+        × (client.new ≡ (scan_answer (measured m n k t f) own client.old rows.now room.old).client)
+        × (room.new ≡ (scan_answer (measured m n k t f) own client.old rows.now room.old).room) }
 {
     *answer = numbers_of(parties::client::record::scanned(
         Measures { m, n, k, t, f },
@@ -219,10 +219,10 @@ pub extern "C" fn client_receive(
     out: &mut [u8],
     answer: &mut [u64; 4],
 )
-    ensures { (answer.new ≡ told (clientMessage (measured m n k t f) own i client.old message.now room.old out.old).answer)
-        × (client.new ≡ (clientMessage (measured m n k t f) own i client.old message.now room.old out.old).client)
-        × (room.new ≡ (clientMessage (measured m n k t f) own i client.old message.now room.old out.old).room)
-        × (out.new ≡ (clientMessage (measured m n k t f) own i client.old message.now room.old out.old).out) }
+    ensures { (answer.new ≡ told (client_message (measured m n k t f) own i client.old message.now room.old out.old).answer)
+        × (client.new ≡ (client_message (measured m n k t f) own i client.old message.now room.old out.old).client)
+        × (room.new ≡ (client_message (measured m n k t f) own i client.old message.now room.old out.old).room)
+        × (out.new ≡ (client_message (measured m n k t f) own i client.old message.now room.old out.old).out) }
 {
     *answer = numbers_of(parties::client::record::receive(
         Measures { m, n, k, t, f },

@@ -12,7 +12,7 @@ use lib.Seq.{paste}
 use Rattle.coding.specs.Bytes.{tabulate}
 use Rattle.coding.specs.Areas.{Columns}
 use Rattle.coding.proofs.Cases.{and-true}
-use Rattle.recordings.specs.Planes.{amongSamples, amongPlanes, toSamples, toPlanes, planesOf, samplesOf}
+use Rattle.recordings.specs.Planes.{among_samples, among_planes, to_samples, to_planes, planes_of, samples_of}
 use Rattle.recordings.specs.Answer.{Outcome}
 use Rattle.recordings.specs.Arrange.{ArrangeEnd, proper, arrange}
 use Rattle.recordings.proofs.PlaceLaws.{row_of, entry_of}
@@ -41,9 +41,9 @@ module _ (order : ℕ → List ℕ → List ℕ) (w : ℕ) (d out : List ℕ) wh
   unfolding arrange
   arrange-short h = simp (lt-ltb (length out) (length d) h)
 
-  pub arrange-width : length d ≤ length out → proper w (length d) ≡ false → arrange order w d out ≡ record { outcome = Outcome.refuses 15; out = out }
+  pub arrange_width : length d ≤ length out → proper w (length d) ≡ false → arrange order w d out ≡ record { outcome = Outcome.refuses 15; out = out }
   unfolding arrange
-  arrange-width h p = simp (le-ltb (length out) (length d) h, p)
+  arrange_width h p = simp (le-ltb (length out) (length d) h, p)
 
   pub arrange-done : length d ≤ length out → proper w (length d) ≡ true
       → arrange order w d out ≡ record { outcome = Outcome.done; out = paste out 0 (order w d) (length d) }
@@ -52,24 +52,24 @@ module _ (order : ℕ → List ℕ → List ℕ) (w : ℕ) (d out : List ℕ) wh
 
 -- every plane is written, or every sample
 module _ (w : ℕ) (d out u : List ℕ) (r : length d ≤ length out) (p : proper w (length d) ≡ true) where
-  pub planes-laid : Columns w (length d / w) 0 (length d / w) (λ p s. get_or d (amongSamples w s p) 0) out u
-      → u ≡ (arrange planesOf w d out).out
-  unfolding planesOf
+  pub planes-laid : Columns w (length d / w) 0 (length d / w) (λ p s. get_or d (among_samples w s p) 0) out u
+      → u ≡ (arrange planes_of w d out).out
+  unfolding planes_of
   planes-laid c =
       let N = length d / w in
       let e : length d ≡ w * N = whole-planes w (length d) p in
-      columns-front w N (λ p s. get_or d (amongSamples w s p) 0) (λ i. get_or d (toSamples w N i) 0)
+      columns-front w N (λ p s. get_or d (among_samples w s p) 0) (λ i. get_or d (to_samples w N i) 0)
       (λ i l hi hl. ap₂ (λ (a b : ℕ). get_or d (a * w + b) 0) (entry_of N i l hl) (row_of N i l hl)) out u (rw e at r) c
-      ∙ ap (λ (L : ℕ). paste out 0 (tabulate L (λ i. get_or d (toSamples w N i) 0)) L) (sym e)
-      ∙ sym (ap (λ (z : ArrangeEnd). z.out) (arrange-done planesOf w d out r p))
+      ∙ ap (λ (L : ℕ). paste out 0 (tabulate L (λ i. get_or d (to_samples w N i) 0)) L) (sym e)
+      ∙ sym (ap (λ (z : ArrangeEnd). z.out) (arrange-done planes_of w d out r p))
 
-  pub samples-laid : Columns (length d / w) w 0 w (λ s p. get_or d (amongPlanes (length d / w) s p) 0) out u
-      → u ≡ (arrange samplesOf w d out).out
-  unfolding samplesOf
+  pub samples-laid : Columns (length d / w) w 0 w (λ s p. get_or d (among_planes (length d / w) s p) 0) out u
+      → u ≡ (arrange samples_of w d out).out
+  unfolding samples_of
   samples-laid c =
       let N = length d / w in
       let e : length d ≡ N * w = whole-samples w (length d) p in
-      columns-front N w (λ s p. get_or d (amongPlanes N s p) 0) (λ i. get_or d (toPlanes w N i) 0)
+      columns-front N w (λ s p. get_or d (among_planes N s p) 0) (λ i. get_or d (to_planes w N i) 0)
       (λ i l hi hl. ap₂ (λ (a b : ℕ). get_or d (a * N + b) 0) (entry_of w i l hl) (row_of w i l hl)) out u (rw e at r) c
-      ∙ ap (λ (L : ℕ). paste out 0 (tabulate L (λ i. get_or d (toPlanes w N i) 0)) L) (sym e)
-      ∙ sym (ap (λ (z : ArrangeEnd). z.out) (arrange-done samplesOf w d out r p))
+      ∙ ap (λ (L : ℕ). paste out 0 (tabulate L (λ i. get_or d (to_planes w N i) 0)) L) (sym e)
+      ∙ sym (ap (λ (z : ArrangeEnd). z.out) (arrange-done samples_of w d out r p))

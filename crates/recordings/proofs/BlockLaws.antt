@@ -8,13 +8,13 @@ use lib.ListN.{length, get_or}
 use lib.Seq.{paste}
 use Rattle.coding.specs.Areas.{Columns}
 use Rattle.coding.specs.Bytes.{tabulate}
-use Rattle.coding.proofs.BytesLaws.{Front, front-more, front-in, front_length}
+use Rattle.coding.proofs.BytesLaws.{Front, front-more, front_in, front_length}
 use Rattle.coding.proofs.AreasLaws.{columns-none, columns-more, columns-join}
-use Rattle.coding.proofs.SplitLaws.{columns-ext}
-use Rattle.recordings.specs.Planes.{amongSamples}
-use Rattle.recordings.specs.Shuffle.{shuffled, inBlocks}
+use Rattle.coding.proofs.SplitLaws.{columns_ext}
+use Rattle.recordings.specs.Planes.{among_samples}
+use Rattle.recordings.specs.Shuffle.{shuffled, in_blocks}
 use Rattle.recordings.proofs.PlaceLaws.{row_of, entry_of}
-use Rattle.recordings.proofs.ShuffleLaws.{shuffled-piece, in_block, shuffled-through}
+use Rattle.recordings.proofs.ShuffleLaws.{shuffled-piece, in_block, shuffled_through}
 
 -- 16 bytes that a shuffle takes from a place on
 abbrev pub Piece : List ℕ → ℕ → List ℕ → Type 0
@@ -23,7 +23,7 @@ Piece d at v = (length v ≡ 16) × ((l : ℕ) → l < 16 → get_or v l 0 ≡ g
 module _ (d t : List ℕ) (at k : ℕ) (room : 1536 ≤ length t) (h : k < 32) where
   -- what stands at a place after the shuffle
   byte : ℕ → ℕ
-  byte m = get_or d (at + inBlocks shuffled m) 0
+  byte m = get_or d (at + in_blocks shuffled m) 0
 
   piece : (u v : List ℕ) (j m m' a : ℕ) → j < 3 → m ≡ 48 * k + 16 * j → m' ≡ m + 16 → a ≡ at + 48 * k + 8 * j → Piece d a v → Front t byte u m
       → Front t byte (paste u m v 16) m'
@@ -34,14 +34,14 @@ module _ (d t : List ℕ) (at k : ℕ) (room : 1536 ≤ length t) (h : k < 32) w
       (λ l b.
       let z : m + l ≡ k * 48 + (j * 16 + l) = omega arith in
       p.1 l b
-      ∙ ap (λ (q : ℕ). get_or d q 0) (omega (arith, ap (inBlocks shuffled) z, in_block k (j * 16 + l) (omega arith), shuffled-piece j l))))
+      ∙ ap (λ (q : ℕ). get_or d q 0) (omega (arith, ap (in_blocks shuffled) z, in_block k (j * 16 + l) (omega arith), shuffled-piece j l))))
 
-  pub shuffle-turn : (u u₁ u₂ u₃ v₀ v₁ v₂ : List ℕ) → Piece d (at + 48 * k) v₀ → Piece d (at + 48 * k + 8) v₁ → Piece d (at + 48 * k + 16) v₂
+  pub shuffle_turn : (u u₁ u₂ u₃ v₀ v₁ v₂ : List ℕ) → Piece d (at + 48 * k) v₀ → Piece d (at + 48 * k + 8) v₁ → Piece d (at + 48 * k + 16) v₂
       → u₁ ≡ paste u (48 * k) v₀ 16 → u₂ ≡ paste u₁ (48 * k + 16) v₁ 16 → u₃ ≡ paste u₂ (48 * k + 32) v₂ 16
-      → Front t (λ m. get_or d (at + inBlocks shuffled m) 0) u (48 * k)
-      → Front t (λ m. get_or d (at + inBlocks shuffled m) 0) u₃ (48 * (k + 1))
+      → Front t (λ m. get_or d (at + in_blocks shuffled m) 0) u (48 * k)
+      → Front t (λ m. get_or d (at + in_blocks shuffled m) 0) u₃ (48 * (k + 1))
   unfolding byte
-  shuffle-turn u u₁ u₂ u₃ v₀ v₁ v₂ p₀ p₁ p₂ e₁ e₂ e₃ s =
+  shuffle_turn u u₁ u₂ u₃ v₀ v₁ v₂ p₀ p₁ p₂ e₁ e₂ e₃ s =
       let a : Front t byte u₁ (48 * k + 16) =
       rw e₁ (piece u v₀ 0 (48 * k) (48 * k + 16) (at + 48 * k) (omega arith) (omega arith) (omega arith) (omega arith) p₀ s)
       in
@@ -63,12 +63,12 @@ module _ (d t : List ℕ) (n s k : ℕ) (room : 3 * n ≤ length t) (fits : s + 
       ∙ ap (λ (x : ℕ). get_or d x 0) (omega (arith, shuffled-piece p l))
       ∙ sym (ap₂ (λ (x y : ℕ). get_or d (x * 48 + shuffled (p * 16 + y)) 0) (ap (λ (x : ℕ). x / 16) z ∙ row_of 16 k l b) (ap (λ (x : ℕ). x % 16) z ∙ entry_of 16 k l b))
 
-  pub spread-turn : (u u₁ u₂ u₃ v₀ v₁ v₂ : List ℕ) → Piece d (48 * k) v₀ → Piece d (48 * k + 8) v₁ → Piece d (48 * k + 16) v₂
+  pub spread_turn : (u u₁ u₂ u₃ v₀ v₁ v₂ : List ℕ) → Piece d (48 * k) v₀ → Piece d (48 * k + 8) v₁ → Piece d (48 * k + 16) v₂
       → u₁ ≡ paste u (s + 16 * k) v₀ 16 → u₂ ≡ paste u₁ (n + (s + 16 * k)) v₁ 16 → u₃ ≡ paste u₂ (2 * n + (s + 16 * k)) v₂ 16
       → Columns 3 n s (16 * k) (λ p l. get_or d (l / 16 * 48 + shuffled (p * 16 + l % 16)) 0) t u
       → Columns 3 n s (16 * (k + 1)) (λ p l. get_or d (l / 16 * 48 + shuffled (p * 16 + l % 16)) 0) t u₃
   unfolding entry
-  spread-turn u u₁ u₂ u₃ v₀ v₁ v₂ p₀ p₁ p₂ e₁ e₂ e₃ c =
+  spread_turn u u₁ u₂ u₃ v₀ v₁ v₂ p₀ p₁ p₂ e₁ e₂ e₃ c =
       let j = s + 16 * k in
       let w : ℕ → ℕ → ℕ = λ p l. entry p (16 * k + l) in
       let r : 3 * n ≤ length u = rw c.same room in
@@ -90,26 +90,26 @@ module _ (d t : List ℕ) (n s k : ℕ) (room : 3 * n ≤ length t) (fits : s + 
 
 -- a list of 1536 bytes that a shuffle has written
 abbrev Shuffle : List ℕ → ℕ → List ℕ → List ℕ → Type 0
-Shuffle d at t u = u ≡ paste t 0 (tabulate 1536 (λ m. get_or d (at + inBlocks shuffled m) 0)) 1536
+Shuffle d at t u = u ≡ paste t 0 (tabulate 1536 (λ m. get_or d (at + in_blocks shuffled m) 0)) 1536
 
 module _ (d t u : List ℕ) (at : ℕ) (e : length t ≡ 1536) (s : Shuffle d at t u) where
-  whole : Front t (λ m. get_or d (at + inBlocks shuffled m) 0) u 1536
+  whole : Front t (λ m. get_or d (at + in_blocks shuffled m) 0) u 1536
   whole = record { within = le_of_eq (sym e); done = s }
 
-  shuffle-shows : (m : ℕ) → m < 1536 → get_or u m 0 ≡ get_or d (at + inBlocks shuffled m) 0
-  shuffle-shows = front-in t (λ m. get_or d (at + inBlocks shuffled m) 0) u 1536 whole
+  shuffle_shows : (m : ℕ) → m < 1536 → get_or u m 0 ≡ get_or d (at + in_blocks shuffled m) 0
+  shuffle_shows = front_in t (λ m. get_or d (at + in_blocks shuffled m) 0) u 1536 whole
 
-  shuffle-length : length u ≡ 1536
-  shuffle-length = front_length t (λ m. get_or d (at + inBlocks shuffled m) 0) u 1536 whole ∙ e
+  shuffle_length : length u ≡ 1536
+  shuffle_length = front_length t (λ m. get_or d (at + in_blocks shuffled m) 0) u 1536 whole ∙ e
 
 -- three shuffles, and a fourth into the planes
 pub block_written : (d x y x₁ y₁ x₂ out u : List ℕ) (n s : ℕ) → length x ≡ 1536 → length y ≡ 1536
     → Shuffle d (3 * s) x x₁ → Shuffle x₁ 0 y y₁ → Shuffle y₁ 0 x₁ x₂
     → Columns 3 n s 512 (λ p l. get_or x₂ (l / 16 * 48 + shuffled (p * 16 + l % 16)) 0) out u
-    → Columns 3 n s 512 (λ p l. get_or d (amongSamples 3 (s + l) p) 0) out u
+    → Columns 3 n s 512 (λ p l. get_or d (among_samples 3 (s + l) p) 0) out u
 block_written d x y x₁ y₁ x₂ out u n s ex ey e₁ e₂ e₃ =
-    columns-ext 3 n s 512 _ _ out u
-    (shuffled-through d x₁ y₁ x₂ s
-    (shuffle-shows d x x₁ (3 * s) ex e₁)
-    (shuffle-shows x₁ y y₁ 0 ey e₂)
-    (shuffle-shows y₁ x₁ x₂ 0 (shuffle-length d x x₁ (3 * s) ex e₁) e₃))
+    columns_ext 3 n s 512 _ _ out u
+    (shuffled_through d x₁ y₁ x₂ s
+    (shuffle_shows d x x₁ (3 * s) ex e₁)
+    (shuffle_shows x₁ y y₁ 0 ey e₂)
+    (shuffle_shows y₁ x₁ x₂ 0 (shuffle_length d x x₁ (3 * s) ex e₁) e₃))

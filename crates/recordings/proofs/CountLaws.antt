@@ -10,8 +10,8 @@ use lib.ListN.{length, get_or}
 use lib.Dec.{eqb}
 use lib.Seq.{ext_get_or}
 use Rattle.coding.specs.Bytes.{tabulate}
-use Rattle.coding.proofs.BytesLaws.{tabulate-none, tabulate-more, length-tabulate, get_d_tabulate, stride}
-use Rattle.recordings.specs.Planes.{toSamples}
+use Rattle.coding.proofs.BytesLaws.{tabulate-none, tabulate-more, length-tabulate, get_or-tabulate, stride}
+use Rattle.recordings.specs.Planes.{to_samples}
 use Rattle.recordings.specs.Permutation.{count}
 use Rattle.recordings.proofs.PlaceLaws.{row_of, entry_of}
 
@@ -20,25 +20,25 @@ unfoldable sum : ℕ → (ℕ → ℕ) → ℕ
 sum zero f = 0
 sum (suc n) f = sum n f + f n
 
-sum-ext : (n : ℕ) (f g : ℕ → ℕ) → ((i : ℕ) → i < n → f i ≡ g i) → sum n f ≡ sum n g
+sum_ext : (n : ℕ) (f g : ℕ → ℕ) → ((i : ℕ) → i < n → f i ≡ g i) → sum n f ≡ sum n g
 unfolding sum
-sum-ext zero f g h = refl
-sum-ext (suc n) f g h = ap₂ (λ (a b : ℕ). a + b) (sum-ext n f g (λ i l. h i (omega arith))) (h n (omega arith))
+sum_ext zero f g h = refl
+sum_ext (suc n) f g h = ap₂ (λ (a b : ℕ). a + b) (sum_ext n f g (λ i l. h i (omega arith))) (h n (omega arith))
 
 sum_more : (n m : ℕ) (f : ℕ → ℕ) → sum (n + m) f ≡ sum n f + sum m (λ i. f (n + i))
 unfolding sum
 sum_more n zero f = ap (λ (x : ℕ). sum x f) (add-zero n) ∙ sym (add-zero (sum n f))
 sum_more n (suc m) f = ap (λ (x : ℕ). sum x f) (add-suc n m) ∙ omega (arith, sum_more n m f)
 
-sum-zero : (n : ℕ) → sum n (λ i. 0) ≡ 0
+sum_zero : (n : ℕ) → sum n (λ i. 0) ≡ 0
 unfolding sum
-sum-zero zero = refl
-sum-zero (suc n) = omega (arith, sum-zero n)
+sum_zero zero = refl
+sum_zero (suc n) = omega (arith, sum_zero n)
 
-sum-add : (n : ℕ) (f g : ℕ → ℕ) → sum n f + sum n g ≡ sum n (λ i. f i + g i)
+sum_add : (n : ℕ) (f g : ℕ → ℕ) → sum n f + sum n g ≡ sum n (λ i. f i + g i)
 unfolding sum
-sum-add zero f g = refl
-sum-add (suc n) f g = omega (arith, sum-add n f g)
+sum_add zero f g = refl
+sum_add (suc n) f g = omega (arith, sum_add n f g)
 
 sum_rows : (n F : ℕ) (f : ℕ → ℕ) → sum (n * F) f ≡ sum n (λ i. sum F (λ l. f (i * F + l)))
 unfolding sum
@@ -48,20 +48,20 @@ sum_rows (suc n) F f =
     ∙ sum_more (n * F) F f
     ∙ ap (λ (x : ℕ). x + sum F (λ l. f (n * F + l))) (sum_rows n F f)
 
-sum-swap : (n m : ℕ) (f : ℕ → ℕ → ℕ) → sum n (λ i. sum m (f i)) ≡ sum m (λ j. sum n (λ i. f i j))
+sum_swap : (n m : ℕ) (f : ℕ → ℕ → ℕ) → sum n (λ i. sum m (f i)) ≡ sum m (λ j. sum n (λ i. f i j))
 unfolding sum
-sum-swap zero m f = sym (sum-zero m)
-sum-swap (suc n) m f =
-    ap (λ (a : ℕ). a + sum m (f n)) (sum-swap n m f) ∙ sum-add m (λ j. sum n (λ i. f i j)) (f n)
+sum_swap zero m f = sym (sum_zero m)
+sum_swap (suc n) m f =
+    ap (λ (a : ℕ). a + sum m (f n)) (sum_swap n m f) ∙ sum_add m (λ j. sum n (λ i. f i j)) (f n)
 
 -- what is taken entry by entry is what is taken row by row
-sum-turned : (w N : ℕ) (f : ℕ → ℕ) → sum (w * N) (λ i. f (toSamples w N i)) ≡ sum (N * w) f
+sum-turned : (w N : ℕ) (f : ℕ → ℕ) → sum (w * N) (λ i. f (to_samples w N i)) ≡ sum (N * w) f
 sum-turned w N f =
-    sum_rows w N (λ i. f (toSamples w N i))
-    ∙ sum-ext w (λ p. sum N (λ s. f (toSamples w N (p * N + s)))) (λ p. sum N (λ s. f (s * w + p)))
-    (λ p _. sum-ext N (λ s. f (toSamples w N (p * N + s))) (λ s. f (s * w + p))
+    sum_rows w N (λ i. f (to_samples w N i))
+    ∙ sum_ext w (λ p. sum N (λ s. f (to_samples w N (p * N + s)))) (λ p. sum N (λ s. f (s * w + p)))
+    (λ p _. sum_ext N (λ s. f (to_samples w N (p * N + s))) (λ s. f (s * w + p))
     (λ s h. ap₂ (λ (a b : ℕ). f (a * w + b)) (entry_of N p s h) (row_of N p s h)))
-    ∙ sum-swap w N (λ p s. f (s * w + p))
+    ∙ sum_swap w N (λ p s. f (s * w + p))
     ∙ sym (sum_rows N w f)
 
 -- 1 for the byte b
@@ -78,9 +78,9 @@ count-append b (a ∷ s) t = go (count-append b s t) (eqb a b)
     go e true = omega arith
     go e false = e
 
-count-one : (b a : ℕ) → count b (a ∷ []) ≡ hit b a
+count_one : (b a : ℕ) → count b (a ∷ []) ≡ hit b a
 unfolding count
-count-one b a = refl
+count_one b a = refl
 
 count-tabulate : (b n : ℕ) (f : ℕ → ℕ) → count b (tabulate n f) ≡ sum n (λ i. hit b (f i))
 unfolding sum count
@@ -88,20 +88,20 @@ count-tabulate b zero f = ap (count b) (tabulate-none f)
 count-tabulate b (suc n) f =
     ap (count b) (tabulate-more n f)
     ∙ count-append b (tabulate n f) (f n ∷ [])
-    ∙ ap₂ (λ (x y : ℕ). x + y) (count-tabulate b n f) (count-one b (f n))
+    ∙ ap₂ (λ (x y : ℕ). x + y) (count-tabulate b n f) (count_one b (f n))
 
 -- a list is what it shows at its places
-tabulate-own : (d : List ℕ) → d ≡ tabulate (length d) (λ i. get_or d i 0)
-tabulate-own d =
+tabulate_own : (d : List ℕ) → d ≡ tabulate (length d) (λ i. get_or d i 0)
+tabulate_own d =
     ext_get_or 0 d (tabulate (length d) (λ i. get_or d i 0)) (sym (length-tabulate (length d) (λ i. get_or d i 0)))
-    (λ i h. sym (get_d_tabulate (length d) (λ i. get_or d i 0) i 0 h))
+    (λ i h. sym (get_or-tabulate (length d) (λ i. get_or d i 0) i 0 h))
 
 pub count-turned : (b w N : ℕ) (d : List ℕ) → length d ≡ N * w → length d ≡ w * N
-    → count b (tabulate (length d) (λ i. get_or d (toSamples w N i) 0)) ≡ count b d
+    → count b (tabulate (length d) (λ i. get_or d (to_samples w N i) 0)) ≡ count b d
 count-turned b w N d e e' =
-    count-tabulate b (length d) (λ i. get_or d (toSamples w N i) 0)
-    ∙ ap (λ (L : ℕ). sum L (λ i. hit b (get_or d (toSamples w N i) 0))) e'
+    count-tabulate b (length d) (λ i. get_or d (to_samples w N i) 0)
+    ∙ ap (λ (L : ℕ). sum L (λ i. hit b (get_or d (to_samples w N i) 0))) e'
     ∙ sum-turned w N (λ q. hit b (get_or d q 0))
     ∙ ap (λ (L : ℕ). sum L (λ q. hit b (get_or d q 0))) (sym e)
     ∙ sym (count-tabulate b (length d) (λ i. get_or d i 0))
-    ∙ ap (count b) (sym (tabulate-own d))
+    ∙ ap (count b) (sym (tabulate_own d))

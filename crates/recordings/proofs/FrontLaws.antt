@@ -9,7 +9,7 @@ use lib.ListN.{length, get_or, set, length-set}
 use lib.Seq.{paste, ext_get_or}
 use Rattle.coding.specs.Bytes.{tabulate}
 use Rattle.coding.specs.Areas.{Columns}
-use Rattle.coding.proofs.BytesLaws.{stride, stored_more, Front, front_length, front-in, front-after}
+use Rattle.coding.proofs.BytesLaws.{stride, stored_more, Front, front_length, front_in, front-after}
 use Rattle.coding.proofs.AreasLaws.{Walk, walk_none, walk_more}
 use Rattle.recordings.proofs.PlaceLaws.{row_within, row_below, entry-below}
 
@@ -30,9 +30,9 @@ module _ (f : ℕ → ℕ) (size : ℕ) (v : List ℕ) (l : ℕ) (s : Filled f s
 pub walk_begins : (n F j m : ℕ) (v : ℕ → ℕ → ℕ) (t : List ℕ) → Walk n F j m v t t (0 * F + j) 0
 walk_begins n F j m v t = let z : 0 * F + j ≡ j = omega arith in rw z (walk_none n F j m v t)
 
-pub walk-next : (n F j m : ℕ) (v : ℕ → ℕ → ℕ) (t u : List ℕ) (i : ℕ) → j + m ≤ F → n * F ≤ length t → Walk n F j m v t u (i * F + j) i → i < n
+pub walk_next : (n F j m : ℕ) (v : ℕ → ℕ → ℕ) (t u : List ℕ) (i : ℕ) → j + m ≤ F → n * F ≤ length t → Walk n F j m v t u (i * F + j) i → i < n
     → (s : List ℕ) → m ≤ length s → ((l : ℕ) → l < m → get_or s l 0 ≡ v i l) → Walk n F j m v t (paste u (i * F + j) s m) ((i + 1) * F + j) (i + 1)
-walk-next n F j m v t u i fits room w h s hs hv =
+walk_next n F j m v t u i fits room w h s hs hv =
     let z : (i + 1) * F + j ≡ i * F + j + F = omega (arith, stride i F) in rw z (walk_more n F j m v t u (i * F + j) i fits room w h s hs hv)
 
 module _ (n F : ℕ) (v : ℕ → ℕ → ℕ) (f : ℕ → ℕ) (e : (i l : ℕ) → i < n → l < F → f (i * F + l) ≡ v i l) (t u : List ℕ) where
@@ -51,7 +51,7 @@ module _ (n F : ℕ) (v : ℕ → ℕ → ℕ) (f : ℕ → ℕ) (e : (i l : ℕ
         same = front_length t f u (n * F) s;
         inside = λ i l hi hl.
             ap (λ (x : ℕ). get_or u (i * F + x) 0) (zero-add l)
-            ∙ front-in t f u (n * F) s (i * F + l) (row_within F i l hl n hi)
+            ∙ front_in t f u (n * F) s (i * F + l) (row_within F i l hl n hi)
             ∙ e i l hi hl;
         outside = λ q h. go q h s (dec_lt q (n * F));
       }
@@ -79,5 +79,5 @@ module _ (n F : ℕ) (v : ℕ → ℕ → ℕ) (f : ℕ → ℕ) (e : (i l : ℕ
           ∙ c.inside (q / F) (q % F) hi hl
           ∙ sym (e (q / F) (q % F) hi hl)
           ∙ ap f (div-add-mod' q F)
-          ∙ sym (front-in t f w (n * F) s q b)
+          ∙ sym (front_in t f w (n * F) s q b)
       go q (no b) = c.outside q (past q (omega arith)) ∙ sym (front-after t f w (n * F) s q (omega arith))

@@ -5,7 +5,7 @@ use native.Mathlib.Nat.{add-zero, mul_comm, mod-lt, mod-eq_of_lt, div-eq_of_lt, 
 use native.Mathlib.Decide.{dec_lt}
 use native.Mathlib.Omega.{arith}
 use Rattle.coding.proofs.BytesLaws.{stride}
-use Rattle.recordings.specs.Planes.{toSamples, toPlanes}
+use Rattle.recordings.specs.Planes.{to_samples, to_planes}
 use Rattle.recordings.specs.Permutation.{Bijection}
 
 -- a row of F entries: entry l of row i, and back
@@ -50,33 +50,33 @@ module _ (n F q : ℕ) (h : q < n * F) where
 
 -- the two maps of places are inverse to each other
 module _ (w N : ℕ) where
-  pub samples-within : (i : ℕ) → i < w * N → toSamples w N i < N * w
+  pub samples-within : (i : ℕ) → i < w * N → to_samples w N i < N * w
   samples-within i h = row_within w (i % N) (i / N) (row_below w N i h) N (entry-below w N i h)
 
-  pub planes-within : (i : ℕ) → i < N * w → toPlanes w N i < w * N
+  pub planes-within : (i : ℕ) → i < N * w → to_planes w N i < w * N
   planes-within i h = row_within N (i % w) (i / w) (row_below N w i h) w (entry-below N w i h)
 
-  pub planes-samples : (i : ℕ) → i < w * N → toPlanes w N (toSamples w N i) ≡ i
+  pub planes-samples : (i : ℕ) → i < w * N → to_planes w N (to_samples w N i) ≡ i
   planes-samples i h =
       let p : i / N < w = row_below w N i h in
       rw (row_of w (i % N) (i / N) p) (rw (entry_of w (i % N) (i / N) p) (div-add-mod' i N))
 
-  pub samples-planes : (i : ℕ) → i < N * w → toSamples w N (toPlanes w N i) ≡ i
+  pub samples-planes : (i : ℕ) → i < N * w → to_samples w N (to_planes w N i) ≡ i
   samples-planes i h =
       let s : i / w < N = row_below N w i h in
       rw (row_of N (i % w) (i / w) s) (rw (entry_of N (i % w) (i / w) s) (div-add-mod' i w))
 
-  pub places : (L : ℕ) → L ≡ N * w → Bijection L (toSamples w N) (toPlanes w N)
+  pub places : (L : ℕ) → L ≡ N * w → Bijection L (to_samples w N) (to_planes w N)
   places L e =
       let c : w * N ≡ N * w = mul_comm w N in
       record {
-        to-within = λ i h. rw e (samples-within i (rw c (rw e at h)));
+        to_within = λ i h. rw e (samples-within i (rw c (rw e at h)));
         back-within = λ i h. rw e (rw c at (planes-within i (rw e at h)));
         back_to = λ i h. planes-samples i (rw c (rw e at h));
         to_back = λ i h. samples-planes i (rw e at h);
       }
 
-  pub places-back : (L : ℕ) → L ≡ N * w → Bijection L (toPlanes w N) (toSamples w N)
+  pub places-back : (L : ℕ) → L ≡ N * w → Bijection L (to_planes w N) (to_samples w N)
   places-back L e =
       let b = places L e in
-      record { to-within = b.back-within; back-within = b.to-within; back_to = b.to_back; to_back = b.back_to }
+      record { to_within = b.back-within; back-within = b.to_within; back_to = b.to_back; to_back = b.back_to }

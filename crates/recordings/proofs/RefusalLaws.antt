@@ -6,7 +6,7 @@ use Prim.Native.Nat.{ℕ}
 use lib.ListN.{length}
 use lib.Dec.{ltb}
 use lib.Seq.{paste}
-use Rattle.recordings.specs.Planes.{planesOf, samplesOf}
+use Rattle.recordings.specs.Planes.{planes_of, samples_of}
 use Rattle.recordings.specs.Answer.{Outcome}
 use Rattle.recordings.specs.Arrange.{ArrangeEnd, proper, arrange, planes, samples}
 
@@ -36,7 +36,7 @@ arrange-kept order w d out n = go (ltb (length out) (length d)) (proper w (lengt
     go false true e = absurd (differ n e)
 
 pub planes-kept : (w : ℕ) (d out : List ℕ) (n : ℕ) → (planes w d out).outcome ≡ Outcome.refuses n → (planes w d out).out ≡ out
-planes-kept = arrange-kept planesOf
+planes-kept = arrange-kept planes_of
 
 pub samples-kept : (w : ℕ) (d out : List ℕ) (n : ℕ) → (samples w d out).outcome ≡ Outcome.refuses n → (samples w d out).out ≡ out
-samples-kept = arrange-kept samplesOf
+samples-kept = arrange-kept samples_of

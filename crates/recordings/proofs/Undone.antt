@@ -7,39 +7,39 @@ use native.Mathlib.Nat.{zero-add, le_of_eq}
 use native.Mathlib.Omega.{arith}
 use lib.ListN.{length, get_or, take, drop}
 use lib.Seq.{paste, take-paste, drop-paste, take_all, ext_get_or}
-use Rattle.recordings.specs.Planes.{toSamples, toPlanes, planesOf, samplesOf}
+use Rattle.recordings.specs.Planes.{to_samples, to_planes, planes_of, samples_of}
 use Rattle.recordings.specs.Answer.{Outcome}
 use Rattle.recordings.specs.Arrange.{ArrangeEnd, proper, arrange, planes, samples}
-use Rattle.recordings.specs.Recording.{sampleWidth, rearrange, restore}
+use Rattle.recordings.specs.Recording.{sample_width, rearrange, restore}
 use Rattle.recordings.specs.Undoing.{Undoes}
 use Rattle.recordings.proofs.ArrangeLaws.{arrange-done}
-use Rattle.recordings.proofs.Permutations.{planes-permute, samples-permute}
+use Rattle.recordings.proofs.Permutations.{planes_permute, samples_permute}
 
 module _ (w : ℕ) (d : List ℕ) (p : proper w (length d) ≡ true) where
-  pub samples-of-planes : samplesOf w (planesOf w d) ≡ d
-  samples-of-planes =
-      let a = planes-permute w d p in
-      let L : length (planesOf w d) ≡ length d = a.same_length in
-      let b = samples-permute w (planesOf w d) (rw L p) in
+  pub samples_of_planes : samples_of w (planes_of w d) ≡ d
+  samples_of_planes =
+      let a = planes_permute w d p in
+      let L : length (planes_of w d) ≡ length d = a.same_length in
+      let b = samples_permute w (planes_of w d) (rw L p) in
       ext_get_or 0 _ d (b.same_length ∙ L)
       (λ i h.
       let hd : i < length d = rw (b.same_length ∙ L) at h in
       b.bytes i (rw L hd)
-      ∙ ap (λ (n : ℕ). get_or (planesOf w d) (toPlanes w (n / w) i) 0) L
-      ∙ a.bytes (toPlanes w (length d / w) i) (a.places.back-within i hd)
+      ∙ ap (λ (n : ℕ). get_or (planes_of w d) (to_planes w (n / w) i) 0) L
+      ∙ a.bytes (to_planes w (length d / w) i) (a.places.back-within i hd)
       ∙ ap (λ (q : ℕ). get_or d q 0) (a.places.to_back i hd))
 
-  pub planes-of-samples : planesOf w (samplesOf w d) ≡ d
-  planes-of-samples =
-      let a = samples-permute w d p in
-      let L : length (samplesOf w d) ≡ length d = a.same_length in
-      let b = planes-permute w (samplesOf w d) (rw L p) in
+  pub planes_of_samples : planes_of w (samples_of w d) ≡ d
+  planes_of_samples =
+      let a = samples_permute w d p in
+      let L : length (samples_of w d) ≡ length d = a.same_length in
+      let b = planes_permute w (samples_of w d) (rw L p) in
       ext_get_or 0 _ d (b.same_length ∙ L)
       (λ i h.
       let hd : i < length d = rw (b.same_length ∙ L) at h in
       b.bytes i (rw L hd)
-      ∙ ap (λ (n : ℕ). get_or (samplesOf w d) (toSamples w (n / w) i) 0) L
-      ∙ a.bytes (toSamples w (length d / w) i) (a.places.back-within i hd)
+      ∙ ap (λ (n : ℕ). get_or (samples_of w d) (to_samples w (n / w) i) 0) L
+      ∙ a.bytes (to_samples w (length d / w) i) (a.places.back-within i hd)
       ∙ ap (λ (q : ℕ). get_or d q 0) (a.places.to_back i hd))
 
 -- a call that serves, and its output
@@ -85,20 +85,20 @@ module _ (there back : ℕ → List ℕ → List ℕ) (w : ℕ) (d out again : L
         }
 
 module _ (w : ℕ) (d out again : List ℕ) (p : proper w (length d) ≡ true) (r : length d ≤ length out) (r' : length d ≤ length again) where
-  pub planes-undone : Undoes (planes w) (samples w) d out again
-  planes-undone =
-      let e : length (planesOf w d) ≡ length d = (planes-permute w d p).same_length in
-      undoes planesOf samplesOf w d out again p r r' e (samples-permute w (planesOf w d) (rw e p)).same_length (samples-of-planes w d p)
+  pub planes_undone : Undoes (planes w) (samples w) d out again
+  planes_undone =
+      let e : length (planes_of w d) ≡ length d = (planes_permute w d p).same_length in
+      undoes planes_of samples_of w d out again p r r' e (samples_permute w (planes_of w d) (rw e p)).same_length (samples_of_planes w d p)
 
-  pub samples-undone : Undoes (samples w) (planes w) d out again
-  samples-undone =
-      let e : length (samplesOf w d) ≡ length d = (samples-permute w d p).same_length in
-      undoes samplesOf planesOf w d out again p r r' e (planes-permute w (samplesOf w d) (rw e p)).same_length (planes-of-samples w d p)
+  pub samples_undone : Undoes (samples w) (planes w) d out again
+  samples_undone =
+      let e : length (samples_of w d) ≡ length d = (samples_permute w d p).same_length in
+      undoes samples_of planes_of w d out again p r r' e (planes_permute w (samples_of w d) (rw e p)).same_length (planes_of_samples w d p)
 
 -- a recording, at its width
-module _ (d out again : List ℕ) (p : proper sampleWidth (length d) ≡ true) (r : length d ≤ length out) (r' : length d ≤ length again) where
-  pub recording-restored : Undoes rearrange restore d out again
-  recording-restored = planes-undone sampleWidth d out again p r r'
+module _ (d out again : List ℕ) (p : proper sample_width (length d) ≡ true) (r : length d ≤ length out) (r' : length d ≤ length again) where
+  pub recording_restored : Undoes rearrange restore d out again
+  recording_restored = planes_undone sample_width d out again p r r'
 
-  pub recording-rearranged : Undoes restore rearrange d out again
-  recording-rearranged = samples-undone sampleWidth d out again p r r'
+  pub recording_rearranged : Undoes restore rearrange d out again
+  recording_rearranged = samples_undone sample_width d out again p r r'

@@ -1,7 +1,7 @@
 -- Rearranging: the answer and the output after it.
 use Rattle.std.specs.Prelude.{List, Bool, cond, ◌&&◌, ℕ, ◌%◌, length, leb, ltb, eqb}
 use Rattle.std.proofs.Math.Seq.{paste}
-use Rattle.recordings.specs.Planes.{planesOf, samplesOf}
+use Rattle.recordings.specs.Planes.{planes_of, samples_of}
 use Rattle.recordings.specs.Answer.{Outcome}
 
 pub record ArrangeEnd : Type 0 where
@@ -25,7 +25,7 @@ arrange order w d out =
     (record { outcome = Outcome.refuses 15; out = out }))
 
 abbrev pub planes : ℕ → List ℕ → List ℕ → ArrangeEnd
-planes = arrange planesOf
+planes = arrange planes_of
 
 abbrev pub samples : ℕ → List ℕ → List ℕ → ArrangeEnd
-samples = arrange samplesOf
+samples = arrange samples_of

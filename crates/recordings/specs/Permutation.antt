@@ -8,7 +8,7 @@ count b (a ∷ s) = cond (eqb a b) (suc (count b s)) (count b s)
 
 -- a map of the places below L onto themselves, with its inverse
 pub record Bijection (L : ℕ) (to back : ℕ → ℕ) : Type 0 where
-  pub to-within : (i : ℕ) → i < L → to i < L
+  pub to_within : (i : ℕ) → i < L → to i < L
   pub back-within : (i : ℕ) → i < L → back i < L
   pub back_to : (i : ℕ) → i < L → back (to i) ≡ i
   pub to_back : (i : ℕ) → i < L → to (back i) ≡ i

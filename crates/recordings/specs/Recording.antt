@@ -2,11 +2,11 @@
 use Rattle.std.specs.Prelude.{List, ℕ}
 use Rattle.recordings.specs.Arrange.{ArrangeEnd, planes, samples}
 
-abbrev pub sampleWidth : ℕ
-sampleWidth = 3
+abbrev pub sample_width : ℕ
+sample_width = 3
 
 abbrev pub rearrange : List ℕ → List ℕ → ArrangeEnd
-rearrange = planes sampleWidth
+rearrange = planes sample_width
 
 abbrev pub restore : List ℕ → List ℕ → ArrangeEnd
-restore = samples sampleWidth
+restore = samples sample_width

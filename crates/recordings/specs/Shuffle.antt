@@ -6,5 +6,5 @@ abbrev pub shuffled : ℕ → ℕ
 shuffled m = m / 2 + m % 2 * 24
 
 -- the same in a row of blocks
-abbrev pub inBlocks : (ℕ → ℕ) → ℕ → ℕ
-inBlocks f m = m / 48 * 48 + f (m % 48)
+abbrev pub in_blocks : (ℕ → ℕ) → ℕ → ℕ
+in_blocks f m = m / 48 * 48 + f (m % 48)

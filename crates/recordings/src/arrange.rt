@@ -2,7 +2,7 @@
 // size, however long the bytes are.
 ghost use Rattle.std.specs.Prelude.{◌≡◌, ℕ, ◌+◌, ◌*◌, ◌≤◌, length, get_or};
 ghost use Rattle.coding.specs.Areas.{Columns};
-ghost use Rattle.recordings.specs.Planes.{amongSamples, amongPlanes};
+ghost use Rattle.recordings.specs.Planes.{among_samples, among_planes};
 ghost use Rattle.recordings.specs.Answer.{outcome};
 ghost use Rattle.recordings.specs.Arrange.{proper as properFor, planes as planesEnd, samples as samplesEnd};
 
@@ -32,7 +32,7 @@ fn proper(width: usize, len: usize) -> bool
 fn first_planes(width: usize, n: usize, bytes: &[u8], out: &mut [u8]) -> usize
     requires { (n * width ≡ length bytes.now) × (length bytes.now ≤ length out.old) }
     ensures { (result ≤ n)
-        × Columns width n 0 result (λ p s. get_or bytes.now (amongSamples width s p) 0) out.old out.new }
+        × Columns width n 0 result (λ p s. get_or bytes.now (among_samples width s p) 0) out.old out.new }
 {
     if width == TRIPLE {
         return write_blocks(n, bytes, out);
@@ -43,7 +43,7 @@ fn first_planes(width: usize, n: usize, bytes: &[u8], out: &mut [u8]) -> usize
 // The planes of n samples, each an area of n bytes.
 fn lay_planes(width: usize, n: usize, bytes: &[u8], out: &mut [u8])
     requires { (n * width ≡ length bytes.now) × (length bytes.now ≤ length out.old) }
-    ensures { Columns width n 0 n (λ p s. get_or bytes.now (amongSamples width s p) 0) out.old out.new }
+    ensures { Columns width n 0 n (λ p s. get_or bytes.now (among_samples width s p) 0) out.old out.new }
 {
     let done = first_planes(width, n, bytes, out);
     write_planes(width, n, done, bytes, out);
@@ -52,7 +52,7 @@ fn lay_planes(width: usize, n: usize, bytes: &[u8], out: &mut [u8])
 fn first_samples(width: usize, n: usize, bytes: &[u8], out: &mut [u8]) -> usize
     requires { (n * width ≡ length bytes.now) × (length bytes.now ≤ length out.old) }
     ensures { (result ≤ n)
-        × Columns result width 0 width (λ s p. get_or bytes.now (amongPlanes n s p) 0) out.old out.new }
+        × Columns result width 0 width (λ s p. get_or bytes.now (among_planes n s p) 0) out.old out.new }
 {
     if width == TRIPLE {
         return write_triples(n, bytes, out);
@@ -63,7 +63,7 @@ fn first_samples(width: usize, n: usize, bytes: &[u8], out: &mut [u8]) -> usize
 // The n samples, each an area of as many bytes as it is wide.
 fn lay_samples(width: usize, n: usize, bytes: &[u8], out: &mut [u8])
     requires { (n * width ≡ length bytes.now) × (length bytes.now ≤ length out.old) }
-    ensures { Columns n width 0 width (λ s p. get_or bytes.now (amongPlanes n s p) 0) out.old out.new }
+    ensures { Columns n width 0 width (λ s p. get_or bytes.now (among_planes n s p) 0) out.old out.new }
 {
     let done = first_samples(width, n, bytes, out);
     let rest = done * width;

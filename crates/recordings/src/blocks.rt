@@ -4,8 +4,8 @@ ghost use Rattle.std.specs.Prelude.{◌≡◌, ℕ, ◌+◌, ◌*◌, ◌/◌, �
 ghost use Rattle.std.proofs.Math.Seq.{paste};
 ghost use Rattle.coding.specs.Bytes.{tabulate};
 ghost use Rattle.coding.specs.Areas.{Columns};
-ghost use Rattle.recordings.specs.Planes.{amongSamples};
-ghost use Rattle.recordings.specs.Shuffle.{shuffled, inBlocks};
+ghost use Rattle.recordings.specs.Planes.{among_samples};
+ghost use Rattle.recordings.specs.Shuffle.{shuffled, in_blocks};
 
 // The blocks that go together, and their bytes and samples: with fewer, what a shuffle stores is read again too soon after.
 const BLOCKS: usize = 32;
@@ -40,7 +40,7 @@ fn store(to: &mut [u8], at: usize, v: [u8; 16])
 fn shuffle(from: &[u8], at: usize, to: &mut [u8])
     requires { (at + 1536 ≤ length from.now) × (1536 ≤ length to.old) }
     ensures { to.new ≡ paste to.old 0
-        (tabulate 1536 (λ m. get_or from.now (at + inBlocks shuffled m) 0)) 1536 }
+        (tabulate 1536 (λ m. get_or from.now (at + in_blocks shuffled m) 0)) 1536 }
 {
     for k in 0..BLOCKS {
         let f = at + 48 * k;
@@ -70,7 +70,7 @@ fn spread(n: usize, s: usize, from: &[u8], out: &mut [u8])
 fn write_block(n: usize, s: usize, bytes: &[u8], x: &mut [u8], y: &mut [u8], out: &mut [u8])
     requires { (s + 512 ≤ n) × (3 * n ≤ length bytes.now) × (length x.old ≡ 1536) × (length y.old ≡ 1536)
         × (3 * n ≤ length out.old) }
-    ensures { Columns 3 n s 512 (λ p l. get_or bytes.now (amongSamples 3 (s + l) p) 0) out.old out.new }
+    ensures { Columns 3 n s 512 (λ p l. get_or bytes.now (among_samples 3 (s + l) p) 0) out.old out.new }
 {
     shuffle(bytes, 3 * s, x);
     shuffle(x, 0, y);
@@ -82,7 +82,7 @@ fn write_block(n: usize, s: usize, bytes: &[u8], x: &mut [u8], y: &mut [u8], out
 pub fn write_blocks(n: usize, bytes: &[u8], out: &mut [u8]) -> usize
     requires { (3 * n ≤ length bytes.now) × (3 * n ≤ length out.old) }
     ensures { (result ≤ n)
-        × Columns 3 n 0 result (λ p s. get_or bytes.now (amongSamples 3 s p) 0) out.old out.new }
+        × Columns 3 n 0 result (λ p s. get_or bytes.now (among_samples 3 s p) 0) out.old out.new }
 {
     let mut x = [0u8; LENGTH];
     let mut y = [0u8; LENGTH];

@@ -3,13 +3,13 @@ ghost use Rattle.std.specs.Prelude.{◌≡◌, ℕ, ◌+◌, ◌-◌, ◌*◌, �
 ghost use Rattle.std.proofs.Math.Seq.{paste};
 ghost use Rattle.coding.specs.Bytes.{tabulate};
 ghost use Rattle.coding.specs.Areas.{Columns};
-ghost use Rattle.recordings.specs.Planes.{amongSamples, amongPlanes};
+ghost use Rattle.recordings.specs.Planes.{among_samples, among_planes};
 
 // A plane's bytes from the samples, those of sample s and after.
 fn gather(width: usize, p: usize, s: usize, count: usize, bytes: &[u8], at: usize, out: &mut [u8])
     requires { (p < width) × ((s + count) * width ≤ length bytes.now) × (at + count ≤ length out.old) }
     ensures { out.new ≡ paste out.old at
-        (tabulate count (λ i. get_or bytes.now (amongSamples width (s + i) p) 0)) count }
+        (tabulate count (λ i. get_or bytes.now (among_samples width (s + i) p) 0)) count }
 {
     for i in 0..count {
         out[at + i] = bytes[(s + i) * width + p];
@@ -29,7 +29,7 @@ fn scatter(width: usize, p: usize, count: usize, bytes: &[u8], from: usize, out:
 // What the planes still lack: the bytes of the samples from s on.
 pub fn write_planes(width: usize, n: usize, s: usize, bytes: &[u8], out: &mut [u8])
     requires { (s ≤ n) × (n * width ≤ length bytes.now) × (n * width ≤ length out.old) }
-    ensures { Columns width n s (n - s) (λ p l. get_or bytes.now (amongSamples width (s + l) p) 0)
+    ensures { Columns width n s (n - s) (λ p l. get_or bytes.now (among_samples width (s + l) p) 0)
         out.old out.new }
 {
     for p in 0..width {
@@ -40,7 +40,7 @@ pub fn write_planes(width: usize, n: usize, s: usize, bytes: &[u8], out: &mut [u
 // The samples from s on.
 pub fn write_samples(width: usize, n: usize, s: usize, bytes: &[u8], out: &mut [u8])
     requires { (s ≤ n) × (n * width ≤ length bytes.now) × ((n - s) * width ≤ length out.old) }
-    ensures { Columns (n - s) width 0 width (λ i p. get_or bytes.now (amongPlanes n (s + i) p) 0)
+    ensures { Columns (n - s) width 0 width (λ i p. get_or bytes.now (among_planes n (s + i) p) 0)
         out.old out.new }
 {
     for p in 0..width {

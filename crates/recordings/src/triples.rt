@@ -2,12 +2,12 @@
 ghost use Rattle.std.specs.Prelude.{◌≡◌, ℕ, ◌+◌, ◌*◌, ◌/◌, ◌%◌, ◌<◌, ◌≤◌, length, get_or};
 ghost use Rattle.std.proofs.Math.Seq.{paste};
 ghost use Rattle.coding.specs.Areas.{Columns};
-ghost use Rattle.recordings.specs.Planes.{amongPlanes};
+ghost use Rattle.recordings.specs.Planes.{among_planes};
 
 // Sixteen samples from s on. They are stored when all are read, so that the compiler moves whole vectors.
 fn gather(n: usize, s: usize, bytes: &[u8]) -> [u8; 48]
     requires { (s + 16 ≤ n) × (n * 3 ≤ length bytes.now) }
-    ensures { (l : ℕ) → l < 48 → get_or result l 0 ≡ get_or bytes.now (amongPlanes n (s + l / 3) (l % 3)) 0 }
+    ensures { (l : ℕ) → l < 48 → get_or result l 0 ≡ get_or bytes.now (among_planes n (s + l / 3) (l % 3)) 0 }
 {
     let mut v = [0u8; 48];
     for i in 0..16 {
@@ -31,7 +31,7 @@ fn store(out: &mut [u8], at: usize, v: [u8; 48])
 pub fn write_triples(n: usize, bytes: &[u8], out: &mut [u8]) -> usize
     requires { (n * 3 ≤ length bytes.now) × (n * 3 ≤ length out.old) }
     ensures { (result ≤ n)
-        × Columns result 3 0 3 (λ i p. get_or bytes.now (amongPlanes n i p) 0) out.old out.new }
+        × Columns result 3 0 3 (λ i p. get_or bytes.now (among_planes n i p) 0) out.old out.new }
 {
     let mut s = 0;
     while 16 <= n - s {

@@ -16,16 +16,16 @@ use denote.Enum.Declared.{tag_of}
 use Rattle.parties.specs.declared.Measures.{Measures}
 use Rattle.parties.specs.protocol.Measures.{passes}
 use Rattle.parties.specs.Sizes.{sized, Sized}
-use Rattle.parties.specs.protocol.Client.{clientSize}
+use Rattle.parties.specs.protocol.Client.{client_size}
 use Rattle.parties.specs.protocol.Answer.{Served, refuses, serves}
-use Rattle.parties.specs.protocol.ClientEvents.{roomSize, startReading, updateAnswer, scanAnswer, clientMessage}
-use Rattle.parties.specs.protocol.DirectoryEvents.{directorySize, directoryUpdate, directoryScan}
-use Rattle.parties.specs.protocol.NodeEvents.{tableSize, answerSize, nodeMessage}
-use Rattle.parties.proofs.protocol.events.SentLengths.{reading-bounded, updated-bounded, scanned-bounded, message-bounded, ServedIn, scan-bounded, update-bounded, node-bounded}
+use Rattle.parties.specs.protocol.ClientEvents.{room_size, start_reading, update_answer, scan_answer, client_message}
+use Rattle.parties.specs.protocol.DirectoryEvents.{directory_size, directory_update, directory_scan}
+use Rattle.parties.specs.protocol.NodeEvents.{table_size, answer_size, node_message}
+use Rattle.parties.proofs.protocol.events.SentLengths.{reading_bounded, updated_bounded, scanned_bounded, message_bounded, ServedIn, scan_bounded, update_bounded, node_bounded}
 use Rattle.title.specs.Part.{Refuses, Placed}
 use Rattle.title.specs.declared.memory.Part.{Part}
 use Rattle.title.proofs.PartLaws.{both_true}
-use Rattle.title.specs.Memory.{memorySize, part_of, tableAt, tableIn, recordAt, recordIn}
+use Rattle.title.specs.Memory.{memory_size, part_of, table_at, table_in, record_at, record_in}
 use Rattle.parties.proofs.protocol.formats.MeasureLaws.{passed}
 use Rattle.parties.specs.protocol.Run.{Event, reading, lie, is_refused, length_of}
 use Rattle.parties.specs.records.Answer.{number}
@@ -41,27 +41,27 @@ use Rattle.runs.specs.declared.event.Readiness.{Readiness}
 use Rattle.runs.specs.declared.event.Ahead.{Ahead}
 use Rattle.runs.specs.declared.event.Clear.{Clear}
 use Rattle.runs.specs.declared.parcels.Found.{Found}
-use Rattle.runs.specs.Parcels.{callKind, returnKind, toNodeKind, toClientKind, no_node, properKey, IsList, Broken, Stands, NoneStands, Looks, Appended, Removed}
-use Rattle.runs.specs.Sent.{longestMessage, needed}
+use Rattle.runs.specs.Parcels.{call_kind, return_kind, to_node_kind, to_client_kind, no_node, proper_key, IsList, Broken, Stands, NoneStands, Looks, Appended, Removed}
+use Rattle.runs.specs.Sent.{longest_message, needed}
 use Rattle.runs.specs.Acts.{Lent, body, tagged, Serves}
-use Rattle.runs.specs.Event.{Cramped, Readies, Stopped, Waiting, Vacant, Halted, Aheads, Uncleared, Clears, lowestOf, Carried}
-use Rattle.runs.specs.Happens.{inBounds, suffices, PostRoomy, Unready, Happens, liesIn, honestIn}
+use Rattle.runs.specs.Event.{Cramped, Readies, Stopped, Waiting, Vacant, Halted, Aheads, Uncleared, Clears, lowest_of, Carried}
+use Rattle.runs.specs.Happens.{in_bounds, suffices, PostRoomy, Unready, Happens, lies_in, honest_in}
 use Rattle.runs.proofs.SentLaws.{piece-within, room_small, rows-small}
 
 -- ---- a client's answer
 
-pub not-refused : (a : ClientAnswer) → OneOf (1 ∷ 2 ∷ 3 ∷ 4 ∷ 5 ∷ 6 ∷ 7 ∷ 8 ∷ 9 ∷ 10 ∷ []) (tag_of the_type a) → false ≡ is_refused (answered a)
-not-refused (ClientAnswer.Refused r) k = absurd (miss (1 ∷ 2 ∷ 3 ∷ 4 ∷ 5 ∷ 6 ∷ 7 ∷ 8 ∷ 9 ∷ 10 ∷ []) 0 tt k)
-not-refused ClientAnswer.Waits k = refl
-not-refused ClientAnswer.Scan k = refl
-not-refused (ClientAnswer.Update len) k = refl
-not-refused (ClientAnswer.Stores v len) k = refl
-not-refused (ClientAnswer.Requests v nodes) k = refl
-not-refused (ClientAnswer.Deposited v len) k = refl
-not-refused ClientAnswer.Empty k = refl
-not-refused (ClientAnswer.Page v len) k = refl
-not-refused ClientAnswer.Spent k = refl
-not-refused ClientAnswer.Failed k = refl
+pub not_refused : (a : ClientAnswer) → OneOf (1 ∷ 2 ∷ 3 ∷ 4 ∷ 5 ∷ 6 ∷ 7 ∷ 8 ∷ 9 ∷ 10 ∷ []) (tag_of the_type a) → false ≡ is_refused (answered a)
+not_refused (ClientAnswer.Refused r) k = absurd (miss (1 ∷ 2 ∷ 3 ∷ 4 ∷ 5 ∷ 6 ∷ 7 ∷ 8 ∷ 9 ∷ 10 ∷ []) 0 tt k)
+not_refused ClientAnswer.Waits k = refl
+not_refused ClientAnswer.Scan k = refl
+not_refused (ClientAnswer.Update len) k = refl
+not_refused (ClientAnswer.Stores v len) k = refl
+not_refused (ClientAnswer.Requests v nodes) k = refl
+not_refused (ClientAnswer.Deposited v len) k = refl
+not_refused ClientAnswer.Empty k = refl
+not_refused (ClientAnswer.Page v len) k = refl
+not_refused ClientAnswer.Spent k = refl
+not_refused ClientAnswer.Failed k = refl
 
 -- ---- a parcel's first byte
 
@@ -71,20 +71,20 @@ tagged-empty post at end h =
     rw e
 
 -- its value is no 0
-tagged-cons : (x : ℕ) (l : List ℕ) → not (eqb x 0) ≡ tagged (x ∷ l)
-tagged-cons zero l = refl
-tagged-cons (suc x) l = let e : eqb (suc x) 0 ≡ false = ne_eqb (suc x) 0 (λ h. omega arith) in rw e
+tagged_cons : (x : ℕ) (l : List ℕ) → not (eqb x 0) ≡ tagged (x ∷ l)
+tagged_cons zero l = refl
+tagged_cons (suc x) l = let e : eqb (suc x) 0 ≡ false = ne_eqb (suc x) 0 (λ h. omega arith) in rw e
 
-pub tagged-full : (post : List ℕ) (at end : ℕ) → at + 7 < end → end ≤ length post → not (eqb (get_or post (at + 7) 0) 0) ≡ tagged (body post at end)
-tagged-full post at end h w =
+pub tagged_full : (post : List ℕ) (at end : ℕ) → at + 7 < end → end ≤ length post → not (eqb (get_or post (at + 7) 0) 0) ≡ tagged (body post at end)
+tagged_full post at end h w =
     let e : end - (at + 7) ≡ suc (end - (at + 8)) = omega arith in
     let l : at + 7 < length post = omega arith in
-    rw (e, drop-cons post (at + 7) 0 l) (tagged-cons (get_or post (at + 7) 0) (take (end - (at + 8)) (drop (suc (at + 7)) post)))
+    rw (e, drop-cons post (at + 7) 0 l) (tagged_cons (get_or post (at + 7) 0) (take (end - (at + 8)) (drop (suc (at + 7)) post)))
 
 -- ---- sizes
 
-pub sized-is : (s : Measures) (n : ℕ) → passes s ≡ true → sized s n ≡ n
-sized-is s n ok = rw ok refl
+pub sized_is : (s : Measures) (n : ℕ) → passes s ≡ true → sized s n ≡ n
+sized_is s n ok = rw ok refl
 
 pub sized-none : (s : Measures) (n : ℕ) → passes s ≡ false → sized s n ≡ 0
 sized-none s n e = rw e refl
@@ -93,7 +93,7 @@ pub needed-small : (s : Measures) → passes s ≡ true → needed s ≤ 1161784
 needed-small s ok =
     let p = passed s ok in
     let n : s.n ≤ 16 = p.nodes.1 in
-    let r : longestMessage s ≤ 70257 = omega (arith, room_small s ok) in
+    let r : longest_message s ≤ 70257 = omega (arith, room_small s ok) in
     omega (arith, rows-small s ok, mul-le-mul n r)
 
 -- ---- the directory's and a node's answers
@@ -110,8 +110,8 @@ appendable s a len front part room k post used at end mid left p e l m r =
     let n : left + (end - at) ≡ used = r.count in
     (omega (arith, p.2), omega (arith, p.2, needed-small s p.0.measures))
 
-take-least : (len : ℕ) (l : List ℕ) → take (min len (length l)) l ≡ take len l
-take-least len l = go (dec_le len (length l))
+take_least : (len : ℕ) (l : List ℕ) → take (min len (length l)) l ≡ take len l
+take_least len l = go (dec_le len (length l))
   where
     go : Dec (len ≤ length l) → take (min len (length l)) l ≡ take len l
     go (yes h) = let e : min len (length l) ≡ len = omega arith in rw e
@@ -126,7 +126,7 @@ pub serves-served : (kind c i : ℕ) (front room post : List ℕ) (used at end :
     → Appended (record { kind = kind; client = c; node = i; bytes = front ++ take part room } ∷ []) mid left after to
     → Serves kind c i front room post used at end after a (record { used = to; what = Happened.ByServer a })
 serves-served kind c i front room post used at end after a len e part left to mid p r h =
-    rw e (Serves.serves len left to mid r (rw (p, take-least len room) at h))
+    rw e (Serves.serves len left to mid r (rw (p, take_least len room) at h))
 
 -- a first slice that is too short, or long enough
 pub both-short : (n m : ℕ) (b : Bool) → m < n → false ≡ (leb n m && b)
@@ -135,42 +135,42 @@ both-short n m b h = sym (ap (λ (x : Bool). x && b) (lt-leb n m h))
 pub both_long : (n m : ℕ) (b : Bool) → n ≤ m → b ≡ (leb n m && b)
 both_long n m b h = sym (ap (λ (x : Bool). x && b) (le-leb n m h))
 
-and-true-right : (b : Bool) → (b && true) ≡ b
-and-true-right true = refl
-and-true-right false = refl
+and_true_right : (b : Bool) → (b && true) ≡ b
+and_true_right true = refl
+and_true_right false = refl
 
 -- ---- what a call tells, by its answer
 
-pub ready-yes : (s : Measures) (post used : ℕ) (r : Readiness) → Readies s post used r → r ≡ Readiness.Yes → PostRoomy s post used
-ready-yes s post used r h e = rw e at h
+pub ready_yes : (s : Measures) (post used : ℕ) (r : Readiness) → Readies s post used r → r ≡ Readiness.Yes → PostRoomy s post used
+ready_yes s post used r h e = rw e at h
 
-pub ready-no : (s : Measures) (post used : ℕ) (r : Readiness) → Readies s post used r → (x : Refusal) → r ≡ Readiness.No x → Cramped s post used (number x)
-ready-no s post used r h x e = rw e at h
+pub ready_no : (s : Measures) (post used : ℕ) (r : Readiness) → Readies s post used r → (x : Refusal) → r ≡ Readiness.No x → Cramped s post used (number x)
+ready_no s post used r h x e = rw e at h
 
-pub looks-broken : (s : Measures) (kind c i used : ℕ) (post : List ℕ) (r : Found) → Looks s kind c i used post r → r ≡ Found.Broken → Broken s used post
-looks-broken s kind c i used post r h e = rw e at h
+pub looks_broken : (s : Measures) (kind c i used : ℕ) (post : List ℕ) (r : Found) → Looks s kind c i used post r → r ≡ Found.Broken → Broken s used post
+looks_broken s kind c i used post r h e = rw e at h
 
-pub looks-none : (s : Measures) (kind c i used : ℕ) (post : List ℕ) (r : Found) → Looks s kind c i used post r → r ≡ Found.Nothing → NoneStands s kind c i used post
-looks-none s kind c i used post r h e = rw e at h
+pub looks_none : (s : Measures) (kind c i used : ℕ) (post : List ℕ) (r : Found) → Looks s kind c i used post r → r ≡ Found.Nothing → NoneStands s kind c i used post
+looks_none s kind c i used post r h e = rw e at h
 
-pub looks-at : (s : Measures) (kind c i used : ℕ) (post : List ℕ) (r : Found) → Looks s kind c i used post r → (at end : ℕ) → r ≡ Found.At at end
+pub looks_at : (s : Measures) (kind c i used : ℕ) (post : List ℕ) (r : Found) → Looks s kind c i used post r → (at end : ℕ) → r ≡ Found.At at end
     → Stands s kind c i used post at end
-looks-at s kind c i used post r h at end e = rw e at h
+looks_at s kind c i used post r h at end e = rw e at h
 
-pub ahead-ends : (s : Measures) (kind c i : ℕ) (post : List ℕ) (used : ℕ) (r : Ahead) → Aheads s kind c i post used r → (e : EventEnd) → r ≡ Ahead.Ends e
+pub ahead_ends : (s : Measures) (kind c i : ℕ) (post : List ℕ) (used : ℕ) (r : Ahead) → Aheads s kind c i post used r → (e : EventEnd) → r ≡ Ahead.Ends e
     → Halted s kind c i post used e
-ahead-ends s kind c i post used r h e q = rw q at h
+ahead_ends s kind c i post used r h e q = rw q at h
 
-pub ahead-at : (s : Measures) (kind c i : ℕ) (post : List ℕ) (used : ℕ) (r : Ahead) → Aheads s kind c i post used r → (at end : ℕ) → r ≡ Ahead.Found at end
+pub ahead_at : (s : Measures) (kind c i : ℕ) (post : List ℕ) (used : ℕ) (r : Ahead) → Aheads s kind c i post used r → (at end : ℕ) → r ≡ Ahead.Found at end
     → Waiting s kind c i post used at end
-ahead-at s kind c i post used r h at end e = rw e at h
+ahead_at s kind c i post used r h at end e = rw e at h
 
 module _ (s : Measures) (c i memory : ℕ) (enough : Bool) (post : List ℕ) (used : ℕ) (r : Clear) (h : Clears s c i memory enough post used r) where
-  pub clear-yes : r ≡ Clear.Yes → PostRoomy s (length post) used × (properKey s toClientKind c i ≡ true) × IsList s used post
-  clear-yes q = rw q at h
+  pub clear_yes : r ≡ Clear.Yes → PostRoomy s (length post) used × (proper_key s to_client_kind c i ≡ true) × IsList s used post
+  clear_yes q = rw q at h
 
-  pub clear-ends : (e : EventEnd) → r ≡ Clear.Ends e → Uncleared s c i memory enough post used e
-  clear-ends e q = rw q at h
+  pub clear_ends : (e : EventEnd) → r ≡ Clear.Ends e → Uncleared s c i memory enough post used e
+  clear_ends e q = rw q at h
 
 -- ---- an event as a whole
 
@@ -180,63 +180,63 @@ module _ {s : Measures} {honest : ℕ → Bool} {e : Event} {used : ℕ} {x : Le
   cramped-unready (Cramped.short h k) = Unready.short h k
 
   -- where a parcel is looked for: it ends here, or the parcel is carried
-  module _ {kind c i : ℕ} (b : properKey s kind c i ≡ inBounds s e) where
+  module _ {kind c i : ℕ} (b : proper_key s kind c i ≡ in_bounds s e) where
     stopped-unready : suffices s honest e x ≡ true → {n : ℕ} → Stopped s kind c i x.post used n → Unready s honest e used x n
     stopped-unready k (Stopped.cramped m h) = cramped-unready h
     stopped-unready k (Stopped.outside r h) = Unready.outside r k (sym b ∙ h)
     stopped-unready k (Stopped.form r h f) = Unready.form r k (sym b ∙ h) f
 
-    pub halted-happens : suffices s honest e x ≡ true
+    pub halted_happens : suffices s honest e x ≡ true
         → (Vacant s kind c i x.post used → Carried s honest e used x x (record { used = used; what = Happened.Nothing }))
         → {end : EventEnd} → Halted s kind c i x.post used end → Happens s honest e used x x end
-    halted-happens k rests (Halted.stopped r h) = Happens.unready r (stopped-unready k h) refl
-    halted-happens k rests (Halted.vacant v) =
+    halted_happens k rests (Halted.stopped r h) = Happens.unready r (stopped-unready k h) refl
+    halted_happens k rests (Halted.vacant v) =
         Happens.happens _ (record { roomy = v.roomy; bounds = sym b ∙ v.key; list = v.none.list }) refl (rests v).0 (rests v).1
 
-    pub waiting-happens : {at end : ℕ} → Waiting s kind c i x.post used at end → {y : Lent} {result : EventEnd} → length y.post ≡ length x.post
+    pub waiting_happens : {at end : ℕ} → Waiting s kind c i x.post used at end → {y : Lent} {result : EventEnd} → length y.post ≡ length x.post
         → Carried s honest e used x y result → Happens s honest e used x y result
-    waiting-happens w l p = Happens.happens _ (record { roomy = w.roomy; bounds = sym b ∙ w.key; list = w.stands.list }) l p.0 p.1
+    waiting_happens w l p = Happens.happens _ (record { roomy = w.roomy; bounds = sym b ∙ w.key; list = w.stands.list }) l p.0 p.1
 
   -- where a client is asked at once, and the event ends here
-  late-unready : (all : Bool) (c i : ℕ) → PostRoomy s (length x.post) used → suffices s honest e x ≡ all → properKey s toClientKind c i ≡ inBounds s e
-      → (properKey s toClientKind c i ≡ false) ⊎ Broken s used x.post → (n : ℕ) → n ≡ cond all (cond (properKey s toClientKind c i) 4 3) 2
+  late-unready : (all : Bool) (c i : ℕ) → PostRoomy s (length x.post) used → suffices s honest e x ≡ all → proper_key s to_client_kind c i ≡ in_bounds s e
+      → (proper_key s to_client_kind c i ≡ false) ⊎ Broken s used x.post → (n : ℕ) → n ≡ cond all (cond (proper_key s to_client_kind c i) 4 3) 2
       → Unready s honest e used x n
   late-unready false c i r k b (inl h) n m = rw m (Unready.lacks r k (inl (sym b ∙ h)))
   late-unready false c i r k b (inr h) n m = rw m (Unready.lacks r k (inr h))
-  late-unready true c i r k b late n m = go (properKey s toClientKind c i) refl late m
+  late-unready true c i r k b late n m = go (proper_key s to_client_kind c i) refl late m
     where
-      go : (y : Bool) → properKey s toClientKind c i ≡ y → (properKey s toClientKind c i ≡ false) ⊎ Broken s used x.post → n ≡ cond y 4 3 → Unready s honest e used x n
+      go : (y : Bool) → proper_key s to_client_kind c i ≡ y → (proper_key s to_client_kind c i ≡ false) ⊎ Broken s used x.post → n ≡ cond y 4 3 → Unready s honest e used x n
       go true q (inl h) m = absurd (false≢true (sym h ∙ q))
       go true q (inr h) m = rw m (Unready.form r k (sym b ∙ q) h)
       go false q late m = rw m (Unready.outside r k (sym b ∙ q))
 
-  pub uncleared-happens : {c i : ℕ} {enough : Bool} → (passes s ≡ true → properKey s toClientKind c i ≡ inBounds s e)
-      → (passes s ≡ true → suffices s honest e x ≡ (leb (memorySize s) (length x.memory) && enough))
+  pub uncleared_happens : {c i : ℕ} {enough : Bool} → (passes s ≡ true → proper_key s to_client_kind c i ≡ in_bounds s e)
+      → (passes s ≡ true → suffices s honest e x ≡ (leb (memory_size s) (length x.memory) && enough))
       → {end : EventEnd} → Uncleared s c i (length x.memory) enough x.post used end → Happens s honest e used x x end
-  uncleared-happens b k (Uncleared.cramped r h) = Happens.unready r (cramped-unready h) refl
-  uncleared-happens b k (Uncleared.late r p l n) = Happens.unready r (late-unready _ _ _ p (k p.measures) (b p.measures) l _ n) refl
+  uncleared_happens b k (Uncleared.cramped r h) = Happens.unready r (cramped-unready h) refl
+  uncleared_happens b k (Uncleared.late r p l n) = Happens.unready r (late-unready _ _ _ p (k p.measures) (b p.measures) l _ n) refl
 
 -- the bounds of an event, by its key
-pub call-bounds : (s : Measures) (c : ℕ) → properKey s callKind c no_node ≡ ltb c s.m
-unfolding properKey
-call-bounds s c = and-true-right (ltb c s.m)
+pub call-bounds : (s : Measures) (c : ℕ) → proper_key s call_kind c no_node ≡ ltb c s.m
+unfolding proper_key
+call-bounds s c = and_true_right (ltb c s.m)
 
-pub return-bounds : (s : Measures) (c : ℕ) → properKey s returnKind c no_node ≡ ltb c s.m
-unfolding properKey
-return-bounds s c = and-true-right (ltb c s.m)
+pub return-bounds : (s : Measures) (c : ℕ) → proper_key s return_kind c no_node ≡ ltb c s.m
+unfolding proper_key
+return-bounds s c = and_true_right (ltb c s.m)
 
-pub node-bounds : (s : Measures) (c i : ℕ) → properKey s toNodeKind c i ≡ (ltb c s.m && (leb 1 i && leb i s.n))
-unfolding properKey
+pub node-bounds : (s : Measures) (c i : ℕ) → proper_key s to_node_kind c i ≡ (ltb c s.m && (leb 1 i && leb i s.n))
+unfolding proper_key
 node-bounds s c i = refl
 
-pub client-bounds : (s : Measures) (c i : ℕ) → properKey s toClientKind c i ≡ (ltb c s.m && (leb 1 i && leb i s.n))
-unfolding properKey
+pub client-bounds : (s : Measures) (c i : ℕ) → proper_key s to_client_kind c i ≡ (ltb c s.m && (leb 1 i && leb i s.n))
+unfolding proper_key
 client-bounds s c i = refl
 
 -- a start has no node; the first one is always there
-pub start-bounds : (s : Measures) → passes s ≡ true → (c : ℕ) → properKey s toClientKind c 1 ≡ ltb c s.m
-unfolding properKey
-start-bounds s ok c = rw (le-leb 1 s.n (passed s ok).nodes.0) (and-true-right (ltb c s.m))
+pub start_bounds : (s : Measures) → passes s ≡ true → (c : ℕ) → proper_key s to_client_kind c 1 ≡ ltb c s.m
+unfolding proper_key
+start_bounds s ok c = rw (le-leb 1 s.n (passed s ok).nodes.0) (and_true_right (ltb c s.m))
 
 pub tagged-long : (post : List ℕ) (at end : ℕ) → tagged (body post at end) ≡ true → at + 8 ≤ end
 tagged-long post at end h = go (dec_le (at + 8) end)
@@ -245,15 +245,15 @@ tagged-long post at end h = go (dec_le (at + 8) end)
     go (yes l) = l
     go (no l) = let n : end ≤ at + 7 = omega arith in absurd (false≢true (tagged-empty post at end n ∙ h))
 
-pub dishonest : (liars i : ℕ) (r : Bool) → r ≡ liesIn liars i → r ≡ true → honestIn liars i ≡ false
+pub dishonest : (liars i : ℕ) (r : Bool) → r ≡ lies_in liars i → r ≡ true → honest_in liars i ≡ false
 dishonest liars i r e t = ap not (sym e ∙ t)
 
-pub honest-one : (liars i : ℕ) (r : Bool) → r ≡ liesIn liars i → r ≡ false → honestIn liars i ≡ true
-honest-one liars i r e t = ap not (sym e ∙ t)
+pub honest_one : (liars i : ℕ) (r : Bool) → r ≡ lies_in liars i → r ≡ false → honest_in liars i ≡ true
+honest_one liars i r e t = ap not (sym e ∙ t)
 
-in-length : (a : Served) (n : ℕ) → ServedIn n a → length_of a ≤ n
-in-length (refuses r) n h = omega arith
-in-length (serves len) n h = h
+in_length : (a : Served) (n : ℕ) → ServedIn n a → length_of a ≤ n
+in_length (refuses r) n h = omega arith
+in_length (serves len) n h = h
 
 -- ---- how long answers are, for memory of any bytes
 
@@ -266,77 +266,77 @@ taken-bytes (suc n) (a ∷ b) h (suc i) = taken-bytes n b (λ j. h (suc j)) i
 module _ (s : Measures) (memory : List ℕ) (bytes : (i : ℕ) → get_or memory i 0 < 256) where
   part_bytes : (at size : ℕ) (i : ℕ) → get_or (part_of s at size memory) i 0 < 256
   unfolding part_of
-  part_bytes at size i = go (leb (memorySize s) (length memory))
+  part_bytes at size i = go (leb (memory_size s) (length memory))
     where
       go : (b : Bool) → get_or (cond b (take size (drop at memory)) []) i 0 < 256
       go true = taken-bytes size (drop at memory) (λ j. rw (get_or-drop at memory j 0) (bytes (at + j))) i
       go false = omega arith
 
   module _ (c : ℕ) (a : ClientAnswer) where
-    pub reading-sized : (room : List ℕ) → answered a ≡ (startReading s c (recordIn s c memory) room).answer → Sized s (answered a)
-    reading-sized room e = subst (Sized s) (sym e) (reading-bounded s c (recordIn s c memory) (part_bytes (recordAt s c) (clientSize s)) room)
+    pub reading-sized : (room : List ℕ) → answered a ≡ (start_reading s c (record_in s c memory) room).answer → Sized s (answered a)
+    reading-sized room e = subst (Sized s) (sym e) (reading_bounded s c (record_in s c memory) (part_bytes (record_at s c) (client_size s)) room)
 
-    pub updated-sized : (room : List ℕ) → answered a ≡ (updateAnswer s c (recordIn s c memory) room).answer → Sized s (answered a)
-    updated-sized room e = subst (Sized s) (sym e) (updated-bounded s c (recordIn s c memory) (part_bytes (recordAt s c) (clientSize s)) room)
+    pub updated-sized : (room : List ℕ) → answered a ≡ (update_answer s c (record_in s c memory) room).answer → Sized s (answered a)
+    updated-sized room e = subst (Sized s) (sym e) (updated_bounded s c (record_in s c memory) (part_bytes (record_at s c) (client_size s)) room)
 
-    pub scanned-sized : (rows room : List ℕ) → answered a ≡ (scanAnswer s c (recordIn s c memory) rows room).answer → Sized s (answered a)
-    scanned-sized rows room e = subst (Sized s) (sym e) (scanned-bounded s c (recordIn s c memory) (part_bytes (recordAt s c) (clientSize s)) rows room)
+    pub scanned-sized : (rows room : List ℕ) → answered a ≡ (scan_answer s c (record_in s c memory) rows room).answer → Sized s (answered a)
+    scanned-sized rows room e = subst (Sized s) (sym e) (scanned_bounded s c (record_in s c memory) (part_bytes (record_at s c) (client_size s)) rows room)
 
-    pub message-sized : (i : ℕ) (message room out : List ℕ) → answered a ≡ (clientMessage s c i (recordIn s c memory) message room out).answer → Sized s (answered a)
-    message-sized i message room out e =
-        subst (Sized s) (sym e) (message-bounded s c (recordIn s c memory) (part_bytes (recordAt s c) (clientSize s)) i message room out)
+    pub message_sized : (i : ℕ) (message room out : List ℕ) → answered a ≡ (client_message s c i (record_in s c memory) message room out).answer → Sized s (answered a)
+    message_sized i message room out e =
+        subst (Sized s) (sym e) (message_bounded s c (record_in s c memory) (part_bytes (record_at s c) (client_size s)) i message room out)
 
-  pub node-length : (a : Service) (i : ℕ) (message room : List ℕ) → served a ≡ (nodeMessage s i (tableIn s i memory) message room).answer
-      → length_of (served a) ≤ answerSize s
-  node-length a i message room e = in-length (served a) (answerSize s) (subst (ServedIn (answerSize s)) (sym e) (node-bounded s i (tableIn s i memory) message room (part_bytes (tableAt s i) (tableSize s))))
+  pub node-length : (a : Service) (i : ℕ) (message room : List ℕ) → served a ≡ (node_message s i (table_in s i memory) message room).answer
+      → length_of (served a) ≤ answer_size s
+  node-length a i message room e = in_length (served a) (answer_size s) (subst (ServedIn (answer_size s)) (sym e) (node_bounded s i (table_in s i memory) message room (part_bytes (table_at s i) (table_size s))))
 
-pub scan-length : (s : Measures) (a : Service) (table room : List ℕ) → served a ≡ (directoryScan s table room).answer → length_of (served a) ≤ directorySize s
-scan-length s a table room e = in-length (served a) (directorySize s) (subst (ServedIn (directorySize s)) (sym e) (scan-bounded s table room))
+pub scan-length : (s : Measures) (a : Service) (table room : List ℕ) → served a ≡ (directory_scan s table room).answer → length_of (served a) ≤ directory_size s
+scan-length s a table room e = in_length (served a) (directory_size s) (subst (ServedIn (directory_size s)) (sym e) (scan_bounded s table room))
 
-pub update-length : (s : Measures) (a : Service) (c : ℕ) (table fields : List ℕ) → served a ≡ (directoryUpdate s c table fields).answer → length_of (served a) ≤ 0
-update-length s a c table fields e = in-length (served a) 0 (subst (ServedIn 0) (sym e) (update-bounded s c table fields))
+pub update-length : (s : Measures) (a : Service) (c : ℕ) (table fields : List ℕ) → served a ≡ (directory_update s c table fields).answer → length_of (served a) ≤ 0
+update-length s a c table fields e = in_length (served a) 0 (subst (ServedIn 0) (sym e) (update_bounded s c table fields))
 
 -- there is room for a node's answer
-pub answer-fits : (s : Measures) → passes s ≡ true → 8 + answerSize s ≤ needed s
+pub answer-fits : (s : Measures) → passes s ≡ true → 8 + answer_size s ≤ needed s
 answer-fits s ok =
     let p = passed s ok in
-    omega (arith, piece-within s ok, mul-le-mul_right (longestMessage s) p.nodes.0)
+    omega (arith, piece-within s ok, mul-le-mul_right (longest_message s) p.nodes.0)
 
 -- ---- the lowest that applies
 
 module _ (s : Measures) (c i memory : ℕ) where
-  pub lowest-short : (enough : Bool) (n : ℕ) → passes s ≡ true → Refuses s memory n → n ≡ lowestOf s c i memory enough
-  lowest-short enough n ok (Refuses.measures e) = absurd (false≢true (sym e ∙ ok))
-  lowest-short enough n ok (Refuses.short e l) = rw (lt-leb (memorySize s) memory l) refl
+  pub lowest_short : (enough : Bool) (n : ℕ) → passes s ≡ true → Refuses s memory n → n ≡ lowest_of s c i memory enough
+  lowest_short enough n ok (Refuses.measures e) = absurd (false≢true (sym e ∙ ok))
+  lowest_short enough n ok (Refuses.short e l) = rw (lt-leb (memory_size s) memory l) refl
 
-  pub lowest-lacks : (enough : Bool) → enough ≡ false → 2 ≡ lowestOf s c i memory enough
-  lowest-lacks enough e = rw e (go (leb (memorySize s) memory))
+  pub lowest_lacks : (enough : Bool) → enough ≡ false → 2 ≡ lowest_of s c i memory enough
+  lowest_lacks enough e = rw e (go (leb (memory_size s) memory))
     where
-      go : (b : Bool) → ◌≡◌ {A = ℕ} 2 (cond (b && false) (cond (properKey s toClientKind c i) 4 3) 2)
+      go : (b : Bool) → ◌≡◌ {A = ℕ} 2 (cond (b && false) (cond (proper_key s to_client_kind c i) 4 3) 2)
       go true = refl
       go false = refl
 
-  module _ (l : memorySize s ≤ memory) where
-    pub lowest-outside : (enough : Bool) → enough ≡ true → properKey s toClientKind c i ≡ false → 3 ≡ lowestOf s c i memory enough
-    lowest-outside enough e k = rw (le-leb (memorySize s) memory l, e, k) refl
+  module _ (l : memory_size s ≤ memory) where
+    pub lowest_outside : (enough : Bool) → enough ≡ true → proper_key s to_client_kind c i ≡ false → 3 ≡ lowest_of s c i memory enough
+    lowest_outside enough e k = rw (le-leb (memory_size s) memory l, e, k) refl
 
-    pub lowest-form : (enough : Bool) → enough ≡ true → properKey s toClientKind c i ≡ true → 4 ≡ lowestOf s c i memory enough
-    lowest-form enough e k = rw (le-leb (memorySize s) memory l, e, k) refl
+    pub lowest_form : (enough : Bool) → enough ≡ true → proper_key s to_client_kind c i ≡ true → 4 ≡ lowest_of s c i memory enough
+    lowest_form enough e k = rw (le-leb (memory_size s) memory l, e, k) refl
 
-pub placed-long : (s : Measures) (len at size : ℕ) (r : Part) → Placed s len at size r → (a b : ℕ) → r ≡ Part.Within a b → memorySize s ≤ len
-placed-long s len at size r h a b e = (rw e at h).long
+pub placed_long : (s : Measures) (len at size : ℕ) (r : Part) → Placed s len at size r → (a b : ℕ) → r ≡ Part.Within a b → memory_size s ≤ len
+placed_long s len at size r h a b e = (rw e at h).long
 
-pub placed-refused : (s : Measures) (len at size : ℕ) (r : Part) → Placed s len at size r → (x : Refusal) → r ≡ Part.Refused x → Refuses s len (number x)
-placed-refused s len at size r h x e = rw e at h
+pub placed_refused : (s : Measures) (len at size : ℕ) (r : Part) → Placed s len at size r → (x : Refusal) → r ≡ Part.Refused x → Refuses s len (number x)
+placed_refused s len at size r h x e = rw e at h
 
 -- the slices that a client wants, as the code tests them
-pub reading-suffices : (s : Measures) (honest : ℕ → Bool) (c : ℕ) (room : List ℕ) (x : Lent) (n : ℕ) → n ≡ roomSize s
-    → suffices s honest (reading c room) x ≡ (leb (memorySize s) (length x.memory) && leb n (length room))
+pub reading-suffices : (s : Measures) (honest : ℕ → Bool) (c : ℕ) (room : List ℕ) (x : Lent) (n : ℕ) → n ≡ room_size s
+    → suffices s honest (reading c room) x ≡ (leb (memory_size s) (length x.memory) && leb n (length room))
 reading-suffices s honest c room x n e = rw e refl
 
 pub lie-suffices : (s : Measures) (honest : ℕ → Bool) (i c : ℕ) (bytes room out : List ℕ) (x : Lent) (b : Bool) → honest i ≡ false
-    → b ≡ (leb (roomSize s) (length room) && leb (s.k * s.f - 4) (length out))
-    → suffices s honest (lie i c bytes room out) x ≡ (leb (memorySize s) (length x.memory) && b)
+    → b ≡ (leb (room_size s) (length room) && leb (s.k * s.f - 4) (length out))
+    → suffices s honest (lie i c bytes room out) x ≡ (leb (memory_size s) (length x.memory) && b)
 lie-suffices s honest i c bytes room out x b z e = rw (z, e) refl
 
 pub lie-asks-none : (s : Measures) (honest : ℕ → Bool) (i c : ℕ) (bytes room out : List ℕ) (x : Lent) → honest i ≡ true
@@ -345,9 +345,9 @@ lie-asks-none s honest i c bytes room out x z = rw z refl
 
 -- ---- numbers
 
-pub some-used : (n : ℕ) → (n ≡ 0 → ⊥) → 0 < n
-some-used zero h = absurd (h refl)
-some-used (suc n) h = omega arith
+pub some_used : (n : ℕ) → (n ≡ 0 → ⊥) → 0 < n
+some_used zero h = absurd (h refl)
+some_used (suc n) h = omega arith
 
 -- the last of the kinds
 pub last-kind : (n : ℕ) → n ≤ 3 → (n ≡ 0 → ⊥) → (n ≡ 1 → ⊥) → (n ≡ 2 → ⊥) → n ≡ 3
@@ -357,6 +357,6 @@ last-kind (suc (suc zero)) h a b c = absurd (c refl)
 last-kind (suc (suc (suc zero))) h a b c = refl
 last-kind (suc (suc (suc (suc n)))) h a b c = absurd (omega arith)
 
-pub key-kind-within : (s : Measures) (kind c i : ℕ) → properKey s kind c i ≡ true → kind ≤ 3
-unfolding properKey
+pub key-kind-within : (s : Measures) (kind c i : ℕ) → proper_key s kind c i ≡ true → kind ≤ 3
+unfolding proper_key
 key-kind-within s kind c i e = leb-true kind 3 (both_true (leb kind 3) _ e).0

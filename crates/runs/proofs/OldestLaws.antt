@@ -9,13 +9,13 @@ use Rattle.runs.specs.declared.answer.EventEnd.{EventEnd}
 use Rattle.runs.specs.UnderWay.{After}
 use Rattle.runs.specs.Acts.{Lent}
 use Rattle.runs.specs.Happens.{Happens}
-use Rattle.runs.specs.Oldest.{honestAll, Oldest}
+use Rattle.runs.specs.Oldest.{honest_all, Oldest}
 
 -- a run goes on, with every node honest
 pub record Continues (s : Measures) (es : List Event) (memory post : List ℕ) (used : ℕ) : Type 0 where
   pub more : List Event
   pub lent : AllLent more
-  pub after : After s honestAll (es ++ more) memory post used
+  pub after : After s honest_all (es ++ more) memory post used
 
 -- events with lent memory, one list after the other
 pub lent-more : (a b : List Event) → AllLent a → AllLent b → AllLent (a ++ b)
@@ -24,34 +24,34 @@ lent-more (e ∷ a) b h k = (h.0, lent-more a b h.1 k)
 
 module _ (s : Measures) where
   -- nothing happens
-  pub continues-same : (es : List Event) (memory post memory' post' : List ℕ) (used : ℕ) → memory' ≡ memory → post' ≡ post
-      → After s honestAll es memory post used → Continues s es memory' post' used
-  continues-same es memory post memory' post' used e g h = record { more = []; lent = tt; after = rw (append-nil es) (rw (e, g) h) }
+  pub continues_same : (es : List Event) (memory post memory' post' : List ℕ) (used : ℕ) → memory' ≡ memory → post' ≡ post
+      → After s honest_all es memory post used → Continues s es memory' post' used
+  continues_same es memory post memory' post' used e g h = record { more = []; lent = tt; after = rw (append-nil es) (rw (e, g) h) }
 
   -- one run after another
-  pub continues-more : (es : List Event) (memory post memory' post' : List ℕ) (used used' : ℕ) (c : Continues s es memory post used)
-      → (After s honestAll (es ++ c.more) memory post used → Continues s (es ++ c.more) memory' post' used') → Continues s es memory' post' used'
-  continues-more es memory post memory' post' used used' c f =
+  pub continues_more : (es : List Event) (memory post memory' post' : List ℕ) (used used' : ℕ) (c : Continues s es memory post used)
+      → (After s honest_all (es ++ c.more) memory post used → Continues s (es ++ c.more) memory' post' used') → Continues s es memory' post' used'
+  continues_more es memory post memory' post' used used' c f =
       let d = f c.after in
       record {
         more = c.more ++ d.more;
         lent = lent-more c.more d.more c.lent d.lent;
-        after = subst (λ (l : List Event). After s honestAll l memory' post' used') (append_assoc es c.more d.more) d.after;
+        after = subst (λ (l : List Event). After s honest_all l memory' post' used') (append_assoc es c.more d.more) d.after;
       }
 
-  pub happens-continues : (e : Event) (used : ℕ) (x y : Lent) (result : EventEnd) → Happens s honestAll e used x y result → Given e
-      → (es : List Event) → After s honestAll es x.memory x.post used → Continues s es y.memory y.post result.used
-  happens-continues e used x y result (Happens.unready r u q) g es h =
-      rw q (continues-same es x.memory x.post x.memory x.post used refl refl h)
-  happens-continues e used x y result (Happens.happens t r l w f) g es h = record { more = e ∷ []; lent = (g, tt); after = (f es h).after }
+  pub happens_continues : (e : Event) (used : ℕ) (x y : Lent) (result : EventEnd) → Happens s honest_all e used x y result → Given e
+      → (es : List Event) → After s honest_all es x.memory x.post used → Continues s es y.memory y.post result.used
+  happens_continues e used x y result (Happens.unready r u q) g es h =
+      rw q (continues_same es x.memory x.post x.memory x.post used refl refl h)
+  happens_continues e used x y result (Happens.happens t r l w f) g es h = record { more = e ∷ []; lent = (g, tt); after = (f es h).after }
 
   -- the room and the output have bytes in them: so has each event's that the parcel in front may be for
-  pub oldest-continues : (used : ℕ) (x y : Lent) (result : EventEnd) → Oldest s used x y result → Given (deliver 0 0 x.room x.out)
-      → (es : List Event) → After s honestAll es x.memory x.post used → Continues s es y.memory y.post result.used
-  oldest-continues used x y result (Oldest.cramped r u e) g es h = rw e (continues-same es x.memory x.post x.memory x.post used refl refl h)
-  oldest-continues used x y result (Oldest.form o u e) g es h = rw e (continues-same es x.memory x.post x.memory x.post used refl refl h)
-  oldest-continues used x y result (Oldest.none o u e) g es h = rw e (continues-same es x.memory x.post x.memory x.post used refl refl h)
-  oldest-continues used x y result (Oldest.call t l k o p) g es h = happens-continues _ used _ _ result p g.0 es h
-  oldest-continues used x y result (Oldest.return t l k o p) g es h = happens-continues _ used _ _ result p g.0 es h
-  oldest-continues used x y result (Oldest.toNode t l k o p) g es h = happens-continues _ used _ _ result p g.0 es h
-  oldest-continues used x y result (Oldest.toClient t l k p) g es h = happens-continues _ used _ _ result p g es h
+  pub oldest_continues : (used : ℕ) (x y : Lent) (result : EventEnd) → Oldest s used x y result → Given (deliver 0 0 x.room x.out)
+      → (es : List Event) → After s honest_all es x.memory x.post used → Continues s es y.memory y.post result.used
+  oldest_continues used x y result (Oldest.cramped r u e) g es h = rw e (continues_same es x.memory x.post x.memory x.post used refl refl h)
+  oldest_continues used x y result (Oldest.form o u e) g es h = rw e (continues_same es x.memory x.post x.memory x.post used refl refl h)
+  oldest_continues used x y result (Oldest.none o u e) g es h = rw e (continues_same es x.memory x.post x.memory x.post used refl refl h)
+  oldest_continues used x y result (Oldest.call t l k o p) g es h = happens_continues _ used _ _ result p g.0 es h
+  oldest_continues used x y result (Oldest.return t l k o p) g es h = happens_continues _ used _ _ result p g.0 es h
+  oldest_continues used x y result (Oldest.to_node t l k o p) g es h = happens_continues _ used _ _ result p g.0 es h
+  oldest_continues used x y result (Oldest.to_client t l k p) g es h = happens_continues _ used _ _ result p g es h

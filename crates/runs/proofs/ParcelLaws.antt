@@ -10,19 +10,19 @@ use lib.ListN.{length, take, drop, length-append, take-append-drop}
 use lib.Seq.{take_at, drop_at, drop-drop, take-take, length-take-le}
 use Rattle.title.proofs.PartLaws.{both_true}
 use Rattle.parties.specs.declared.Measures.{Measures}
-use Rattle.parties.specs.protocol.Format.{writeNumber, writeMany}
-use Rattle.parties.proofs.protocol.model.Cells.{by-eq}
+use Rattle.parties.specs.protocol.Format.{write_number, write_many}
+use Rattle.parties.proofs.protocol.model.Cells.{by_eq}
 use Rattle.parties.proofs.protocol.formats.PointerLaws.{length-number}
 use Rattle.parties.proofs.records.SpliceLaws.{many-append}
-use Rattle.runs.specs.Parcels.{Parcel, writeParcel, writeParcels, properKey, proper, properAll, Listed, keyed, bodies, FindsAt, Appended, Removed}
+use Rattle.runs.specs.Parcels.{Parcel, write_parcel, write_parcels, proper_key, proper, proper_all, Listed, keyed, bodies, FindsAt, Appended, Removed}
 use Rattle.runs.specs.Acts.{body}
 use Rattle.runs.proofs.PostLaws.{bodies-append, length-parcel}
 
 -- ---- what is under way of a kind between a client and a node
 
-pub nothing-in : (k c i : ℕ) → bodies k c i [] ≡ []
+pub nothing_in : (k c i : ℕ) → bodies k c i [] ≡ []
 unfolding bodies
-nothing-in k c i = refl
+nothing_in k c i = refl
 
 -- one parcel, with its key or with another
 pub body-keyed : (k c i : ℕ) (x : Parcel) (q : List Parcel) → keyed k c i x ≡ true → bodies k c i (x ∷ q) ≡ x.bytes ∷ bodies k c i q
@@ -59,103 +59,103 @@ key_of k c i x e =
     let b = both_true (eqb x.client c) _ a.1 in
     record { kind = eqb-true x.kind k a.0; client = eqb-true x.client c b.0; node = eqb-true x.node i b.1 }
 
-pub keyed-by : (k c i : ℕ) (b : List ℕ) → keyed k c i (record { kind = k; client = c; node = i; bytes = b }) ≡ true
-keyed-by k c i b = simp (eq-eqb k k refl, eq-eqb c c refl, eq-eqb i i refl)
+pub keyed_by : (k c i : ℕ) (b : List ℕ) → keyed k c i (record { kind = k; client = c; node = i; bytes = b }) ≡ true
+keyed_by k c i b = simp (eq-eqb k k refl, eq-eqb c c refl, eq-eqb i i refl)
 
 both_false : (a b : Bool) → b ≡ false → (a && b) ≡ false
 both_false true b e = e
 both_false false b e = refl
 
 -- it is not keyed by another kind, another client or another node
-pub not-kind : (k c i k' c' i' : ℕ) (x : Parcel) → keyed k c i x ≡ true → (k ≡ k' → ⊥) → keyed k' c' i' x ≡ false
-not-kind k c i k' c' i' x e n =
+pub not_kind : (k c i k' c' i' : ℕ) (x : Parcel) → keyed k c i x ≡ true → (k ≡ k' → ⊥) → keyed k' c' i' x ≡ false
+not_kind k c i k' c' i' x e n =
     let y = key_of k c i x e in
     ap (λ (b : Bool). b && (eqb x.client c' && eqb x.node i')) (ne_eqb x.kind k' (λ z. n (sym y.kind ∙ z)))
 
-pub not-client : (k c i k' c' i' : ℕ) (x : Parcel) → keyed k c i x ≡ true → (c ≡ c' → ⊥) → keyed k' c' i' x ≡ false
-not-client k c i k' c' i' x e n =
+pub not_client : (k c i k' c' i' : ℕ) (x : Parcel) → keyed k c i x ≡ true → (c ≡ c' → ⊥) → keyed k' c' i' x ≡ false
+not_client k c i k' c' i' x e n =
     let y = key_of k c i x e in
     both_false (eqb x.kind k') _
     (ap (λ (b : Bool). b && eqb x.node i') (ne_eqb x.client c' (λ z. n (sym y.client ∙ z))))
 
-pub not-node : (k c i k' c' i' : ℕ) (x : Parcel) → keyed k c i x ≡ true → (i ≡ i' → ⊥) → keyed k' c' i' x ≡ false
-not-node k c i k' c' i' x e n =
+pub not_node : (k c i k' c' i' : ℕ) (x : Parcel) → keyed k c i x ≡ true → (i ≡ i' → ⊥) → keyed k' c' i' x ≡ false
+not_node k c i k' c' i' x e n =
     let y = key_of k c i x e in
     both_false (eqb x.kind k') _ (both_false (eqb x.client c') _ (ne_eqb x.node i' (λ z. n (sym y.node ∙ z))))
 
 -- nor by both another client and node
-pub not-two : (k c i k' c' i' : ℕ) (x : Parcel) → keyed k c i x ≡ true → (c' ≡ c → i' ≡ i → ⊥) → keyed k' c' i' x ≡ false
-not-two k c i k' c' i' x e n =
-    by-eq c' c (λ t z. not-node k c i k' c' i' x e (λ y. n z (sym y))) (λ t z. not-client k c i k' c' i' x e (λ y. z (sym y)))
+pub not_two : (k c i k' c' i' : ℕ) (x : Parcel) → keyed k c i x ≡ true → (c' ≡ c → i' ≡ i → ⊥) → keyed k' c' i' x ≡ false
+not_two k c i k' c' i' x e n =
+    by_eq c' c (λ t z. not_node k c i k' c' i' x e (λ y. n z (sym y))) (λ t z. not_client k c i k' c' i' x e (λ y. z (sym y)))
 
 -- ---- proper ones
 
-pub proper-++ : (s : Measures) (p q : List Parcel) → properAll s p ≡ true → properAll s q ≡ true → properAll s (p ++ q) ≡ true
-unfolding properAll
+pub proper-++ : (s : Measures) (p q : List Parcel) → proper_all s p ≡ true → proper_all s q ≡ true → proper_all s (p ++ q) ≡ true
+unfolding proper_all
 proper-++ s [] q a b = b
 proper-++ s (x ∷ p) q a b =
-    let e = both_true (proper s x) (properAll s p) a in
-    ap (λ (t : Bool). t && properAll s (p ++ q)) e.0 ∙ proper-++ s p q e.1 b
+    let e = both_true (proper s x) (proper_all s p) a in
+    ap (λ (t : Bool). t && proper_all s (p ++ q)) e.0 ∙ proper-++ s p q e.1 b
 
-pub proper-by : (s : Measures) (k c i : ℕ) (b : List ℕ) → properKey s k c i ≡ true → length b < 4294967296
+pub proper_by : (s : Measures) (k c i : ℕ) (b : List ℕ) → proper_key s k c i ≡ true → length b < 4294967296
     → proper s (record { kind = k; client = c; node = i; bytes = b }) ≡ true
-proper-by s k c i b e g = rw (e, lt-ltb (length b) 4294967296 g) refl
+proper_by s k c i b e g = rw (e, lt-ltb (length b) 4294967296 g) refl
 
-pub proper-one : (s : Measures) (x : Parcel) → proper s x ≡ true → properAll s (x ∷ []) ≡ true
-unfolding properAll
-proper-one s x e = ap (λ (t : Bool). t && true) e
+pub proper_one : (s : Measures) (x : Parcel) → proper s x ≡ true → proper_all s (x ∷ []) ≡ true
+unfolding proper_all
+proper_one s x e = ap (λ (t : Bool). t && true) e
 
 -- one among others
-pub proper-of : (s : Measures) (p : List Parcel) (x : Parcel) (q : List Parcel) → properAll s (p ++ (x ∷ q)) ≡ true → proper s x ≡ true
-unfolding properAll
-proper-of s [] x q a = (both_true (proper s x) (properAll s q) a).0
-proper-of s (y ∷ p) x q a = proper-of s p x q (both_true (proper s y) (properAll s (p ++ (x ∷ q))) a).1
+pub proper_of : (s : Measures) (p : List Parcel) (x : Parcel) (q : List Parcel) → proper_all s (p ++ (x ∷ q)) ≡ true → proper s x ≡ true
+unfolding proper_all
+proper_of s [] x q a = (both_true (proper s x) (proper_all s q) a).0
+proper_of s (y ∷ p) x q a = proper_of s p x q (both_true (proper s y) (proper_all s (p ++ (x ∷ q))) a).1
 
 -- without one of them
-proper-but : (s : Measures) (p : List Parcel) (x : Parcel) (q : List Parcel) → properAll s (p ++ (x ∷ q)) ≡ true → properAll s (p ++ q) ≡ true
-unfolding properAll
-proper-but s [] x q a = (both_true (proper s x) (properAll s q) a).1
-proper-but s (y ∷ p) x q a =
-    let e = both_true (proper s y) (properAll s (p ++ (x ∷ q))) a in
-    ap (λ (t : Bool). t && properAll s (p ++ q)) e.0 ∙ proper-but s p x q e.1
+proper_but : (s : Measures) (p : List Parcel) (x : Parcel) (q : List Parcel) → proper_all s (p ++ (x ∷ q)) ≡ true → proper_all s (p ++ q) ≡ true
+unfolding proper_all
+proper_but s [] x q a = (both_true (proper s x) (proper_all s q) a).1
+proper_but s (y ∷ p) x q a =
+    let e = both_true (proper s y) (proper_all s (p ++ (x ∷ q))) a in
+    ap (λ (t : Bool). t && proper_all s (p ++ q)) e.0 ∙ proper_but s p x q e.1
 
 -- ---- their bytes
 
 -- what stands before a parcel's own bytes
 header : Parcel → List ℕ
-header p = p.kind ∷ (writeNumber 1 p.client ++ (writeNumber 1 p.node ++ writeNumber 4 (length p.bytes)))
+header p = p.kind ∷ (write_number 1 p.client ++ (write_number 1 p.node ++ write_number 4 (length p.bytes)))
 
-header-long : (p : Parcel) → length (header p) ≡ 7
+header_long : (p : Parcel) → length (header p) ≡ 7
 unfolding header
-header-long p =
-    let n = writeNumber 1 p.node ++ writeNumber 4 (length p.bytes) in
+header_long p =
+    let n = write_number 1 p.node ++ write_number 4 (length p.bytes) in
     omega (
       arith,
-      length-append (writeNumber 1 p.client) n,
-      length-append (writeNumber 1 p.node) (writeNumber 4 (length p.bytes)),
+      length-append (write_number 1 p.client) n,
+      length-append (write_number 1 p.node) (write_number 4 (length p.bytes)),
       length-number 1 p.client,
       length-number 1 p.node,
       length-number 4 (length p.bytes),
     )
 
-header-first : (p : Parcel) → writeParcel p ≡ header p ++ p.bytes
+header_first : (p : Parcel) → write_parcel p ≡ header p ++ p.bytes
 unfolding header
-header-first p = simp append_assoc
+header_first p = simp append_assoc
 
 -- the parcels with one between them
-pub parcels-parts : (p : List Parcel) (x : Parcel) (q : List Parcel) → writeParcels (p ++ (x ∷ q)) ≡ writeParcels p ++ (writeParcel x ++ writeParcels q)
-unfolding writeMany
-parcels-parts p x q = many-append writeParcel p (x ∷ q)
+pub parcels-parts : (p : List Parcel) (x : Parcel) (q : List Parcel) → write_parcels (p ++ (x ∷ q)) ≡ write_parcels p ++ (write_parcel x ++ write_parcels q)
+unfolding write_many
+parcels-parts p x q = many-append write_parcel p (x ∷ q)
 
 -- ---- one more is written
 
-pub listed-appended : (s : Measures) (q p : List Parcel) (post : List ℕ) (used : ℕ) (after : List ℕ) (r : ℕ) → Listed s q used post → properAll s p ≡ true
+pub listed_appended : (s : Measures) (q p : List Parcel) (post : List ℕ) (used : ℕ) (after : List ℕ) (r : ℕ) → Listed s q used post → proper_all s p ≡ true
     → Appended p post used after r → Listed s (q ++ p) r after
-listed-appended s q p post used after r l g a =
+listed_appended s q p post used after r l g a =
     record {
       within = a.within;
-      written = a.written ∙ ap (λ (t : List ℕ). t ++ writeParcels p) l.written ∙ sym (many-append writeParcel q p);
-      allProper = proper-++ s q p l.allProper g;
+      written = a.written ∙ ap (λ (t : List ℕ). t ++ write_parcels p) l.written ∙ sym (many-append write_parcel q p);
+      all_proper = proper-++ s q p l.all_proper g;
     }
 
 -- ---- one is taken out
@@ -173,60 +173,60 @@ between a h b r at end p q e =
 
 module _ (s : Measures) (k c i : ℕ) (q : List Parcel) (used : ℕ) (post : List ℕ) (at end : ℕ) (l : Listed s q used post) (f : FindsAt k c i q at end) where
   -- the used bytes, in parts
-  parts : take used post ≡ writeParcels f.before ++ (writeParcel f.parcel ++ writeParcels f.rest)
-  parts = l.written ∙ ap writeParcels f.parts ∙ parcels-parts f.before f.parcel f.rest
+  parts : take used post ≡ write_parcels f.before ++ (write_parcel f.parcel ++ write_parcels f.rest)
+  parts = l.written ∙ ap write_parcels f.parts ∙ parcels-parts f.before f.parcel f.rest
 
-  parts-long : used ≡ at + (7 + length f.parcel.bytes) + length (writeParcels f.rest)
+  parts-long : used ≡ at + (7 + length f.parcel.bytes) + length (write_parcels f.rest)
   parts-long =
-      let x = writeParcel f.parcel ++ writeParcels f.rest in
-      let a = length-append (writeParcels f.before) x in
-      let b = length-append (writeParcel f.parcel) (writeParcels f.rest) in
+      let x = write_parcel f.parcel ++ write_parcels f.rest in
+      let a = length-append (write_parcels f.before) x in
+      let b = length-append (write_parcel f.parcel) (write_parcels f.rest) in
       omega (arith, sym (length-take-le used post l.within) ∙ ap length parts, a, b, length-parcel f.parcel, f.first)
 
   pub found_within : (at + 7 ≤ end) × (end ≤ used)
   found_within = (omega (arith, f.last), omega (arith, f.last, parts-long))
 
   -- all bytes, in parts
-  whole : post ≡ writeParcels f.before ++ (header f.parcel ++ (f.parcel.bytes ++ (writeParcels f.rest ++ drop used post)))
+  whole : post ≡ write_parcels f.before ++ (header f.parcel ++ (f.parcel.bytes ++ (write_parcels f.rest ++ drop used post)))
   whole =
       let x = header f.parcel in
       let b = f.parcel.bytes in
       sym (take-append-drop used post)
-      ∙ ap (λ (t : List ℕ). t ++ drop used post) (parts ∙ ap (λ (t : List ℕ). writeParcels f.before ++ (t ++ writeParcels f.rest)) (header-first f.parcel))
-      ∙ regroup (writeParcels f.before) x b (writeParcels f.rest) (drop used post)
+      ∙ ap (λ (t : List ℕ). t ++ drop used post) (parts ∙ ap (λ (t : List ℕ). write_parcels f.before ++ (t ++ write_parcels f.rest)) (header_first f.parcel))
+      ∙ regroup (write_parcels f.before) x b (write_parcels f.rest) (drop used post)
 
   pub found-body : body post at end ≡ f.parcel.bytes
   found-body =
       ap (λ (t : List ℕ). body t at end) whole
-      ∙ between (writeParcels f.before) (header f.parcel) f.parcel.bytes (writeParcels f.rest ++ drop used post) at end
-      f.first (header-long f.parcel) f.last
+      ∙ between (write_parcels f.before) (header f.parcel) f.parcel.bytes (write_parcels f.rest ++ drop used post) at end
+      f.first (header_long f.parcel) f.last
 
   -- a parcel that was found has a proper key
-  pub found-key : properKey s k c i ≡ true
+  pub found-key : proper_key s k c i ≡ true
   found-key =
       let y = key_of k c i f.parcel f.same in
-      subst (λ (t : ℕ). properKey s t c i ≡ true) y.kind
-      (subst (λ (t : ℕ). properKey s f.parcel.kind t i ≡ true) y.client
-      (subst (λ (t : ℕ). properKey s f.parcel.kind f.parcel.client t ≡ true) y.node
-      (both_true (properKey s f.parcel.kind f.parcel.client f.parcel.node) _
-      (proper-of s f.before f.parcel f.rest (subst (λ (p : List Parcel). properAll s p ≡ true) f.parts l.allProper))).0))
+      subst (λ (t : ℕ). proper_key s t c i ≡ true) y.kind
+      (subst (λ (t : ℕ). proper_key s f.parcel.kind t i ≡ true) y.client
+      (subst (λ (t : ℕ). proper_key s f.parcel.kind f.parcel.client t ≡ true) y.node
+      (both_true (proper_key s f.parcel.kind f.parcel.client f.parcel.node) _
+      (proper_of s f.before f.parcel f.rest (subst (λ (p : List Parcel). proper_all s p ≡ true) f.parts l.all_proper))).0))
 
-  pub listed-removed : (after : List ℕ) (r : ℕ) → Removed at end post used after r → Listed s (f.before ++ f.rest) r after
-  listed-removed after r d =
+  pub listed_removed : (after : List ℕ) (r : ℕ) → Removed at end post used after r → Listed s (f.before ++ f.rest) r after
+  listed_removed after r d =
       record {
         within = d.within;
-        written = d.written ∙ (λ j. front j ++ behind j) ∙ sym (many-append writeParcel f.before f.rest);
-        allProper = proper-but s f.before f.parcel f.rest (subst (λ (p : List Parcel). properAll s p ≡ true) f.parts l.allProper);
+        written = d.written ∙ (λ j. front j ++ behind j) ∙ sym (many-append write_parcel f.before f.rest);
+        all_proper = proper_but s f.before f.parcel f.rest (subst (λ (p : List Parcel). proper_all s p ≡ true) f.parts l.all_proper);
       }
     where
-      front : take at post ≡ writeParcels f.before
+      front : take at post ≡ write_parcels f.before
       front =
           let n : at ≤ used = omega (arith, parts-long) in
-          sym (take-take at used post n) ∙ ap (take at) parts ∙ take_at (writeParcels f.before) _ at (sym f.first)
+          sym (take-take at used post n) ∙ ap (take at) parts ∙ take_at (write_parcels f.before) _ at (sym f.first)
 
-      behind : drop end (take used post) ≡ writeParcels f.rest
+      behind : drop end (take used post) ≡ write_parcels f.rest
       behind =
-          let u = writeParcels f.before in
-          let v = writeParcel f.parcel in
+          let u = write_parcels f.before in
+          let v = write_parcel f.parcel in
           let n : length (u ++ v) ≡ end = omega (arith, length-append u v, length-parcel f.parcel, f.first, f.last) in
-          ap (drop end) (parts ∙ sym (append_assoc u v (writeParcels f.rest))) ∙ drop_at (u ++ v) (writeParcels f.rest) end n
+          ap (drop end) (parts ∙ sym (append_assoc u v (write_parcels f.rest))) ∙ drop_at (u ++ v) (write_parcels f.rest) end n

@@ -11,13 +11,13 @@ use lib.ListN.{length, get_or, take, drop, set, length-append, length-take, leng
 use lib.Seq.{take-suc-set, take-add, take-length, drop-drop, drop_at, get_or-take, get_or-drop, length-take-le, paste, length-paste, take-paste}
 use Rattle.parties.specs.declared.Measures.{Measures}
 use Rattle.parties.specs.protocol.Measures.{passes}
-use Rattle.parties.specs.protocol.Format.{readNumber, writeNumber, writeMany}
+use Rattle.parties.specs.protocol.Format.{read_number, write_number, write_many}
 use Rattle.parties.proofs.protocol.formats.MeasureLaws.{passed}
 use Rattle.parties.proofs.protocol.formats.PointerLaws.{length-number}
 use Rattle.parties.proofs.records.BytesLaws.{four-read}
 use Rattle.parties.proofs.records.SpliceLaws.{many-append}
 use Rattle.title.proofs.PartLaws.{both_true}
-use Rattle.runs.specs.Parcels.{Parcel, writeParcel, writeParcels, properKey, proper, properAll, Listed, keyed, bodies, FindsAt, Appended, Removed}
+use Rattle.runs.specs.Parcels.{Parcel, write_parcel, write_parcels, proper_key, proper, proper_all, Listed, keyed, bodies, FindsAt, Appended, Removed}
 
 pub taken-short : (n : ℕ) (l : List ℕ) → length (take n l) ≤ length l
 taken-short n l = omega (arith, length-take n l)
@@ -30,8 +30,8 @@ pub record Behind (post : List ℕ) (used : ℕ) (after b : List ℕ) : Type 0 w
   pub within : used + length b ≤ length post
   pub done : take (used + length b) after ≡ take used post ++ b
 
-pub put-none : (post : List ℕ) (used : ℕ) → used ≤ length post → Behind post used post []
-put-none post used h =
+pub put_none : (post : List ℕ) (used : ℕ) → used ≤ length post → Behind post used post []
+put_none post used h =
     let e : used + 0 ≡ used = omega arith in
     record { long = refl; within = omega arith; done = ap (λ (n : ℕ). take n post) e ∙ sym (append-nil (take used post)) }
 
@@ -53,9 +53,9 @@ module _ (post : List ℕ) (used : ℕ) (t b : List ℕ) (p : Behind post used t
       }
 
   -- n bytes more
-  pub put-bytes : (at : ℕ) (s : List ℕ) (n : ℕ) (u : List ℕ) → at ≡ used + length b → at + n ≤ length post → n ≤ length s → u ≡ paste t at s n
+  pub put_bytes : (at : ℕ) (s : List ℕ) (n : ℕ) (u : List ℕ) → at ≡ used + length b → at + n ≤ length post → n ≤ length s → u ≡ paste t at s n
       → Behind post used u (b ++ take n s)
-  put-bytes at s n u e h k g =
+  put_bytes at s n u e h k g =
       let l : length t ≡ length post = p.long in
       let m : used + length (b ++ take n s) ≡ at + n = simp length-append (omega (arith, length-take-le n s k)) in
       record {
@@ -73,23 +73,23 @@ module _ (post : List ℕ) (used : ℕ) (t b : List ℕ) (p : Behind post used t
   -- bytes that are all copied
   pub put_all : (at : ℕ) (s : List ℕ) (u : List ℕ) → at ≡ used + length b → at + length s ≤ length post → u ≡ paste t at s (length s)
       → Behind post used u (b ++ s)
-  put_all at s u e h g = rw take-length at (put-bytes at s (length s) u e h (omega arith) g)
+  put_all at s u e h g = rw take-length at (put_bytes at s (length s) u e h (omega arith) g)
 
 -- ---- one parcel
 
 -- its first seven bytes
 abbrev pub heading : ℕ → ℕ → ℕ → ℕ → List ℕ
-heading kind c i len = kind ∷ (writeNumber 1 c ++ (writeNumber 1 i ++ writeNumber 4 len))
+heading kind c i len = kind ∷ (write_number 1 c ++ (write_number 1 i ++ write_number 4 len))
 
-pub heading-put : (post : List ℕ) (used kind c i len : ℕ) → used + 7 ≤ length post → (u : List ℕ)
-    → u ≡ paste (set (set (set post used kind) (used + 1) (c % 256)) (used + 2) (i % 256)) (used + 3) (writeNumber 4 len) 4
+pub heading_put : (post : List ℕ) (used kind c i len : ℕ) → used + 7 ≤ length post → (u : List ℕ)
+    → u ≡ paste (set (set (set post used kind) (used + 1) (c % 256)) (used + 2) (i % 256)) (used + 3) (write_number 4 len) 4
     → (length u ≡ length post) × (take (used + 7) u ≡ take used post ++ heading kind c i len)
-unfolding writeNumber
-heading-put post used kind c i len h u e =
-    let a = put_byte post used post [] (put-none post used (omega arith)) used kind (omega arith) (omega arith) in
+unfolding write_number
+heading_put post used kind c i len h u e =
+    let a = put_byte post used post [] (put_none post used (omega arith)) used kind (omega arith) (omega arith) in
     let b = put_byte post used _ _ a (used + 1) (c % 256) (omega arith) (omega arith) in
     let d = put_byte post used _ _ b (used + 2) (i % 256) (omega arith) (omega arith) in
-    let g = put-bytes post used _ _ d (used + 3) (writeNumber 4 len) 4 u (omega arith) (omega arith) (omega (arith, length-number 4 len)) e in
+    let g = put_bytes post used _ _ d (used + 3) (write_number 4 len) 4 u (omega arith) (omega arith) (omega (arith, length-number 4 len)) e in
     (g.long, g.done)
 
 -- the number that its last four bytes say
@@ -104,28 +104,28 @@ four-join l h =
     ∙ ap (λ (x : ℕ). x * 256 + l % 256) b
     ∙ a
 
-pub length-parcel : (p : Parcel) → length (writeParcel p) ≡ 7 + length p.bytes
-unfolding writeNumber
+pub length-parcel : (p : Parcel) → length (write_parcel p) ≡ 7 + length p.bytes
+unfolding write_number
 length-parcel p = omega arith
 
-pub length-one : (p : Parcel) → length (writeParcels (p ∷ [])) ≡ 7 + length p.bytes
-unfolding writeMany
-length-one p = ap length (append-nil (writeParcel p)) ∙ length-parcel p
+pub length_one : (p : Parcel) → length (write_parcels (p ∷ [])) ≡ 7 + length p.bytes
+unfolding write_many
+length_one p = ap length (append-nil (write_parcel p)) ∙ length-parcel p
 
 -- a parcel's heading and the two parts of its bytes
-pub parcel-put : (post : List ℕ) (used kind c i : ℕ) (front rest : List ℕ) → used + (7 + (length front + length rest)) ≤ length post
+pub parcel_put : (post : List ℕ) (used kind c i : ℕ) (front rest : List ℕ) → used + (7 + (length front + length rest)) ≤ length post
     → (t : List ℕ) → length t ≡ length post → take (used + 7) t ≡ take used post ++ heading kind c i (length front + length rest)
     → (u : List ℕ) → u ≡ paste t (used + 7) (drop 0 front) (length front)
     → (v : List ℕ) → v ≡ paste u (used + 7 + length front) (drop 0 rest) (length rest)
     → Appended (record { kind = kind; client = c; node = i; bytes = front ++ rest } ∷ []) post used v (used + 7 + (length front + length rest))
-unfolding writeNumber writeMany
-parcel-put post used kind c i front rest h t l d u e v g =
+unfolding write_number write_many
+parcel_put post used kind c i front rest h t l d u e v g =
     let n : ℕ = length front + length rest in
     let a : Behind post used t (heading kind c i n) = record { long = l; within = omega arith; done = d } in
     let b = put_all post used t _ a (used + 7) front u (omega arith) (omega arith) e in
     let x = put_all post used u _ b (used + 7 + length front) rest v (omega (arith, length-append front [])) (omega arith) g in
     let p : Parcel = record { kind = kind; client = c; node = i; bytes = front ++ rest } in
-    let w : (heading kind c i n ++ front) ++ rest ≡ writeParcels (p ∷ []) =
+    let w : (heading kind c i n ++ front) ++ rest ≡ write_parcels (p ∷ []) =
     ap (λ (m : ℕ). heading kind c i m ++ (front ++ rest)) (sym (length-append front rest))
     ∙ ap (λ (y : List ℕ). heading kind c i (length (front ++ rest)) ++ y) (sym (append-nil (front ++ rest)))
     in
@@ -133,35 +133,35 @@ parcel-put post used kind c i front rest h t l d u e v g =
     record {
       long = x.long;
       within = omega (arith, x.long);
-      count = omega (arith, length-one p, length-append front rest);
+      count = omega (arith, length_one p, length-append front rest);
       written = ap (λ (m : ℕ). take m v) (sym k) ∙ x.done ∙ ap (λ (y : List ℕ). take used post ++ y) w;
     }
 
 -- ---- parcels one after the other
 
-pub appended-none : (post : List ℕ) (used : ℕ) → used ≤ length post → Appended [] post used post used
-unfolding writeMany
-appended-none post used h = record { long = refl; within = h; count = omega arith; written = sym (append-nil (take used post)) }
+pub appended_none : (post : List ℕ) (used : ℕ) → used ≤ length post → Appended [] post used post used
+unfolding write_many
+appended_none post used h = record { long = refl; within = h; count = omega arith; written = sym (append-nil (take used post)) }
 
-pub appended-more : (p q : List Parcel) (post : List ℕ) (used : ℕ) (mid : List ℕ) (at : ℕ) (after : List ℕ) (r : ℕ)
+pub appended_more : (p q : List Parcel) (post : List ℕ) (used : ℕ) (mid : List ℕ) (at : ℕ) (after : List ℕ) (r : ℕ)
     → Appended p post used mid at → Appended q mid at after r → Appended (p ++ q) post used after r
-appended-more p q post used mid at after r x y =
-    let e : writeParcels (p ++ q) ≡ writeParcels p ++ writeParcels q = many-append writeParcel p q in
+appended_more p q post used mid at after r x y =
+    let e : write_parcels (p ++ q) ≡ write_parcels p ++ write_parcels q = many-append write_parcel p q in
     record {
       long = y.long ∙ x.long;
       within = y.within;
-      count = omega (arith, x.count, y.count, ap length e, length-append (writeParcels p) (writeParcels q));
+      count = omega (arith, x.count, y.count, ap length e, length-append (write_parcels p) (write_parcels q));
       written =
           y.written
-          ∙ ap (λ (l : List ℕ). l ++ writeParcels q) x.written
-          ∙ append_assoc (take used post) (writeParcels p) (writeParcels q)
+          ∙ ap (λ (l : List ℕ). l ++ write_parcels q) x.written
+          ∙ append_assoc (take used post) (write_parcels p) (write_parcels q)
           ∙ ap (λ (l : List ℕ). take used post ++ l) (sym e);
     }
 
-pub removed-all : (post : List ℕ) (used at end : ℕ) → at ≤ end → end ≤ used → used ≤ length post
+pub removed_all : (post : List ℕ) (used at end : ℕ) → at ≤ end → end ≤ used → used ≤ length post
     → (after : List ℕ) → after ≡ paste post (end - (end - at)) (drop end post) (used - end)
     → Removed at end post used after (used - (end - at))
-removed-all post used at end a b h after e =
+removed_all post used at end a b h after e =
     let n : ℕ = used - end in
     let x : end - (end - at) ≡ at = omega arith in
     let f : after ≡ paste post at (drop end post) n = e ∙ ap (λ (m : ℕ). paste post m (drop end post) n) x in
@@ -200,26 +200,26 @@ bodies-append kind c i (x ∷ p) q = go (keyed kind c i x) (bodies-append kind c
 
 -- a parcel's three numbers, looked at one after the other
 module _ (t : List ℕ) (at kind c i : ℕ) where
-  abbrev keyedAt : Bool
-  keyedAt = eqb (get_or t at 0) kind && (eqb (get_or t (at + 1) 0) c && eqb (get_or t (at + 2) 0) i)
+  abbrev keyed_at : Bool
+  keyed_at = eqb (get_or t at 0) kind && (eqb (get_or t (at + 1) 0) c && eqb (get_or t (at + 2) 0) i)
 
-  pub kind-differs : (get_or t at 0 ≡ kind → ⊥) → false ≡ keyedAt
-  kind-differs n = sym (simp (ne_eqb (get_or t at 0) kind n))
+  pub kind_differs : (get_or t at 0 ≡ kind → ⊥) → false ≡ keyed_at
+  kind_differs n = sym (simp (ne_eqb (get_or t at 0) kind n))
 
   module _ (e : get_or t at 0 ≡ kind) where
-    pub client-differs : (get_or t (at + 1) 0 ≡ c → ⊥) → false ≡ keyedAt
-    client-differs n = sym (simp (eq-eqb (get_or t at 0) kind e, ne_eqb (get_or t (at + 1) 0) c n))
+    pub client_differs : (get_or t (at + 1) 0 ≡ c → ⊥) → false ≡ keyed_at
+    client_differs n = sym (simp (eq-eqb (get_or t at 0) kind e, ne_eqb (get_or t (at + 1) 0) c n))
 
-    pub node-tells : get_or t (at + 1) 0 ≡ c → eqb (get_or t (at + 2) 0) i ≡ keyedAt
-    node-tells f = sym (simp (eq-eqb (get_or t at 0) kind e, eq-eqb (get_or t (at + 1) 0) c f))
+    pub node_tells : get_or t (at + 1) 0 ≡ c → eqb (get_or t (at + 2) 0) i ≡ keyed_at
+    node_tells f = sym (simp (eq-eqb (get_or t at 0) kind e, eq-eqb (get_or t (at + 1) 0) c f))
 
 -- the bounds of a key's numbers
-pub key-client : (s : Measures) (kind c i : ℕ) → properKey s kind c i ≡ true → c < s.m
-unfolding properKey
+pub key-client : (s : Measures) (kind c i : ℕ) → proper_key s kind c i ≡ true → c < s.m
+unfolding proper_key
 key-client s kind c i e = ltb-true c s.m (both_true (ltb c s.m) _ (both_true (leb kind 3) _ e).1).0
 
-pub key-node : (s : Measures) (kind c i : ℕ) → properKey s kind c i ≡ true → i ≤ s.n
-unfolding properKey
+pub key-node : (s : Measures) (kind c i : ℕ) → proper_key s kind c i ≡ true → i ≤ s.n
+unfolding proper_key
 key-node s kind c i e = go (leb kind 1) (both_true (ltb c s.m) _ (both_true (leb kind 3) _ e).1).1
   where
     go : (b : Bool) → cond b (eqb i 0) (leb 1 i && leb i s.n) ≡ true → i ≤ s.n
@@ -232,24 +232,24 @@ pub record Passed (s : Measures) (kind c i : ℕ) (q : List Parcel) (used : ℕ)
   pub rest : List Parcel
   pub parts : q ≡ before ++ rest
   pub none : bodies kind c i before ≡ []
-  pub first : at ≡ length (writeParcels before)
-  pub left : drop at (take used post) ≡ writeParcels rest
-  pub good : properAll s rest ≡ true
+  pub first : at ≡ length (write_parcels before)
+  pub left : drop at (take used post) ≡ write_parcels rest
+  pub good : proper_all s rest ≡ true
 
 pub passed_none : (s : Measures) (kind c i : ℕ) (q : List Parcel) (used : ℕ) (post : List ℕ) → Listed s q used post → Passed s kind c i q used post 0
-unfolding bodies writeMany
+unfolding bodies write_many
 passed_none s kind c i q used post l =
-    record { before = []; rest = q; parts = refl; none = refl; first = refl; left = l.written; good = l.allProper }
+    record { before = []; rest = q; parts = refl; none = refl; first = refl; left = l.written; good = l.all_proper }
 
 -- the bytes of the parcel at a place
 module _ (s : Measures) (ok : passes s ≡ true) (used : ℕ) (post : List ℕ) (at : ℕ) (h : used ≤ length post) (p : Parcel) (tail : List Parcel)
-    (e : drop at (take used post) ≡ writeParcel p ++ writeParcels tail) (b : at + 7 ≤ used) (g : proper s p ≡ true) where
-  byte_at : (k : ℕ) → k < 7 → get_or post (at + k) 0 ≡ get_or (writeParcel p ++ writeParcels tail) k 0
+    (e : drop at (take used post) ≡ write_parcel p ++ write_parcels tail) (b : at + 7 ≤ used) (g : proper s p ≡ true) where
+  byte_at : (k : ℕ) → k < 7 → get_or post (at + k) 0 ≡ get_or (write_parcel p ++ write_parcels tail) k 0
   byte_at k l =
       sym (get_or-take used post (at + k) 0 (omega arith)) ∙ sym (get_or-drop at (take used post) k 0) ∙ ap (λ (x : List ℕ). get_or x k 0) e
 
-  key-there : properKey s p.kind p.client p.node ≡ true
-  key-there = (both_true (properKey s p.kind p.client p.node) _ g).0
+  key-there : proper_key s p.kind p.client p.node ≡ true
+  key-there = (both_true (proper_key s p.kind p.client p.node) _ g).0
 
   client-small : p.client < 256
   client-small = omega (arith, key-client s p.kind p.client p.node key-there, (passed s ok).clients.1)
@@ -258,26 +258,26 @@ module _ (s : Measures) (ok : passes s ≡ true) (used : ℕ) (post : List ℕ) 
   node-small = omega (arith, key-node s p.kind p.client p.node key-there, (passed s ok).nodes.1)
 
   length-small : length p.bytes < 4294967296
-  length-small = ltb-true (length p.bytes) 4294967296 (both_true (properKey s p.kind p.client p.node) _ g).1
+  length-small = ltb-true (length p.bytes) 4294967296 (both_true (proper_key s p.kind p.client p.node) _ g).1
 
   pub parcel-fits : at + (7 + length p.bytes) ≤ used
   parcel-fits =
       let n : length (take used post) ≡ used = length-take-le used post h in
-      omega (arith, length-drop at (take used post), ap length e, length-append (writeParcel p) (writeParcels tail), length-parcel p)
+      omega (arith, length-drop at (take used post), ap length e, length-append (write_parcel p) (write_parcels tail), length-parcel p)
 
   pub kind-there : get_or post at 0 ≡ p.kind
   kind-there = let z : at ≡ at + 0 = omega arith in ap (λ (x : ℕ). get_or post x 0) z ∙ byte_at 0 (omega arith)
 
   pub client-there : get_or post (at + 1) 0 ≡ p.client
-  unfolding writeNumber
+  unfolding write_number
   client-there = byte_at 1 (omega arith) ∙ omega (arith, client-small)
 
   pub node-there : get_or post (at + 2) 0 ≡ p.node
-  unfolding writeNumber
+  unfolding write_number
   node-there = byte_at 2 (omega arith) ∙ omega (arith, node-small)
 
-  pub length-there : (n : ℕ) (r : List ℕ) → readNumber 4 (drop (at + 3) post) ≡ some (record { value = n; rest = r }) → n ≡ length p.bytes
-  unfolding writeNumber
+  pub length-there : (n : ℕ) (r : List ℕ) → read_number 4 (drop (at + 3) post) ≡ some (record { value = n; rest = r }) → n ≡ length p.bytes
+  unfolding write_number
   length-there n r x =
       let l : ℕ = length p.bytes in
       let w : get_or post (at + 3) 0 ≡ l / 256 / 256 / 256 % 256 = byte_at 3 (omega arith) in
@@ -292,41 +292,41 @@ module _ (s : Measures) (ok : passes s ≡ true) (used : ℕ) (post : List ℕ) 
   pub keyed-there : (kind c i : ℕ) → (eqb (get_or post at 0) kind && (eqb (get_or post (at + 1) 0) c && eqb (get_or post (at + 2) 0) i)) ≡ keyed kind c i p
   keyed-there kind c i = λ j. eqb (kind-there j) kind && (eqb (client-there j) c && eqb (node-there j) i)
 
-  pub after-there : drop (at + (7 + length p.bytes)) (take used post) ≡ writeParcels tail
+  pub after-there : drop (at + (7 + length p.bytes)) (take used post) ≡ write_parcels tail
   after-there =
       sym (drop-drop (7 + length p.bytes) at (take used post))
       ∙ ap (drop (7 + length p.bytes)) e
-      ∙ drop_at (writeParcel p) (writeParcels tail) (7 + length p.bytes) (length-parcel p)
+      ∙ drop_at (write_parcel p) (write_parcels tail) (7 + length p.bytes) (length-parcel p)
 
 module _ (z : Measures) (ok : passes z ≡ true) (kind c i : ℕ) (q : List Parcel) (used : ℕ) (post : List ℕ) (at : ℕ) (h : used ≤ length post) (a : at ≤ used)
     (s : Passed z kind c i q used post at) where
-  left-length : used - at ≡ length (writeParcels s.rest)
-  left-length = omega (arith, length-take-le used post h, length-drop at (take used post), ap length s.left)
+  left_length : used - at ≡ length (write_parcels s.rest)
+  left_length = omega (arith, length-take-le used post h, length-drop at (take used post), ap length s.left)
 
   -- too few bytes for one more
-  pub passed-end : used - at < 7 → bodies kind c i q ≡ []
-  unfolding writeMany
-  passed-end l = go s.rest s.parts left-length
+  pub passed_end : used - at < 7 → bodies kind c i q ≡ []
+  unfolding write_many
+  passed_end l = go s.rest s.parts left_length
     where
-      go : (rest : List Parcel) → q ≡ s.before ++ rest → used - at ≡ length (writeParcels rest) → bodies kind c i q ≡ []
+      go : (rest : List Parcel) → q ≡ s.before ++ rest → used - at ≡ length (write_parcels rest) → bodies kind c i q ≡ []
       go [] e n = ap (bodies kind c i) (e ∙ append-nil s.before) ∙ s.none
-      go (p ∷ rest) e n = absurd (omega (arith, length-append (writeParcel p) (writeParcels rest), length-parcel p))
+      go (p ∷ rest) e n = absurd (omega (arith, length-append (write_parcel p) (write_parcels rest), length-parcel p))
 
   -- the parcel that stands there
   pub record Next : Type 0 where
     pub parcel : Parcel
     pub tail : List Parcel
     pub made : q ≡ s.before ++ (parcel ∷ tail)
-    pub bytes : drop at (take used post) ≡ writeParcel parcel ++ writeParcels tail
+    pub bytes : drop at (take used post) ≡ write_parcel parcel ++ write_parcels tail
     pub one : proper z parcel ≡ true
-    pub all : properAll z tail ≡ true
+    pub all : proper_all z tail ≡ true
 
-  pub passed-next : at + 7 ≤ used → Next
-  unfolding writeMany properAll
-  passed-next l = go s.rest s.parts s.left s.good left-length
+  pub passed_next : at + 7 ≤ used → Next
+  unfolding write_many proper_all
+  passed_next l = go s.rest s.parts s.left s.good left_length
     where
-      go : (rest : List Parcel) → q ≡ s.before ++ rest → drop at (take used post) ≡ writeParcels rest → properAll z rest ≡ true
-          → used - at ≡ length (writeParcels rest) → Next
+      go : (rest : List Parcel) → q ≡ s.before ++ rest → drop at (take used post) ≡ write_parcels rest → proper_all z rest ≡ true
+          → used - at ≡ length (write_parcels rest) → Next
       go [] e w g n = absurd (omega arith)
       go (p ∷ rest) e w g n =
           record {
@@ -334,25 +334,25 @@ module _ (z : Measures) (ok : passes z ≡ true) (kind c i : ℕ) (q : List Parc
             tail = rest;
             made = e;
             bytes = w;
-            one = (both_true (proper z p) (properAll z rest) g).0;
-            all = (both_true (proper z p) (properAll z rest) g).1;
+            one = (both_true (proper z p) (proper_all z rest) g).0;
+            all = (both_true (proper z p) (proper_all z rest) g).1;
           }
 
-  module _ (l : at + 7 ≤ used) (n : ℕ) (r : List ℕ) (x : readNumber 4 (drop (at + 3) post) ≡ some (record { value = n; rest = r })) where
-    length-next : n ≡ length (passed-next l).parcel.bytes
-    length-next = let w = passed-next l in length-there z ok used post at h w.parcel w.tail w.bytes l w.one n r x
+  module _ (l : at + 7 ≤ used) (n : ℕ) (r : List ℕ) (x : read_number 4 (drop (at + 3) post) ≡ some (record { value = n; rest = r })) where
+    length-next : n ≡ length (passed_next l).parcel.bytes
+    length-next = let w = passed_next l in length-there z ok used post at h w.parcel w.tail w.bytes l w.one n r x
 
     pub next_fits : at + 7 + n ≤ used
-    next_fits = let w = passed-next l in omega (arith, length-next, parcel-fits z ok used post at h w.parcel w.tail w.bytes l w.one)
+    next_fits = let w = passed_next l in omega (arith, length-next, parcel-fits z ok used post at h w.parcel w.tail w.bytes l w.one)
 
     module _ (k : Bool) (f : k ≡ (eqb (get_or post at 0) kind && (eqb (get_or post (at + 1) 0) c && eqb (get_or post (at + 2) 0) i))) where
-      keyed-next : k ≡ keyed kind c i (passed-next l).parcel
-      keyed-next = let w = passed-next l in f ∙ keyed-there z ok used post at h w.parcel w.tail w.bytes l w.one kind c i
+      keyed-next : k ≡ keyed kind c i (passed_next l).parcel
+      keyed-next = let w = passed_next l in f ∙ keyed-there z ok used post at h w.parcel w.tail w.bytes l w.one kind c i
 
       -- it is looked for
       pub next-found : k ≡ true → FindsAt kind c i q at (at + 7 + n)
       next-found t =
-          let w = passed-next l in
+          let w = passed_next l in
           record {
             before = s.before;
             parcel = w.parcel;
@@ -365,21 +365,21 @@ module _ (z : Measures) (ok : passes z ≡ true) (kind c i : ℕ) (q : List Parc
           }
 
       -- or not
-      pub next-passed : k ≡ false → Passed z kind c i q used post (at + 7 + n)
-      unfolding bodies writeMany
-      next-passed t =
-          let w = passed-next l in
+      pub next_passed : k ≡ false → Passed z kind c i q used post (at + 7 + n)
+      unfolding bodies write_many
+      next_passed t =
+          let w = passed_next l in
           let to : at + 7 + n ≡ at + (7 + length w.parcel.bytes) = omega (arith, length-next) in
           let b : bodies kind c i (w.parcel ∷ []) ≡ [] = ap (λ (y : Bool). cond y (w.parcel.bytes ∷ []) []) (sym keyed-next ∙ t) in
-          let m : writeParcels (s.before ++ (w.parcel ∷ [])) ≡ writeParcels s.before ++ writeParcels (w.parcel ∷ []) =
-          many-append writeParcel s.before (w.parcel ∷ [])
+          let m : write_parcels (s.before ++ (w.parcel ∷ [])) ≡ write_parcels s.before ++ write_parcels (w.parcel ∷ []) =
+          many-append write_parcel s.before (w.parcel ∷ [])
           in
           record {
             before = s.before ++ (w.parcel ∷ []);
             rest = w.tail;
             parts = w.made ∙ sym (append_assoc s.before (w.parcel ∷ []) w.tail);
             none = bodies-append kind c i s.before (w.parcel ∷ []) ∙ (λ j. s.none j ++ b j);
-            first = omega (arith, s.first, length-next, ap length m, length-append (writeParcels s.before) (writeParcels (w.parcel ∷ [])), length-one w.parcel);
+            first = omega (arith, s.first, length-next, ap length m, length-append (write_parcels s.before) (write_parcels (w.parcel ∷ [])), length_one w.parcel);
             left = ap (λ (y : ℕ). drop y (take used post)) to ∙ after-there z ok used post at h w.parcel w.tail w.bytes l w.one;
             good = w.all;
           }

@@ -15,28 +15,28 @@ use lib.Seq.{take_all}
 use Rattle.parties.specs.Sizes.{Sized}
 use Rattle.parties.specs.declared.Measures.{Measures}
 use Rattle.parties.specs.declared.Version.{Version}
-use Rattle.parties.specs.protocol.Measures.{passes, rowSize}
+use Rattle.parties.specs.protocol.Measures.{passes, row_size}
 use Rattle.parties.specs.protocol.Nodes.{stands}
-use Rattle.parties.specs.protocol.Format.{writeMany}
+use Rattle.parties.specs.protocol.Format.{write_many}
 use Rattle.parties.specs.protocol.Answer.{ClientAnswer as Answer, refused, waits, scan, update, stores, requests, deposited, empty, page, spent, failed}
-use Rattle.parties.specs.protocol.ClientEvents.{roomSize, messageTo}
+use Rattle.parties.specs.protocol.ClientEvents.{room_size, message_to}
 use Rattle.parties.proofs.protocol.formats.MeasureLaws.{passed}
 use Rattle.parties.specs.declared.ClientAnswer.{ClientAnswer}
 use Rattle.parties.specs.client.Answer.{answered}
 use Rattle.parties.specs.contracts.ClientAnswer.{the_type}
 use Rattle.parties.proofs.records.SpliceLaws.{many-append}
-use Rattle.runs.specs.Parcels.{Parcel, writeParcel, writeParcels, Appended}
-use Rattle.runs.specs.Sent.{call, toNode, call_by, messageIn, messagesBy, longestCall, longestMessage, needed}
-use Rattle.runs.proofs.PostLaws.{length-one, appended-none, appended-more}
-use Rattle.runs.proofs.SentLaws.{Short, message-short, piece-within, row_within}
+use Rattle.runs.specs.Parcels.{Parcel, write_parcel, write_parcels, Appended}
+use Rattle.runs.specs.Sent.{call, to_node, call_by, message_in, messages_by, longest_call, longest_message, needed}
+use Rattle.runs.proofs.PostLaws.{length_one, appended_none, appended_more}
+use Rattle.runs.proofs.SentLaws.{Short, message_short, piece-within, row_within}
 
-pub as-sent : {p q : List Parcel} {post : List ℕ} {used : ℕ} {after : List ℕ} {r : ℕ} → p ≡ q → Appended p post used after r → Appended q post used after r
-as-sent e x = rw e at x
+pub as_sent : {p q : List Parcel} {post : List ℕ} {used : ℕ} {after : List ℕ} {r : ℕ} → p ≡ q → Appended p post used after r → Appended q post used after r
+as_sent e x = rw e at x
 
 -- ---- parts of a room that may be too short
 
-pub least-taken : (n m : ℕ) (l : List ℕ) → m ≡ min n (length l) → take m l ≡ take n l
-least-taken n m l e = go (dec_lt n (length l))
+pub least_taken : (n m : ℕ) (l : List ℕ) → m ≡ min n (length l) → take m l ≡ take n l
+least_taken n m l e = go (dec_lt n (length l))
   where
     go : Dec (n < length l) → take m l ≡ take n l
     go (yes h) = let z : m ≡ n = omega arith in ap (λ (x : ℕ). take x l) z
@@ -48,36 +48,36 @@ drop_all zero (x ∷ l) h = absurd (omega arith)
 drop_all (suc n) [] h = refl
 drop_all (suc n) (x ∷ l) h = drop_all n l (omega arith)
 
-pub least-dropped : (n m : ℕ) (l : List ℕ) → m ≡ min n (length l) → drop m l ≡ drop n l
-least-dropped n m l e = go (dec_lt n (length l))
+pub least_dropped : (n m : ℕ) (l : List ℕ) → m ≡ min n (length l) → drop m l ≡ drop n l
+least_dropped n m l e = go (dec_lt n (length l))
   where
     go : Dec (n < length l) → drop m l ≡ drop n l
     go (yes h) = let z : m ≡ n = omega arith in ap (λ (x : ℕ). drop x l) z
     go (no h) = drop_all m l (omega arith) ∙ sym (drop_all n l (omega arith))
 
 -- n bytes from a place
-pub least-part : (room : List ℕ) (at n from m : ℕ) → from ≡ min at (length room) → m ≡ min n (length room - from)
+pub least_part : (room : List ℕ) (at n from m : ℕ) → from ≡ min at (length room) → m ≡ min n (length room - from)
     → take (from + m - from) (drop from room) ≡ take n (drop at room)
-least-part room at n from m e f =
+least_part room at n from m e f =
     let z : from + m - from ≡ m = omega arith in
     ap (λ (x : ℕ). take x (drop from room)) z
-    ∙ least-taken n m (drop from room) (f ∙ ap (min n) (sym (length-drop from room)))
-    ∙ ap (take n) (least-dropped at from room e)
+    ∙ least_taken n m (drop from room) (f ∙ ap (min n) (sym (length-drop from room)))
+    ∙ ap (take n) (least_dropped at from room e)
 
 -- a message of two parts of a room, for a piece of so many bytes
-pub parts-fit : (s : Measures) (room : List ℕ) (front from m len : ℕ) → passes s ≡ true → front ≤ 6 → m ≤ len → len ≤ s.f
-    → length (take front room) + length (take (from + m - from) (drop from room)) ≤ roomSize s
-parts-fit s room front from m len ok h k l =
+pub parts_fit : (s : Measures) (room : List ℕ) (front from m len : ℕ) → passes s ≡ true → front ≤ 6 → m ≤ len → len ≤ s.f
+    → length (take front room) + length (take (from + m - from) (drop from room)) ≤ room_size s
+parts_fit s room front from m len ok h k l =
     omega (arith, length-take front room, length-take (from + m - from) (drop from room), piece-within s ok)
 
 -- what an answer says of its lengths
-pub sized-update : (s : Measures) (a : ClientAnswer) (len : ℕ) → Sized s (answered a) → a ≡ ClientAnswer.Update len → len ≤ rowSize s
+pub sized-update : (s : Measures) (a : ClientAnswer) (len : ℕ) → Sized s (answered a) → a ≡ ClientAnswer.Update len → len ≤ row_size s
 sized-update s a len z e = rw e at z
 
 pub sized-stores : (s : Measures) (a : ClientAnswer) (v : Version) (len : ℕ) → Sized s (answered a) → a ≡ ClientAnswer.Stores v len → len ≤ s.f
 sized-stores s a v len z e = rw e at z
 
-pub sized-deposited : (s : Measures) (a : ClientAnswer) (v : Version) (len : ℕ) → Sized s (answered a) → a ≡ ClientAnswer.Deposited v len → len ≤ rowSize s
+pub sized-deposited : (s : Measures) (a : ClientAnswer) (v : Version) (len : ℕ) → Sized s (answered a) → a ≡ ClientAnswer.Deposited v len → len ≤ row_size s
 sized-deposited s a v len z e = rw e at z
 
 -- ---- a call
@@ -88,7 +88,7 @@ module _ (c : ℕ) (a : ClientAnswer) (room : List ℕ) where
 
   pub update-sent : (len to : ℕ) → a ≡ ClientAnswer.Update len → to ≡ min len (length room)
       → call c ((1 ∷ []) ++ take to room) ∷ [] ≡ call_by c (answered a) room
-  update-sent len to e f = rw e (ap (λ (b : List ℕ). call c (1 ∷ b) ∷ []) (least-taken len to room f))
+  update-sent len to e f = rw e (ap (λ (b : List ℕ). call c (1 ∷ b) ∷ []) (least_taken len to room f))
 
 -- the answers that are no call
 abbrev callless : List ℕ
@@ -112,81 +112,81 @@ no_call c ClientAnswer.Failed room k = refl
 module _ (s : Measures) (c i : ℕ) (a : ClientAnswer) (room : List ℕ) where
   pub stores-sent : (v : Version) (len front from m : ℕ) → a ≡ ClientAnswer.Stores v len → front ≡ min 6 (length room)
       → from ≡ min (6 + (i - 1) * s.f) (length room) → m ≡ min len (length room - from)
-      → toNode c i (take front room ++ take (from + m - from) (drop from room)) ∷ [] ≡ messageIn c i (messageTo s (answered a) room i)
+      → to_node c i (take front room ++ take (from + m - from) (drop from room)) ∷ [] ≡ message_in c i (message_to s (answered a) room i)
   stores-sent v len front from m e f g h =
-      rw e (λ j. toNode c i (least-taken 6 front room f j ++ least-part room (6 + (i - 1) * s.f) len from m g h j) ∷ [])
+      rw e (λ j. to_node c i (least_taken 6 front room f j ++ least_part room (6 + (i - 1) * s.f) len from m g h j) ∷ [])
 
   pub request-sent : (v : Version) (nodes front : ℕ) (b : Bool) → a ≡ ClientAnswer.Requests v nodes → front ≡ min 6 (length room)
-      → b ≡ stands nodes i → b ≡ true → toNode c i (take front room ++ []) ∷ [] ≡ messageIn c i (messageTo s (answered a) room i)
+      → b ≡ stands nodes i → b ≡ true → to_node c i (take front room ++ []) ∷ [] ≡ message_in c i (message_to s (answered a) room i)
   request-sent v nodes front b e f g t =
-      rw (e, ← g, t) (ap (λ (m : List ℕ). toNode c i m ∷ []) (append-nil (take front room) ∙ least-taken 6 front room f))
+      rw (e, ← g, t) (ap (λ (m : List ℕ). to_node c i m ∷ []) (append-nil (take front room) ∙ least_taken 6 front room f))
 
-  pub no-request : (v : Version) (nodes : ℕ) (b : Bool) → a ≡ ClientAnswer.Requests v nodes → b ≡ stands nodes i → b ≡ false
-      → [] ≡ messageIn c i (messageTo s (answered a) room i)
-  no-request v nodes b e g t = rw (e, ← g, t) refl
+  pub no_request : (v : Version) (nodes : ℕ) (b : Bool) → a ≡ ClientAnswer.Requests v nodes → b ≡ stands nodes i → b ≡ false
+      → [] ≡ message_in c i (message_to s (answered a) room i)
+  no_request v nodes b e g t = rw (e, ← g, t) refl
 
   pub free-sent : (v : Version) (len to : ℕ) → a ≡ ClientAnswer.Deposited v len → to ≡ min len (length room)
-      → toNode c i (take to room ++ []) ∷ [] ≡ messageIn c i (messageTo s (answered a) room i)
-  free-sent v len to e f = rw e (ap (λ (m : List ℕ). toNode c i m ∷ []) (append-nil (take to room) ∙ least-taken len to room f))
+      → to_node c i (take to room ++ []) ∷ [] ≡ message_in c i (message_to s (answered a) room i)
+  free-sent v len to e f = rw e (ap (λ (m : List ℕ). to_node c i m ∷ []) (append-nil (take to room) ∙ least_taken len to room f))
 
 -- the answers with no message
 abbrev silent : List ℕ
 silent = 0 ∷ 1 ∷ 2 ∷ 3 ∷ 7 ∷ 8 ∷ 9 ∷ 10 ∷ []
 
-pub no-message : (s : Measures) (c i : ℕ) (a : ClientAnswer) (room : List ℕ) → OneOf silent (tag_of the_type a)
-    → [] ≡ messageIn c i (messageTo s (answered a) room i)
-no-message s c i (ClientAnswer.Refused r) room k = refl
-no-message s c i ClientAnswer.Waits room k = refl
-no-message s c i ClientAnswer.Scan room k = refl
-no-message s c i (ClientAnswer.Update len) room k = refl
-no-message s c i (ClientAnswer.Stores v len) room k = absurd (miss silent 4 tt k)
-no-message s c i (ClientAnswer.Requests v nodes) room k = absurd (miss silent 5 tt k)
-no-message s c i (ClientAnswer.Deposited v len) room k = absurd (miss silent 6 tt k)
-no-message s c i ClientAnswer.Empty room k = refl
-no-message s c i (ClientAnswer.Page v len) room k = refl
-no-message s c i ClientAnswer.Spent room k = refl
-no-message s c i ClientAnswer.Failed room k = refl
+pub no_message : (s : Measures) (c i : ℕ) (a : ClientAnswer) (room : List ℕ) → OneOf silent (tag_of the_type a)
+    → [] ≡ message_in c i (message_to s (answered a) room i)
+no_message s c i (ClientAnswer.Refused r) room k = refl
+no_message s c i ClientAnswer.Waits room k = refl
+no_message s c i ClientAnswer.Scan room k = refl
+no_message s c i (ClientAnswer.Update len) room k = refl
+no_message s c i (ClientAnswer.Stores v len) room k = absurd (miss silent 4 tt k)
+no_message s c i (ClientAnswer.Requests v nodes) room k = absurd (miss silent 5 tt k)
+no_message s c i (ClientAnswer.Deposited v len) room k = absurd (miss silent 6 tt k)
+no_message s c i ClientAnswer.Empty room k = refl
+no_message s c i (ClientAnswer.Page v len) room k = refl
+no_message s c i ClientAnswer.Spent room k = refl
+no_message s c i ClientAnswer.Failed room k = refl
 
 -- ---- how long they are
 
-none-short : (n : ℕ) → length (writeParcels []) ≤ n
-unfolding writeMany
+none-short : (n : ℕ) → length (write_parcels []) ≤ n
+unfolding write_many
 none-short n = omega arith
 
 module _ (s : Measures) (ok : passes s ≡ true) (c : ℕ) (a : Answer) (z : Sized s a) (room : List ℕ) where
-  pub call-short : length (writeParcels (call_by c a room)) ≤ longestCall s
+  pub call-short : length (write_parcels (call_by c a room)) ≤ longest_call s
   call-short = go a z
     where
-      go : (a : Answer) → Sized s a → length (writeParcels (call_by c a room)) ≤ longestCall s
-      go (refused n) z = none-short (longestCall s)
-      go waits z = none-short (longestCall s)
-      go scan z = omega (arith, length-one (call c (0 ∷ [])))
-      go (update len) z = omega (arith, length-one (call c (1 ∷ take len room)), length-take len room, row_within s ok)
-      go (stores v len) z = none-short (longestCall s)
-      go (requests v nodes) z = none-short (longestCall s)
-      go (deposited v len) z = none-short (longestCall s)
-      go empty z = none-short (longestCall s)
-      go (page v len) z = none-short (longestCall s)
-      go spent z = none-short (longestCall s)
-      go failed z = none-short (longestCall s)
+      go : (a : Answer) → Sized s a → length (write_parcels (call_by c a room)) ≤ longest_call s
+      go (refused n) z = none-short (longest_call s)
+      go waits z = none-short (longest_call s)
+      go scan z = omega (arith, length_one (call c (0 ∷ [])))
+      go (update len) z = omega (arith, length_one (call c (1 ∷ take len room)), length-take len room, row_within s ok)
+      go (stores v len) z = none-short (longest_call s)
+      go (requests v nodes) z = none-short (longest_call s)
+      go (deposited v len) z = none-short (longest_call s)
+      go empty z = none-short (longest_call s)
+      go (page v len) z = none-short (longest_call s)
+      go spent z = none-short (longest_call s)
+      go failed z = none-short (longest_call s)
 
-  one-short : (i : ℕ) (m : Option (List ℕ)) → Short s m → length (writeParcels (messageIn c i m)) ≤ longestMessage s
-  one-short i none h = none-short (longestMessage s)
-  one-short i (some m) h = omega (arith, length-one (toNode c i m))
+  one_short : (i : ℕ) (m : Option (List ℕ)) → Short s m → length (write_parcels (message_in c i m)) ≤ longest_message s
+  one_short i none h = none-short (longest_message s)
+  one_short i (some m) h = omega (arith, length_one (to_node c i m))
 
-  pub messages-short : (j : ℕ) → length (writeParcels (messagesBy s c a room j)) ≤ j * longestMessage s
-  unfolding messagesBy
-  messages-short zero = none-short (0 * longestMessage s)
-  messages-short (suc j) =
-      let p = messagesBy s c a room j in
-      let q = messageIn c (suc j) (messageTo s a room (suc j)) in
+  pub messages_short : (j : ℕ) → length (write_parcels (messages_by s c a room j)) ≤ j * longest_message s
+  unfolding messages_by
+  messages_short zero = none-short (0 * longest_message s)
+  messages_short (suc j) =
+      let p = messages_by s c a room j in
+      let q = message_in c (suc j) (message_to s a room (suc j)) in
       omega (
         arith,
-        messages-short j,
-        one-short (suc j) (messageTo s a room (suc j)) (message-short s ok a z room (suc j)),
-        ap length (many-append writeParcel p q),
-        length-append (writeParcels p) (writeParcels q),
-        suc-mul j (longestMessage s),
+        messages_short j,
+        one_short (suc j) (message_to s a room (suc j)) (message_short s ok a z room (suc j)),
+        ap length (many-append write_parcel p q),
+        length-append (write_parcels p) (write_parcels q),
+        suc-mul j (longest_message s),
       )
 
 -- ---- messages to the nodes one after the other
@@ -199,28 +199,28 @@ area_small s h i l =
     let k : (i - 1) * s.f ≤ 16 * 4096 = mul-le-mul j p.bytes.1 in (omega (arith, p.nodes), omega arith)
 
 module _ (s : Measures) (c : ℕ) (a : Answer) (room post : List ℕ) (used : ℕ) where
-  pub messages-none : used ≤ length post → Appended (messagesBy s c a room 0) post used post used
-  unfolding messagesBy
-  messages-none h = appended-none post used h
+  pub messages_none : used ≤ length post → Appended (messages_by s c a room 0) post used post used
+  unfolding messages_by
+  messages_none h = appended_none post used h
 
-  module _ (i : ℕ) (mid : List ℕ) (at : ℕ) (x : Appended (messagesBy s c a room i) post used mid at) where
+  module _ (i : ℕ) (mid : List ℕ) (at : ℕ) (x : Appended (messages_by s c a room i) post used mid at) where
     -- there is room for one more
-    pub messages-room : passes s ≡ true → Sized s a → i < s.n → used + s.n * longestMessage s ≤ length post → at + longestMessage s ≤ length mid
-    messages-room ok z l h =
-        let k : suc i * longestMessage s ≤ s.n * longestMessage s = mul-le-mul_right (longestMessage s) l in
-        omega (arith, messages-short s ok c a z room i, x.count, x.long, suc-mul i (longestMessage s))
+    pub messages_room : passes s ≡ true → Sized s a → i < s.n → used + s.n * longest_message s ≤ length post → at + longest_message s ≤ length mid
+    messages_room ok z l h =
+        let k : suc i * longest_message s ≤ s.n * longest_message s = mul-le-mul_right (longest_message s) l in
+        omega (arith, messages_short s ok c a z room i, x.count, x.long, suc-mul i (longest_message s))
 
-    pub messages-more : (after : List ℕ) (r : ℕ) → Appended (messageIn c (i + 1) (messageTo s a room (i + 1))) mid at after r
-        → Appended (messagesBy s c a room (i + 1)) post used after r
-    unfolding messagesBy
-    messages-more after r y =
+    pub messages_more : (after : List ℕ) (r : ℕ) → Appended (message_in c (i + 1) (message_to s a room (i + 1))) mid at after r
+        → Appended (messages_by s c a room (i + 1)) post used after r
+    unfolding messages_by
+    messages_more after r y =
         rw add-one
-        (appended-more (messagesBy s c a room i) (messageIn c (suc i) (messageTo s a room (suc i))) post used mid at after r x (rw add-one at y))
+        (appended_more (messages_by s c a room i) (message_in c (suc i) (message_to s a room (suc i))) post used mid at after r x (rw add-one at y))
 
-    pub messages-all : i ≤ s.n → s.n ≤ i → Appended (messagesBy s c a room s.n) post used mid at
-    messages-all l h = let e : i ≡ s.n = omega arith in rw e at x
+    pub messages_all : i ≤ s.n → s.n ≤ i → Appended (messages_by s c a room s.n) post used mid at
+    messages_all l h = let e : i ≡ s.n = omega arith in rw e at x
 
   -- after a call there is room for the messages
   pub call-room : (mid : List ℕ) (at : ℕ) → passes s ≡ true → Sized s a → Appended (call_by c a room) post used mid at → used + needed s ≤ length post
-      → at + s.n * longestMessage s ≤ length mid
+      → at + s.n * longest_message s ≤ length mid
   call-room mid at ok z x h = omega (arith, call-short s ok c a z room, x.count, x.long)

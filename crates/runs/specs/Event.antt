@@ -5,13 +5,13 @@ use Rattle.parties.specs.declared.Refusal.{Refusal}
 use Rattle.parties.specs.protocol.Measures.{passes}
 use Rattle.parties.specs.protocol.Run.{Event}
 use Rattle.parties.specs.records.Answer.{number}
-use Rattle.title.specs.Memory.{memorySize}
+use Rattle.title.specs.Memory.{memory_size}
 use Rattle.runs.specs.declared.answer.Happened.{Happened}
 use Rattle.runs.specs.declared.answer.EventEnd.{EventEnd}
 use Rattle.runs.specs.declared.event.Readiness.{Readiness}
 use Rattle.runs.specs.declared.event.Ahead.{Ahead}
 use Rattle.runs.specs.declared.event.Clear.{Clear}
-use Rattle.runs.specs.Parcels.{properKey, toClientKind, IsList, Broken, Stands, NoneStands}
+use Rattle.runs.specs.Parcels.{proper_key, to_client_kind, IsList, Broken, Stands, NoneStands}
 use Rattle.runs.specs.Sent.{needed}
 use Rattle.runs.specs.UnderWay.{After}
 use Rattle.runs.specs.Acts.{Lent, Acts}
@@ -29,18 +29,18 @@ Readies s post used (Readiness.No r) = Cramped s post used (number r)
 -- then numbers, and the list
 pub data Stopped (s : Measures) (kind c i : ℕ) (post : List ℕ) (used : ℕ) : ℕ → Type 0 where
   cramped : (n : ℕ) → Cramped s (length post) used n → Stopped s kind c i post used n
-  outside : PostRoomy s (length post) used → properKey s kind c i ≡ false → Stopped s kind c i post used 3
-  form : PostRoomy s (length post) used → properKey s kind c i ≡ true → Broken s used post → Stopped s kind c i post used 4
+  outside : PostRoomy s (length post) used → proper_key s kind c i ≡ false → Stopped s kind c i post used 3
+  form : PostRoomy s (length post) used → proper_key s kind c i ≡ true → Broken s used post → Stopped s kind c i post used 4
 
 -- then what is under way
 pub record Waiting (s : Measures) (kind c i : ℕ) (post : List ℕ) (used at end : ℕ) : Type 0 where
   pub roomy : PostRoomy s (length post) used
-  pub key : properKey s kind c i ≡ true
+  pub key : proper_key s kind c i ≡ true
   pub stands : Stands s kind c i used post at end
 
 pub record Vacant (s : Measures) (kind c i : ℕ) (post : List ℕ) (used : ℕ) : Type 0 where
   pub roomy : PostRoomy s (length post) used
-  pub key : properKey s kind c i ≡ true
+  pub key : proper_key s kind c i ≡ true
   pub none : NoneStands s kind c i used post
 
 -- an event that does not go on ends here, and nothing changes: refused, or nothing is under way
@@ -53,17 +53,17 @@ Aheads s kind c i post used (Ahead.Ends e) = Halted s kind c i post used e
 Aheads s kind c i post used (Ahead.Found at end) = Waiting s kind c i post used at end
 
 -- 2, 3 or 4: memory and the other slices that a client wants, its number and a node's, else the list
-abbrev pub lowestOf : Measures → ℕ → ℕ → ℕ → Bool → ℕ
-lowestOf s c i memory enough = cond (leb (memorySize s) memory && enough) (cond (properKey s toClientKind c i) 4 3) 2
+abbrev pub lowest_of : Measures → ℕ → ℕ → ℕ → Bool → ℕ
+lowest_of s c i memory enough = cond (leb (memory_size s) memory && enough) (cond (proper_key s to_client_kind c i) 4 3) 2
 
 -- where a client is asked at once, its numbers and the list are looked at together: its own tests may come before both
 pub data Uncleared (s : Measures) (c i memory : ℕ) (enough : Bool) (post : List ℕ) (used : ℕ) : EventEnd → Type 0 where
   cramped : (r : Refusal) → Cramped s (length post) used (number r) → Uncleared s c i memory enough post used (record { used = used; what = Happened.Refused r })
-  late : (r : Refusal) → PostRoomy s (length post) used → (properKey s toClientKind c i ≡ false) ⊎ Broken s used post → number r ≡ lowestOf s c i memory enough
+  late : (r : Refusal) → PostRoomy s (length post) used → (proper_key s to_client_kind c i ≡ false) ⊎ Broken s used post → number r ≡ lowest_of s c i memory enough
       → Uncleared s c i memory enough post used (record { used = used; what = Happened.Refused r })
 
 abbrev pub Clears : Measures → ℕ → ℕ → ℕ → Bool → List ℕ → ℕ → Clear → Type 0
-Clears s c i memory enough post used Clear.Yes = PostRoomy s (length post) used × (properKey s toClientKind c i ≡ true) × IsList s used post
+Clears s c i memory enough post used Clear.Yes = PostRoomy s (length post) used × (proper_key s to_client_kind c i ≡ true) × IsList s used post
 Clears s c i memory enough post used (Clear.Ends e) = Uncleared s c i memory enough post used e
 
 -- the parcel that was found is carried to where it goes, and this is the run's event

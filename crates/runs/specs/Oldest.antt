@@ -6,21 +6,21 @@ use Rattle.parties.specs.records.Answer.{number}
 use Rattle.parties.specs.declared.Refusal.{Refusal}
 use Rattle.runs.specs.declared.answer.Happened.{Happened}
 use Rattle.runs.specs.declared.answer.EventEnd.{EventEnd}
-use Rattle.runs.specs.Parcels.{callKind, returnKind, toNodeKind, toClientKind, Broken}
+use Rattle.runs.specs.Parcels.{call_kind, return_kind, to_node_kind, to_client_kind, Broken}
 use Rattle.runs.specs.Acts.{Lent}
-use Rattle.runs.specs.Happens.{PostRoomy, Happens, honestIn}
+use Rattle.runs.specs.Happens.{PostRoomy, Happens, honest_in}
 use Rattle.runs.specs.Event.{Cramped}
 
 -- every node is honest
-abbrev pub honestAll : ℕ → Bool
-honestAll = honestIn 0
+abbrev pub honest_all : ℕ → Bool
+honest_all = honest_in 0
 
 -- the client and the node of the parcel in front
-abbrev pub clientIn : Lent → ℕ
-clientIn x = get_or x.post 1 0
+abbrev pub client_in : Lent → ℕ
+client_in x = get_or x.post 1 0
 
-abbrev pub nodeIn : Lent → ℕ
-nodeIn x = get_or x.post 2 0
+abbrev pub node_in : Lent → ℕ
+node_in x = get_or x.post 2 0
 
 -- where an event has no output, the one that is lent stays
 abbrev pub without : Lent → Lent
@@ -36,11 +36,11 @@ pub data Oldest (s : Measures) (used : ℕ) (x y : Lent) : EventEnd → Type 0 w
   none : PostRoomy s (length x.post) used → used ≡ 0 → y ≡ x → Oldest s used x y (record { used = used; what = Happened.Nothing })
   -- the bytes are no list of parcels, by the first one's heading
   form : PostRoomy s (length x.post) used → Broken s used x.post → y ≡ x → Oldest s used x y (record { used = used; what = Happened.Refused Refusal.Form })
-  call : (result : EventEnd) → 7 ≤ used → get_or x.post 0 0 ≡ callKind → y.out ≡ x.out
-      → Happens s honestAll (carry (clientIn x) x.room) used (without x) (without y) result → Oldest s used x y result
-  return : (result : EventEnd) → 7 ≤ used → get_or x.post 0 0 ≡ returnKind → y.out ≡ x.out
-      → Happens s honestAll (hand (clientIn x) x.room) used (without x) (without y) result → Oldest s used x y result
-  toNode : (result : EventEnd) → 7 ≤ used → get_or x.post 0 0 ≡ toNodeKind → y.out ≡ x.out
-      → Happens s honestAll (bring (clientIn x) (nodeIn x) x.room) used (without x) (without y) result → Oldest s used x y result
-  toClient : (result : EventEnd) → 7 ≤ used → get_or x.post 0 0 ≡ toClientKind
-      → Happens s honestAll (deliver (nodeIn x) (clientIn x) x.room x.out) used x y result → Oldest s used x y result
+  call : (result : EventEnd) → 7 ≤ used → get_or x.post 0 0 ≡ call_kind → y.out ≡ x.out
+      → Happens s honest_all (carry (client_in x) x.room) used (without x) (without y) result → Oldest s used x y result
+  return : (result : EventEnd) → 7 ≤ used → get_or x.post 0 0 ≡ return_kind → y.out ≡ x.out
+      → Happens s honest_all (hand (client_in x) x.room) used (without x) (without y) result → Oldest s used x y result
+  to_node : (result : EventEnd) → 7 ≤ used → get_or x.post 0 0 ≡ to_node_kind → y.out ≡ x.out
+      → Happens s honest_all (bring (client_in x) (node_in x) x.room) used (without x) (without y) result → Oldest s used x y result
+  to_client : (result : EventEnd) → 7 ≤ used → get_or x.post 0 0 ≡ to_client_kind
+      → Happens s honest_all (deliver (node_in x) (client_in x) x.room x.out) used x y result → Oldest s used x y result

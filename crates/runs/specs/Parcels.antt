@@ -2,21 +2,21 @@
 use Rattle.std.specs.Prelude.{◌≡◌, Bool, true, cond, ◌&&◌, List, [], ◌∷◌, ◌++◌, ℕ, ◌+◌, ◌-◌, ◌≤◌, eqb, leb, ltb, length, take, drop, get_or}
 use Rattle.std.proofs.Math.Option.{some}
 use Rattle.parties.specs.declared.Measures.{Measures}
-use Rattle.parties.specs.protocol.Format.{readNumber, writeNumber, writeMany}
+use Rattle.parties.specs.protocol.Format.{read_number, write_number, write_many}
 use Rattle.runs.specs.declared.parcels.Found.{Found}
 
 -- kinds: a directory call, its answer, a message to a node, a message to a client
-abbrev pub callKind : ℕ
-callKind = 0
+abbrev pub call_kind : ℕ
+call_kind = 0
 
-abbrev pub returnKind : ℕ
-returnKind = 1
+abbrev pub return_kind : ℕ
+return_kind = 1
 
-abbrev pub toNodeKind : ℕ
-toNodeKind = 2
+abbrev pub to_node_kind : ℕ
+to_node_kind = 2
 
-abbrev pub toClientKind : ℕ
-toClientKind = 3
+abbrev pub to_client_kind : ℕ
+to_client_kind = 3
 
 -- calls and their answers have this for a node
 abbrev pub no_node : ℕ
@@ -29,30 +29,30 @@ pub record Parcel : Type 0 where
   pub bytes : List ℕ
 
 -- kind, client, node (a byte each), length (4 bytes), and the bytes
-abbrev pub writeParcel : Parcel → List ℕ
-writeParcel p = p.kind ∷ (writeNumber 1 p.client ++ (writeNumber 1 p.node ++ (writeNumber 4 (length p.bytes) ++ p.bytes)))
+abbrev pub write_parcel : Parcel → List ℕ
+write_parcel p = p.kind ∷ (write_number 1 p.client ++ (write_number 1 p.node ++ (write_number 4 (length p.bytes) ++ p.bytes)))
 
-abbrev pub writeParcels : List Parcel → List ℕ
-writeParcels q = writeMany writeParcel q
+abbrev pub write_parcels : List Parcel → List ℕ
+write_parcels q = write_many write_parcel q
 
 -- one of the kinds, a client below m, and a node: none for a call or an answer, 1 to n for a message
-unfoldable pub properKey : Measures → ℕ → ℕ → ℕ → Bool
-properKey s kind c i =
-    leb kind toClientKind && (ltb c s.m && cond (leb kind returnKind) (eqb i no_node) (leb 1 i && leb i s.n))
+unfoldable pub proper_key : Measures → ℕ → ℕ → ℕ → Bool
+proper_key s kind c i =
+    leb kind to_client_kind && (ltb c s.m && cond (leb kind return_kind) (eqb i no_node) (leb 1 i && leb i s.n))
 
 -- and a length that four bytes hold
 abbrev pub proper : Measures → Parcel → Bool
-proper s p = properKey s p.kind p.client p.node && ltb (length p.bytes) 4294967296
+proper s p = proper_key s p.kind p.client p.node && ltb (length p.bytes) 4294967296
 
-unfoldable pub properAll : Measures → List Parcel → Bool
-properAll s [] = true
-properAll s (p ∷ q) = proper s p && properAll s q
+unfoldable pub proper_all : Measures → List Parcel → Bool
+proper_all s [] = true
+proper_all s (p ∷ q) = proper s p && proper_all s q
 
 -- the form of a list: proper parcels stand at the front of some bytes, and nothing is left over in the used part
 pub record Listed (s : Measures) (q : List Parcel) (used : ℕ) (post : List ℕ) : Type 0 where
   pub within : used ≤ length post
-  pub written : take used post ≡ writeParcels q
-  pub allProper : properAll s q ≡ true
+  pub written : take used post ≡ write_parcels q
+  pub all_proper : proper_all s q ≡ true
 
 -- the used part is a list of parcels, or it is none
 pub record IsList (s : Measures) (used : ℕ) (post : List ℕ) : Type 0 where
@@ -80,7 +80,7 @@ pub record FindsAt (kind c i : ℕ) (q : List Parcel) (at end : ℕ) : Type 0 wh
   pub parts : q ≡ before ++ (parcel ∷ rest)
   pub none : bodies kind c i before ≡ []
   pub same : keyed kind c i parcel ≡ true
-  pub first : at ≡ length (writeParcels before)
+  pub first : at ≡ length (write_parcels before)
   pub last : end ≡ at + (7 + length parcel.bytes)
 
 -- a parcel stands between two places, and it is the oldest of its kind between client c and node i
@@ -103,14 +103,14 @@ Looks s kind c i used post Found.Broken = Broken s used post
 -- from a place on, the used part is a list
 pub record ListFrom (s : Measures) (used : ℕ) (post : List ℕ) (at : ℕ) : Type 0 where
   pub parcels : List Parcel
-  pub written : drop at (take used post) ≡ writeParcels parcels
-  pub allProper : properAll s parcels ≡ true
+  pub written : drop at (take used post) ≡ write_parcels parcels
+  pub all_proper : proper_all s parcels ≡ true
 
 -- a heading stands at a place, and its bytes end at another
 pub record HeadingAt (s : Measures) (used : ℕ) (post : List ℕ) (at end : ℕ) : Type 0 where
   pub len : ℕ
-  pub key : properKey s (get_or post at 0) (get_or post (at + 1) 0) (get_or post (at + 2) 0) ≡ true
-  pub read : readNumber 4 (drop (at + 3) post) ≡ some (record { value = len; rest = drop (at + 3 + 4) post })
+  pub key : proper_key s (get_or post at 0) (get_or post (at + 1) 0) (get_or post (at + 2) 0) ≡ true
+  pub read : read_number 4 (drop (at + 3) post) ≡ some (record { value = len; rest = drop (at + 3 + 4) post })
   pub last : end ≡ at + 7 + len
   pub within : end ≤ used
 
@@ -118,8 +118,8 @@ pub record HeadingAt (s : Measures) (used : ℕ) (post : List ℕ) (at end : ℕ
 pub record Appended (q : List Parcel) (post : List ℕ) (used : ℕ) (after : List ℕ) (r : ℕ) : Type 0 where
   pub long : length after ≡ length post
   pub within : r ≤ length after
-  pub count : r ≡ used + length (writeParcels q)
-  pub written : take r after ≡ take used post ++ writeParcels q
+  pub count : r ≡ used + length (write_parcels q)
+  pub written : take r after ≡ take used post ++ write_parcels q
 
 -- what stood from one place to another is gone
 pub record Removed (at end : ℕ) (post : List ℕ) (used : ℕ) (after : List ℕ) (r : ℕ) : Type 0 where

@@ -2,10 +2,10 @@
 use Rattle.std.specs.Prelude.{List, [], ◌∷◌, ◌++◌, ℕ, zero, suc, ◌+◌, ◌*◌, take}
 use Rattle.std.proofs.Math.Option.{Option, some, none}
 use Rattle.parties.specs.declared.Measures.{Measures}
-use Rattle.parties.specs.protocol.DirectoryEvents.{directorySize}
+use Rattle.parties.specs.protocol.DirectoryEvents.{directory_size}
 use Rattle.parties.specs.protocol.Answer.{ClientAnswer, refused, waits, scan, update, stores, requests, deposited, empty, page, spent, failed}
-use Rattle.parties.specs.protocol.ClientEvents.{roomSize, messageTo}
-use Rattle.runs.specs.Parcels.{Parcel, callKind, returnKind, toNodeKind, toClientKind, no_node}
+use Rattle.parties.specs.protocol.ClientEvents.{room_size, message_to}
+use Rattle.runs.specs.Parcels.{Parcel, call_kind, return_kind, to_node_kind, to_client_kind, no_node}
 
 -- the first byte of a call and of the answer of one: nothing follows, or fields or rows
 abbrev pub plain : ℕ
@@ -16,17 +16,17 @@ filled = 1
 
 -- a call: a scan's is plain, an update's has its fields
 abbrev pub call : ℕ → List ℕ → Parcel
-call c b = record { kind = callKind; client = c; node = no_node; bytes = b }
+call c b = record { kind = call_kind; client = c; node = no_node; bytes = b }
 
 -- the answer of one: an update's is plain, a scan's has its rows
 abbrev pub return : ℕ → List ℕ → Parcel
-return c b = record { kind = returnKind; client = c; node = no_node; bytes = b }
+return c b = record { kind = return_kind; client = c; node = no_node; bytes = b }
 
-abbrev pub toNode : ℕ → ℕ → List ℕ → Parcel
-toNode c i b = record { kind = toNodeKind; client = c; node = i; bytes = b }
+abbrev pub to_node : ℕ → ℕ → List ℕ → Parcel
+to_node c i b = record { kind = to_node_kind; client = c; node = i; bytes = b }
 
-abbrev pub toClient : ℕ → ℕ → List ℕ → Parcel
-toClient i c b = record { kind = toClientKind; client = c; node = i; bytes = b }
+abbrev pub to_client : ℕ → ℕ → List ℕ → Parcel
+to_client i c b = record { kind = to_client_kind; client = c; node = i; bytes = b }
 
 abbrev pub call_by : ℕ → ClientAnswer → List ℕ → List Parcel
 call_by c (refused n) room = []
@@ -41,28 +41,28 @@ call_by c (page v len) room = []
 call_by c spent room = []
 call_by c failed room = []
 
-abbrev pub messageIn : ℕ → ℕ → Option (List ℕ) → List Parcel
-messageIn c i none = []
-messageIn c i (some m) = toNode c i m ∷ []
+abbrev pub message_in : ℕ → ℕ → Option (List ℕ) → List Parcel
+message_in c i none = []
+message_in c i (some m) = to_node c i m ∷ []
 
 -- messages to the nodes 1 to j
-unfoldable pub messagesBy : Measures → ℕ → ClientAnswer → List ℕ → ℕ → List Parcel
-messagesBy s c a room zero = []
-messagesBy s c a room (suc j) = messagesBy s c a room j ++ messageIn c (suc j) (messageTo s a room (suc j))
+unfoldable pub messages_by : Measures → ℕ → ClientAnswer → List ℕ → ℕ → List Parcel
+messages_by s c a room zero = []
+messages_by s c a room (suc j) = messages_by s c a room j ++ message_in c (suc j) (message_to s a room (suc j))
 
 abbrev pub sent : Measures → ℕ → ClientAnswer → List ℕ → List Parcel
-sent s c a room = call_by c a room ++ messagesBy s c a room s.n
+sent s c a room = call_by c a room ++ messages_by s c a room s.n
 
 -- ---- how long it is
 
 -- with its heading of 7 bytes, an answer with all rows is the longest of calls and answers
-abbrev pub longestCall : Measures → ℕ
-longestCall s = 8 + directorySize s
+abbrev pub longest_call : Measures → ℕ
+longest_call s = 8 + directory_size s
 
 -- a message to a node is a part of a client's room; an answer of one is no longer
-abbrev pub longestMessage : Measures → ℕ
-longestMessage s = 7 + roomSize s
+abbrev pub longest_message : Measures → ℕ
+longest_message s = 7 + room_size s
 
 -- bytes that the parcels of one event take at most
 abbrev pub needed : Measures → ℕ
-needed s = longestCall s + s.n * longestMessage s
+needed s = longest_call s + s.n * longest_message s

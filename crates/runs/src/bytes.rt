@@ -2,7 +2,7 @@
 ghost use Rattle.std.specs.Prelude.{◌≡◌, ◌+◌, ◌-◌, ◌<◌, ◌≤◌, length, drop};
 ghost use Rattle.std.proofs.Math.Option.{some};
 ghost use Rattle.std.proofs.Math.Seq.{paste};
-ghost use Rattle.parties.specs.protocol.Format.{readNumber, writeNumber};
+ghost use Rattle.parties.specs.protocol.Format.{read_number, write_number};
 
 fn wide32(b: u8) -> u32
     ensures { (result ≡ b) × (result < 256) }
@@ -13,7 +13,7 @@ fn wide32(b: u8) -> u32
 // The number in the four bytes at a place.
 pub fn u32_at(t: &[u8], at: usize) -> u32
     requires { at + 4 ≤ length t.now }
-    ensures { readNumber 4 (drop at t.now) ≡ some (record { value = result; rest = drop (at + 4) t.now }) }
+    ensures { read_number 4 (drop at t.now) ≡ some (record { value = result; rest = drop (at + 4) t.now }) }
 {
     let a = wide32(t[at]);
     let b = wide32(t[at + 1]);
@@ -24,7 +24,7 @@ pub fn u32_at(t: &[u8], at: usize) -> u32
 
 pub fn put_u32(t: &mut [u8], at: usize, v: u32)
     requires { at + 4 ≤ length t.old }
-    ensures { t.new ≡ paste t.old at (writeNumber 4 v) 4 }
+    ensures { t.new ≡ paste t.old at (write_number 4 v) 4 }
 {
     t[at] = (v / 256 / 256 / 256 % 256) as u8;
     t[at + 1] = (v / 256 / 256 % 256) as u8;

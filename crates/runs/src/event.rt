@@ -2,17 +2,17 @@
 ghost use Rattle.std.specs.Prelude.{◌≡◌, Bool, true, false, ◌&&◌, [], ℕ, ◌+◌, ◌-◌, ◌*◌, ◌≤◌, min, leb, length, take};
 ghost use Rattle.parties.specs.protocol.Measures.{passes};
 ghost use Rattle.parties.specs.Sizes.{sized, Sized};
-ghost use Rattle.parties.specs.protocol.ClientEvents.{roomSize};
+ghost use Rattle.parties.specs.protocol.ClientEvents.{room_size};
 ghost use Rattle.parties.specs.protocol.Run.{is_refused, length_of};
 ghost use Rattle.parties.specs.records.Answer.{number};
 ghost use Rattle.parties.specs.Answer.{served};
 ghost use Rattle.parties.specs.protocol.Run.{deposit as depositEvent, reading as readingEvent, carry as carryEvent, hand as handEvent, bring as bringEvent, deliver as deliverEvent, lie as lieEvent};
 ghost use Rattle.parties.specs.client.Answer.{answered};
-ghost use Rattle.runs.specs.Parcels.{callKind, returnKind, toNodeKind, toClientKind, no_node, Stands};
+ghost use Rattle.runs.specs.Parcels.{call_kind, return_kind, to_node_kind, to_client_kind, no_node, Stands};
 ghost use Rattle.runs.specs.Sent.{needed as neededFor};
 ghost use Rattle.runs.specs.Acts.{body, tagged as taggedWith, Sends, Takes, Serves};
-ghost use Rattle.runs.specs.Event.{Readies, Aheads, Clears, lowestOf, Carried};
-ghost use Rattle.runs.specs.Happens.{PostRoomy, Happens, honestIn};
+ghost use Rattle.runs.specs.Event.{Readies, Aheads, Clears, lowest_of, Carried};
+ghost use Rattle.runs.specs.Happens.{PostRoomy, Happens, honest_in};
 
 use crate::answer::{EventEnd, Happened};
 use crate::least::least;
@@ -105,7 +105,7 @@ fn look_ahead(s: Measures, kind: u8, c: usize, i: usize, post: &[u8], used: usiz
 // The lowest that applies: a client's 2, its 3, or the list's 4.
 fn lowest(s: Measures, c: usize, i: usize, memory: usize, enough: bool) -> Refusal
     requires { passes s ≡ true }
-    ensures { number result ≡ lowestOf s c i memory enough }
+    ensures { number result ≡ lowest_of s c i memory enough }
 {
     let part = table_part(s, 1, memory);
     match part {
@@ -151,7 +151,7 @@ fn clearance(
 
 // The room and the output that a message to a client wants; false where the measures do not pass.
 fn message_slices(s: Measures, room: usize, out: usize) -> bool
-    ensures { passes s ≡ true → result ≡ (leb (roomSize s) room && leb (s.k * s.f - 4) out) }
+    ensures { passes s ≡ true → result ≡ (leb (room_size s) room && leb (s.k * s.f - 4) out) }
 {
     if !s.pass() {
         return false;
@@ -265,7 +265,7 @@ fn carry_update(
     at: usize,
     end: usize,
 ) -> EventEnd
-    requires { PostRoomy s (length post.old) used × Stands s callKind c no_node used post.old at end × (taggedWith (body post.old at end) ≡ true) }
+    requires { PostRoomy s (length post.old) used × Stands s call_kind c no_node used post.old at end × (taggedWith (body post.old at end) ≡ true) }
     ensures { (length post.new ≡ length post.old)
         × ((honest : ℕ → Bool) → Carried s honest (carryEvent c room.old) used
         (record { memory = memory.entry.now; post = post.old; room = room.old; out = [] })
@@ -299,7 +299,7 @@ fn carry_scan(
     at: usize,
     end: usize,
 ) -> EventEnd
-    requires { PostRoomy s (length post.old) used × Stands s callKind c no_node used post.old at end × (taggedWith (body post.old at end) ≡ false) }
+    requires { PostRoomy s (length post.old) used × Stands s call_kind c no_node used post.old at end × (taggedWith (body post.old at end) ≡ false) }
     ensures { (length post.new ≡ length post.old)
         × ((honest : ℕ → Bool) → Carried s honest (carryEvent c room.old) used
         (record { memory = memory.entry.now; post = post.old; room = room.old; out = [] })
@@ -332,7 +332,7 @@ fn hand_updated(
     at: usize,
     end: usize,
 ) -> EventEnd
-    requires { PostRoomy s (length post.old) used × Stands s returnKind c no_node used post.old at end × (taggedWith (body post.old at end) ≡ false) }
+    requires { PostRoomy s (length post.old) used × Stands s return_kind c no_node used post.old at end × (taggedWith (body post.old at end) ≡ false) }
     ensures { (length post.new ≡ length post.old)
         × ((honest : ℕ → Bool) → Carried s honest (handEvent c room.old) used
         (record { memory = memory.entry.now; post = post.old; room = room.old; out = [] })
@@ -353,7 +353,7 @@ fn hand_rows(
     at: usize,
     end: usize,
 ) -> EventEnd
-    requires { PostRoomy s (length post.old) used × Stands s returnKind c no_node used post.old at end × (taggedWith (body post.old at end) ≡ true) }
+    requires { PostRoomy s (length post.old) used × Stands s return_kind c no_node used post.old at end × (taggedWith (body post.old at end) ≡ true) }
     ensures { (length post.new ≡ length post.old)
         × ((honest : ℕ → Bool) → Carried s honest (handEvent c room.old) used
         (record { memory = memory.entry.now; post = post.old; room = room.old; out = [] })
@@ -376,7 +376,7 @@ fn bring_honest(
     at: usize,
     end: usize,
 ) -> EventEnd
-    requires { PostRoomy s (length post.old) used × Stands s toNodeKind c i used post.old at end }
+    requires { PostRoomy s (length post.old) used × Stands s to_node_kind c i used post.old at end }
     ensures { (length post.new ≡ length post.old)
         × ((honest : ℕ → Bool) → honest i ≡ true → Carried s honest (bringEvent c i room.old) used
         (record { memory = memory.entry.now; post = post.old; room = room.old; out = [] })
@@ -400,7 +400,7 @@ fn bring_dishonest(
     at: usize,
     end: usize,
 ) -> EventEnd
-    requires { PostRoomy s (length post.old) used × Stands s toNodeKind c i used post.old at end }
+    requires { PostRoomy s (length post.old) used × Stands s to_node_kind c i used post.old at end }
     ensures { (length post.new ≡ length post.old)
         × ((honest : ℕ → Bool) → honest i ≡ false → Carried s honest (bringEvent c i room.old) used
         (record { memory = memory.entry.now; post = post.old; room = room.old; out = [] })
@@ -426,7 +426,7 @@ fn deliver_message(
     at: usize,
     end: usize,
 ) -> EventEnd
-    requires { PostRoomy s (length post.old) used × Stands s toClientKind c i used post.old at end }
+    requires { PostRoomy s (length post.old) used × Stands s to_client_kind c i used post.old at end }
     ensures { (length post.new ≡ length post.old)
         × ((honest : ℕ → Bool) → Carried s honest (deliverEvent i c room.old out.old) used
         (record { memory = memory.entry.now; post = post.old; room = room.old; out = out.old })
@@ -544,7 +544,7 @@ pub fn bring(
     post: &mut [u8],
     used: usize,
 ) -> EventEnd
-    ensures { Happens s (honestIn liars) (bringEvent c i room.old) used
+    ensures { Happens s (honest_in liars) (bringEvent c i room.old) used
         (record { memory = memory.entry.now; post = post.old; room = room.old; out = [] })
         (record { memory = memory.exit.now; post = post.new; room = room.new; out = [] }) result }
 {
@@ -622,7 +622,7 @@ pub fn lie(
     post: &mut [u8],
     used: usize,
 ) -> EventEnd
-    ensures { Happens s (honestIn liars) (lieEvent i c bytes.now room.old out.old) used
+    ensures { Happens s (honest_in liars) (lieEvent i c bytes.now room.old out.old) used
         (record { memory = memory.entry.now; post = post.old; room = room.old; out = out.old })
         (record { memory = memory.exit.now; post = post.new; room = room.new; out = out.new }) result }
 {

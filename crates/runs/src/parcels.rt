@@ -1,8 +1,8 @@
 // Parcels under way, one after the other at the front of a lent slice: calls, their answers, and messages.
 ghost use Rattle.std.specs.Prelude.{◌≡◌, List, [], ◌∷◌, ◌++◌, ◌+◌, ◌-◌, ◌<◌, ◌≤◌, eqb, true, false, ◌&&◌, length, take, get_or};
 ghost use Rattle.parties.specs.protocol.Measures.{passes};
-ghost use Rattle.parties.specs.protocol.Format.{writeNumber};
-ghost use Rattle.runs.specs.Parcels.{Parcel, properKey, Looks, ListFrom, HeadingAt, Appended, Removed};
+ghost use Rattle.parties.specs.protocol.Format.{write_number};
+ghost use Rattle.runs.specs.Parcels.{Parcel, proper_key, Looks, ListFrom, HeadingAt, Appended, Removed};
 
 use crate::bytes::{copy, move_down, put_u32, u32_at};
 use parties::Measures;
@@ -38,7 +38,7 @@ pub enum Found {
 
 // Whether a parcel of such a kind may stand between client c and node i.
 pub fn proper(s: Measures, kind: u8, c: usize, i: usize) -> bool
-    ensures { result ≡ properKey s kind c i }
+    ensures { result ≡ proper_key s kind c i }
 {
     if TO_CLIENT < kind {
         return false;
@@ -136,7 +136,7 @@ pub fn remove(post: &mut [u8], used: usize, at: usize, end: usize) -> usize
 // A parcel's first seven bytes.
 fn put_heading(post: &mut [u8], used: usize, kind: u8, c: usize, i: usize, len: u32)
     requires { used + 7 ≤ length post.old }
-    ensures { (length post.new ≡ length post.old) × (take (used + 7) post.new ≡ take used post.old ++ (kind ∷ (writeNumber 1 c ++ (writeNumber 1 i ++ writeNumber 4 len)))) }
+    ensures { (length post.new ≡ length post.old) × (take (used + 7) post.new ≡ take used post.old ++ (kind ∷ (write_number 1 c ++ (write_number 1 i ++ write_number 4 len)))) }
 {
     post[used] = kind;
     post[used + 1] = (c % 256) as u8;

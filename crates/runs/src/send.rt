@@ -2,10 +2,10 @@
 ghost use Rattle.std.specs.Prelude.{◌≡◌, true, ◌+◌, ◌*◌, ◌≤◌, length};
 ghost use Rattle.parties.specs.Sizes.{Sized};
 ghost use Rattle.parties.specs.protocol.Measures.{passes};
-ghost use Rattle.parties.specs.protocol.ClientEvents.{messageTo};
+ghost use Rattle.parties.specs.protocol.ClientEvents.{message_to};
 ghost use Rattle.parties.specs.client.Answer.{answered};
 ghost use Rattle.runs.specs.Parcels.{Appended};
-ghost use Rattle.runs.specs.Sent.{call_by, messageIn, messagesBy, sent, longestCall, longestMessage, needed};
+ghost use Rattle.runs.specs.Sent.{call_by, message_in, messages_by, sent, longest_call, longest_message, needed};
 
 use crate::least::least;
 use crate::parcels::{CALL, FILLED, NO_NODE, PLAIN, TO_NODE, append};
@@ -21,7 +21,7 @@ fn send_call(
     post: &mut [u8],
     used: usize,
 ) -> usize
-    requires { (passes s ≡ true) × Sized s (answered a) × (used + longestCall s ≤ length post.old) }
+    requires { (passes s ≡ true) × Sized s (answered a) × (used + longest_call s ≤ length post.old) }
     ensures { Appended (call_by c (answered a) room.now) post.old used post.new result }
 {
     match a {
@@ -44,8 +44,8 @@ fn send_message(
     post: &mut [u8],
     used: usize,
 ) -> usize
-    requires { (passes s ≡ true) × (1 ≤ i) × (i ≤ s.n) × Sized s (answered a) × (used + longestMessage s ≤ length post.old) }
-    ensures { Appended (messageIn c i (messageTo s (answered a) room.now i)) post.old used post.new result }
+    requires { (passes s ≡ true) × (1 ≤ i) × (i ≤ s.n) × Sized s (answered a) × (used + longest_message s ≤ length post.old) }
+    ensures { Appended (message_in c i (message_to s (answered a) room.now i)) post.old used post.new result }
 {
     let front = least(6, room.len());
     match a {
@@ -78,8 +78,8 @@ fn send_messages(
     post: &mut [u8],
     used: usize,
 ) -> usize
-    requires { (passes s ≡ true) × Sized s (answered a) × (used + s.n * longestMessage s ≤ length post.old) }
-    ensures { Appended (messagesBy s c (answered a) room.now s.n) post.old used post.new result }
+    requires { (passes s ≡ true) × Sized s (answered a) × (used + s.n * longest_message s ≤ length post.old) }
+    ensures { Appended (messages_by s c (answered a) room.now s.n) post.old used post.new result }
 {
     let nodes = s.n;
     let mut at = used;

@@ -15,23 +15,23 @@ use lib.Seq.{take_all, length-take-le}
 use Rattle.parties.specs.declared.Measures.{Measures}
 use Rattle.parties.specs.protocol.Measures.{passes}
 use Rattle.parties.specs.protocol.Answer.{refuses as refusal, serves}
-use Rattle.parties.specs.protocol.ClientEvents.{roomSize}
-use Rattle.parties.specs.protocol.DirectoryEvents.{directorySize}
+use Rattle.parties.specs.protocol.ClientEvents.{room_size}
+use Rattle.parties.specs.protocol.DirectoryEvents.{directory_size}
 use Rattle.parties.specs.protocol.Run.{deposit, reading}
 use Rattle.parties.proofs.protocol.formats.MeasureLaws.{passed}
 use Rattle.parties.specs.declared.Refusal.{Refusal}
 use Rattle.parties.specs.records.Answer.{number}
 use Rattle.parties.specs.declared.Service.{Service}
 use Rattle.parties.specs.Answer.{served}
-use Rattle.title.specs.Memory.{memorySize, MemoryEnd, memoryFresh}
+use Rattle.title.specs.Memory.{memory_size, MemoryEnd, memory_fresh}
 use Rattle.title.specs.Part.{short}
 use Rattle.title.proofs.FreshMemoryLaws.{fresh-refused, fresh-served}
 use Rattle.runs.specs.declared.answer.EventEnd.{EventEnd}
 use Rattle.runs.specs.Acts.{Lent}
 use Rattle.runs.specs.Sent.{needed}
 use Rattle.runs.specs.Happens.{Happens}
-use Rattle.runs.specs.Oldest.{honestAll, without, alone}
-use Rattle.runs.proofs.SendLaws.{least-taken}
+use Rattle.runs.specs.Oldest.{honest_all, without, alone}
+use Rattle.runs.proofs.SendLaws.{least_taken}
 use Rattle.runs.proofs.StartLaws.{deposit-long}
 use Rattle.lines.specs.declared.command.Command.{Command}
 use Rattle.lines.specs.declared.read.Reading.{Reading}
@@ -39,28 +39,28 @@ use Rattle.lines.specs.declared.read.Line.{Line}
 use Rattle.lines.specs.contracts.command.Command.{the_type}
 use Rattle.lines.specs.Line.{Kept}
 use Rattle.lines.specs.Read.{ended_of, Read}
-use Rattle.lines.specs.Command.{Asked, Asks, standLine, asked_of, given}
-use Rattle.lines.specs.Text.{written, putLine}
-use Rattle.lines.specs.Sentences.{headerLine, refusedLine}
+use Rattle.lines.specs.Command.{Asked, Asks, stand_line, asked_of, given}
+use Rattle.lines.specs.Text.{written, put_line}
+use Rattle.lines.specs.Sentences.{header_line, refused_line}
 use Rattle.lines.proofs.ReadLaws.{next-read, ended-read}
 use Rattle.lines.proofs.CommandLaws.{asked-line}
 use Rattle.session.specs.declared.session.Session.{Session}
 use Rattle.session.specs.declared.session.Lengths.{Lengths}
 use Rattle.session.specs.declared.settle.Settled.{Settled}
 use Rattle.session.specs.Settle.{Desk, desk, Settles}
-use Rattle.session.specs.Session.{Held, newLine, deskOf, asks, small, slicesLong, lengths, Reply, refuses, opens, firstReply, firstMeasures, Replies, First}
+use Rattle.session.specs.Session.{Held, new_line, desk_of, asks, small, slices_long, lengths, Reply, refuses, opens, first_reply, first_measures, Replies, First}
 use Rattle.session.specs.Session.{Reads, Deposits as StartsDeposit, Operates, Refuses, Later, Ends, within, taken}
 use Rattle.session.proofs.SessionLaws.{fresh-long}
 
-pub small-not : (s : Measures) → 3 < s.m → false ≡ small s
-small-not s h = rw (lt-leb s.m 3 h) refl
+pub small_not : (s : Measures) → 3 < s.m → false ≡ small s
+small_not s h = rw (lt-leb s.m 3 h) refl
 
 pub small_by : (s : Measures) → (3 < s.m → ⊥) → leb s.f 64 ≡ small s
 small_by s h =
     let l : s.m ≤ 3 = omega arith in rw (le-leb s.m 3 l) refl
 
-pub not-both : (b : Bool) → b ≡ true → b ≡ false → ⊥
-not-both b e f =
+pub not_both : (b : Bool) → b ≡ true → b ≡ false → ⊥
+not_both b e f =
     let z : true ≡ false = cc in
     let y : ◌≡◌ {A = ℕ} 0 1 = cc in omega arith
 
@@ -75,32 +75,32 @@ module _ (s : Measures) (l : Lengths) where
   abbrev frame : ℕ
   frame = s.k * s.f
 
-  pub no_room : l.room < roomSize s → false ≡ slicesLong s l
-  no_room a = rw (lt-leb (roomSize s) l.room a) refl
+  pub no_room : l.room < room_size s → false ≡ slices_long s l
+  no_room a = rw (lt-leb (room_size s) l.room a) refl
 
-  module _ (a : roomSize s ≤ l.room) where
-    pub no_rows : l.room < directorySize s → false ≡ slicesLong s l
-    no_rows b = rw (le-leb (roomSize s) l.room a, lt-leb (directorySize s) l.room b) refl
+  module _ (a : room_size s ≤ l.room) where
+    pub no_rows : l.room < directory_size s → false ≡ slices_long s l
+    no_rows b = rw (le-leb (room_size s) l.room a, lt-leb (directory_size s) l.room b) refl
 
-    module _ (b : directorySize s ≤ l.room) where
-      pub no_output : l.out < frame - 4 → false ≡ slicesLong s l
-      no_output d = rw (le-leb (roomSize s) l.room a, le-leb (directorySize s) l.room b, lt-leb (frame - 4) l.out d) refl
+    module _ (b : directory_size s ≤ l.room) where
+      pub no_output : l.out < frame - 4 → false ≡ slices_long s l
+      no_output d = rw (le-leb (room_size s) l.room a, le-leb (directory_size s) l.room b, lt-leb (frame - 4) l.out d) refl
 
       module _ (d : frame - 4 ≤ l.out) where
-        pub no-page : l.page ≤ frame - 4 → false ≡ slicesLong s l
-        no-page e =
-            rw (le-leb (roomSize s) l.room a, le-leb (directorySize s) l.room b, le-leb (frame - 4) l.out d, le-ltb (frame - 4) l.page e) refl
+        pub no_page : l.page ≤ frame - 4 → false ≡ slices_long s l
+        no_page e =
+            rw (le-leb (room_size s) l.room a, le-leb (directory_size s) l.room b, le-leb (frame - 4) l.out d, le-ltb (frame - 4) l.page e) refl
 
         module _ (e : frame - 4 < l.page) where
-          others : slicesLong s l ≡ (leb (2 * frame + 32) l.text && leb (2 * needed s) l.post)
+          others : slices_long s l ≡ (leb (2 * frame + 32) l.text && leb (2 * needed s) l.post)
           others =
-              rw (le-leb (roomSize s) l.room a, le-leb (directorySize s) l.room b, le-leb (frame - 4) l.out d, lt-ltb (frame - 4) l.page e) refl
+              rw (le-leb (room_size s) l.room a, le-leb (directory_size s) l.room b, le-leb (frame - 4) l.out d, lt-ltb (frame - 4) l.page e) refl
 
-          pub no_text : l.text < 2 * frame + 32 → false ≡ slicesLong s l
+          pub no_text : l.text < 2 * frame + 32 → false ≡ slices_long s l
           no_text f = sym (others ∙ rw (lt-leb (2 * frame + 32) l.text f) refl)
 
-          pub by-post : 2 * frame + 32 ≤ l.text → leb (2 * needed s) l.post ≡ slicesLong s l
-          by-post f = sym (others ∙ rw (le-leb (2 * frame + 32) l.text f) refl)
+          pub by_post : 2 * frame + 32 ≤ l.text → leb (2 * needed s) l.post ≡ slices_long s l
+          by_post f = sym (others ∙ rw (le-leb (2 * frame + 32) l.text f) refl)
 
 -- ---- a `config`
 
@@ -109,21 +109,21 @@ module _ (s : Measures) (l : Lengths) (memory : List ℕ) where
   unfolding opens
   opens-measures e = rw e refl
 
-  pub opens-big : passes s ≡ true → small s ≡ false → opens s l memory ≡ refuses 2 memory
+  pub opens_big : passes s ≡ true → small s ≡ false → opens s l memory ≡ refuses 2 memory
   unfolding opens
-  opens-big e f = rw (e, f) refl
+  opens_big e f = rw (e, f) refl
 
-  pub opens-scarce : passes s ≡ true → small s ≡ true → slicesLong s l ≡ false → opens s l memory ≡ refuses 2 memory
+  pub opens_scarce : passes s ≡ true → small s ≡ true → slices_long s l ≡ false → opens s l memory ≡ refuses 2 memory
   unfolding opens
-  opens-scarce e f w = rw (e, f, w) refl
+  opens_scarce e f w = rw (e, f, w) refl
 
   -- the service refuses a memory that is too short, and nothing else
-  pub opens-short : (a : Service) (r : Refusal) (n : ℕ) → passes s ≡ true → small s ≡ true → slicesLong s l ≡ true → a ≡ Service.Refused r → served a ≡ (memoryFresh s memory).answer → n ≡ number r
-      → (opens s l memory ≡ refuses n memory) × ((memoryFresh s memory).memory ≡ memory)
+  pub opens-short : (a : Service) (r : Refusal) (n : ℕ) → passes s ≡ true → small s ≡ true → slices_long s l ≡ true → a ≡ Service.Refused r → served a ≡ (memory_fresh s memory).answer → n ≡ number r
+      → (opens s l memory ≡ refuses n memory) × ((memory_fresh s memory).memory ≡ memory)
   unfolding opens
-  opens-short a r n e f w g h m = go (dec_le (memorySize s) (length memory))
+  opens-short a r n e f w g h m = go (dec_le (memory_size s) (length memory))
     where
-      go : Dec (memorySize s ≤ length memory) → (opens s l memory ≡ refuses n memory) × ((memoryFresh s memory).memory ≡ memory)
+      go : Dec (memory_size s ≤ length memory) → (opens s l memory ≡ refuses n memory) × ((memory_fresh s memory).memory ≡ memory)
       go (yes q) =
           let i : refusal (number r) ≡ serves 0 = sym (ap served g) ∙ h ∙ ap (λ (x : MemoryEnd). x.answer) (fresh-served s memory e q) in
           let z : ◌≡◌ {A = ℕ} 0 1 = cc in absurd (omega arith)
@@ -131,18 +131,18 @@ module _ (s : Measures) (l : Lengths) (memory : List ℕ) where
           let d = fresh-refused s memory 2 (short e (omega arith)) in
           let i : refusal (number r) ≡ refusal 2 = sym (ap served g) ∙ h ∙ sym d.0 in
           let j : 2 ≡ n = cc in
-          (rw (e, f, w, lt-leb (memorySize s) (length memory) (omega arith)) (ap (λ (x : ℕ). refuses x memory) j), sym d.1)
+          (rw (e, f, w, lt-leb (memory_size s) (length memory) (omega arith)) (ap (λ (x : ℕ). refuses x memory) j), sym d.1)
 
-  pub opens-taken : (a : Service) (k : ℕ) → passes s ≡ true → small s ≡ true → slicesLong s l ≡ true → a ≡ Service.Served k → served a ≡ (memoryFresh s memory).answer
-      → opens s l memory ≡ record { line = headerLine s.m s.n s.k s.t s.f; stage = 1; memory = (memoryFresh s memory).memory }
+  pub opens-taken : (a : Service) (k : ℕ) → passes s ≡ true → small s ≡ true → slices_long s l ≡ true → a ≡ Service.Served k → served a ≡ (memory_fresh s memory).answer
+      → opens s l memory ≡ record { line = header_line s.m s.n s.k s.t s.f; stage = 1; memory = (memory_fresh s memory).memory }
   unfolding opens
   opens-taken a k e f w g h =
-      let d : memorySize s ≤ length memory = fresh-long s memory a k e g h in rw (e, f, w, le-leb (memorySize s) (length memory) d) refl
+      let d : memory_size s ≤ length memory = fresh-long s memory a k e g h in rw (e, f, w, le-leb (memory_size s) (length memory) d) refl
 
 -- ---- a reply
 
-pub replied : (w v : Reply) (s : Measures) (text memory' text' : List ℕ) (y : Session) (n len : ℕ) → w ≡ v → written text' n ≡ putLine text v.line
-    → memory' ≡ v.memory → len ≡ n → y ≡ newLine v.stage s 0 → Replies w s text memory' text' y len
+pub replied : (w v : Reply) (s : Measures) (text memory' text' : List ℕ) (y : Session) (n len : ℕ) → w ≡ v → written text' n ≡ put_line text v.line
+    → memory' ≡ v.memory → len ≡ n → y ≡ new_line v.stage s 0 → Replies w s text memory' text' y len
 replied w v s text memory' text' y n len e l m q g = rw (e, q) (record { line = l; memory = m; next = g })
 
 -- ---- what the line that ended asks for
@@ -157,12 +157,12 @@ module _ (r : Command) (page : List ℕ) (x : Measures) (l : Lengths) (memory te
       → First (given r page) x l memory text memory' text' y len
   first-config s e w = rw e w
 
-abbrev noConfig : List ℕ
-noConfig = 1 ∷ 2 ∷ 3 ∷ []
+abbrev no_config : List ℕ
+no_config = 1 ∷ 2 ∷ 3 ∷ []
 
 pub first-other : (r : Command) (page : List ℕ) (x : Measures) (l : Lengths) (memory text memory' text' : List ℕ) (y : Session) (len : ℕ)
-    → OneOf noConfig (tag_of the_type r) → Replies (refuses 4 memory) x text memory' text' y len → First (given r page) x l memory text memory' text' y len
-first-other (Command.Config m n k t f) page x l memory text memory' text' y len o w = absurd (miss noConfig 0 tt o)
+    → OneOf no_config (tag_of the_type r) → Replies (refuses 4 memory) x text memory' text' y len → First (given r page) x l memory text memory' text' y len
+first-other (Command.Config m n k t f) page x l memory text memory' text' y len o w = absurd (miss no_config 0 tt o)
 first-other (Command.Read c) page x l memory text memory' text' y len o w = w
 first-other (Command.Deposit c n) page x l memory text memory' text' y len o w = w
 first-other Command.Other page x l memory text memory' text' y len o w = w
@@ -176,24 +176,24 @@ module _ (r : Command) (page : List ℕ) (s : Measures) (x y : Desk) where
   pub later-deposits : (c n : ℕ) → r ≡ Command.Deposit c n → Operates s c (StartsDeposit s c x.used (take n page) x.lent) x y → Later (given r page) s x y
   later-deposits c n e o = rw e o
 
-abbrev noOperation : List ℕ
-noOperation = 0 ∷ 3 ∷ []
+abbrev no_operation : List ℕ
+no_operation = 0 ∷ 3 ∷ []
 
-pub later-other : (r : Command) (page : List ℕ) (s : Measures) (x y : Desk) → OneOf noOperation (tag_of the_type r) → Refuses 4 x y → Later (given r page) s x y
+pub later-other : (r : Command) (page : List ℕ) (s : Measures) (x y : Desk) → OneOf no_operation (tag_of the_type r) → Refuses 4 x y → Later (given r page) s x y
 later-other (Command.Config m n k t f) page s x y o z = z
-later-other (Command.Read c) page s x y o z = absurd (miss noOperation 1 tt o)
-later-other (Command.Deposit c n) page s x y o z = absurd (miss noOperation 2 tt o)
+later-other (Command.Read c) page s x y o z = absurd (miss no_operation 1 tt o)
+later-other (Command.Deposit c n) page s x y o z = absurd (miss no_operation 2 tt o)
 later-other Command.Other page s x y o z = z
 
-pub refused-again : (x : Lent) (text text' : List ℕ) (n k used used' len : ℕ) → len ≡ k → used' ≡ used → written text' k ≡ putLine text (refusedLine n)
+pub refused_again : (x : Lent) (text text' : List ℕ) (n k used used' len : ℕ) → len ≡ k → used' ≡ used → written text' k ≡ put_line text (refused_line n)
     → Refuses n (desk x used text 0) (desk x used' text' len)
-refused-again x text text' n k used used' len e u l = record { line = rw e l; lent = refl; used = u }
+refused_again x text text' n k used used' len e u l = record { line = rw e l; lent = refl; used = u }
 
 -- ---- a line of bytes p: what is kept of it asks for what p asks for
 
 module _ (l : Lengths) (memory : List ℕ) (x s : Measures) where
   first-line : (a : Asked) (page : List ℕ) (r : Command) → Asks a page r
-      → (firstReply (given r page) l memory ≡ firstReply (within s page a) l memory) × (firstMeasures (given r page) x ≡ firstMeasures (within s page a) x)
+      → (first_reply (given r page) l memory ≡ first_reply (within s page a) l memory) × (first_measures (given r page) x ≡ first_measures (within s page a) x)
   first-line (Asked.config m n k t f) page (Command.Config m' n' k' t' f') h = rw (h.0, h.1, h.2, h.3, h.4) (refl, refl)
   first-line (Asked.config m n k t f) page (Command.Read c) h = absurd h
   first-line (Asked.config m n k t f) page (Command.Deposit c b) h = absurd h
@@ -214,25 +214,25 @@ module _ (l : Lengths) (memory : List ℕ) (x s : Measures) where
 -- the part of the slice that is deposited: the bytes that were given, as far as there was room
 kept-page : (bytes page : List ℕ) (n : ℕ) → Kept bytes n page → take n page ≡ take (length page) bytes
 kept-page bytes page n k =
-    let w : n ≡ min (length page) (length bytes) = omega (arith, k.size) in k.front ∙ least-taken (length page) n bytes w
+    let w : n ≡ min (length page) (length bytes) = omega (arith, k.size) in k.front ∙ least_taken (length page) n bytes w
 
 -- if more were given, the page is too long for the measures either way
 kept-starts : (s : Measures) (c used n : ℕ) (bytes page : List ℕ) (x y : Lent) (result : EventEnd) → Kept bytes n page
     → StartsDeposit s c used (take n page) x y result → StartsDeposit s c used (cond (ltb (s.k * s.f - 4) (length page)) bytes (take (length page) bytes)) x y result
 kept-starts s c used n bytes page x y result k h = go (ltb (s.k * s.f - 4) (length page)) refl
   where
-    by : (b : List ℕ) → Happens s honestAll (deposit c b) used (alone x) (alone y) result → StartsDeposit s c used b x y result
+    by : (b : List ℕ) → Happens s honest_all (deposit c b) used (alone x) (alone y) result → StartsDeposit s c used b x y result
     by b e = record { event = e; room = h.room; out = h.out }
 
-    part : Happens s honestAll (deposit c (take (length page) bytes)) used (alone x) (alone y) result
+    part : Happens s honest_all (deposit c (take (length page) bytes)) used (alone x) (alone y) result
     part = rw (kept-page bytes page n k) at h.event
 
-    whole : s.k * s.f - 4 < length page → Dec (length bytes ≤ length page) → Happens s honestAll (deposit c bytes) used (alone x) (alone y) result
+    whole : s.k * s.f - 4 < length page → Dec (length bytes ≤ length page) → Happens s honest_all (deposit c bytes) used (alone x) (alone y) result
     whole w (yes l) = rw (take_all (length page) bytes l) at part
     whole w (no l) =
         let m : length page ≤ length bytes = omega arith in
         let a : s.k * s.f - 4 < length (take (length page) bytes) = omega (arith, length-take-le (length page) bytes m) in
-        let b : s.k * s.f - 4 < length bytes = omega arith in deposit-long s honestAll c used (alone x) (alone y) (take (length page) bytes) bytes a b result part
+        let b : s.k * s.f - 4 < length bytes = omega arith in deposit-long s honest_all c used (alone x) (alone y) (take (length page) bytes) bytes a b result part
 
     go : (b : Bool) → ltb (s.k * s.f - 4) (length page) ≡ b → StartsDeposit s c used (cond b bytes (take (length page) bytes)) x y result
     go true q = by bytes (whole (ltb-true (s.k * s.f - 4) (length page) q) (dec_le (length bytes) (length page)))
@@ -261,18 +261,18 @@ module _ (s : Measures) (x y : Desk) where
 
 -- so, where the front p of a line was read, its end is as p says
 pub ends-line : (p : List ℕ) (x y : Held) (len : ℕ) → Read p x.session.reading x.page → Ends x (asks x) y len
-    → Ends x (within x.session.measures x.page (standLine p)) y len
+    → Ends x (within x.session.measures x.page (stand_line p)) y len
 ends-line p x y len h e =
     let l = ended_of x.session.reading in
-    let q : Asks (standLine p) x.page (asked_of l) = asked-line p x.page l (ended-read p x.page x.session.reading h) in
+    let q : Asks (stand_line p) x.page (asked_of l) = asked-line p x.page l (ended-read p x.page x.session.reading h) in
     record {
       page = e.page;
       first = λ z.
           let f = e.first z in
-          let g = first-line (lengths x) x.lent.memory x.session.measures x.session.measures (standLine p) x.page (asked_of l) q in
+          let g = first-line (lengths x) x.lent.memory x.session.measures x.session.measures (stand_line p) x.page (asked_of l) q in
           (rw (g.0, g.1) at f.0, f.1, f.2, f.3);
       later = λ z.
-          let f = e.later z in (later-line x.session.measures (deskOf x 0) (deskOf y len) (standLine p) x.page (asked_of l) q f.0, f.1);
+          let f = e.later z in (later-line x.session.measures (desk_of x 0) (desk_of y len) (stand_line p) x.page (asked_of l) q f.0, f.1);
       over = e.over;
     }
 
@@ -285,8 +285,8 @@ module _ (s : Measures) (c used : ℕ) (before mid end : Lent) (result : EventEn
     (p : Settles s c result mid text end text' r) (u : used' ≡ r.used) (l : len ≡ r.len) where
   pub reads : ((honest : ℕ → Bool) → Happens s honest (reading c before.room) used (without before) (without mid) result) → mid.out ≡ before.out
       → Operates s c (Reads s c used before) (desk before used text 0) (desk end used' text' len)
-  reads h o = record { result = result; mid = mid; starts = record { event = h honestAll; out = o }; settles = rw (u, l) p }
+  reads h o = record { result = result; mid = mid; starts = record { event = h honest_all; out = o }; settles = rw (u, l) p }
 
-  pub deposits : (b : List ℕ) → Happens s honestAll (deposit c b) used (alone before) (alone mid) result → mid.room ≡ before.room → mid.out ≡ before.out
+  pub deposits : (b : List ℕ) → Happens s honest_all (deposit c b) used (alone before) (alone mid) result → mid.room ≡ before.room → mid.out ≡ before.out
       → Operates s c (StartsDeposit s c used b before) (desk before used text 0) (desk end used' text' len)
   deposits b h m o = record { result = result; mid = mid; starts = record { event = h; room = m; out = o }; settles = rw (u, l) p }

@@ -6,8 +6,8 @@ use Prim.Native.Nat.{ℕ, min}
 use denote.Enum.Declared.{tag_of}
 use types.Run.{OneOf, miss}
 use lib.ListN.{length, take}
-use Rattle.lines.specs.Text.{written, putLine}
-use Rattle.lines.specs.Sentences.{refusedLine, depositedLine, nothingLine, pageLine}
+use Rattle.lines.specs.Text.{written, put_line}
+use Rattle.lines.specs.Sentences.{refused_line, deposited_line, nothing_line, page_line}
 use Rattle.parties.specs.declared.Version.{Version}
 use Rattle.parties.specs.records.Answer.{number}
 use Rattle.parties.specs.declared.Refusal.{Refusal}
@@ -15,71 +15,71 @@ use Rattle.parties.specs.declared.ClientAnswer.{ClientAnswer}
 use Rattle.parties.specs.contracts.ClientAnswer.{the_type as the-client-type}
 use Rattle.runs.specs.declared.answer.Happened.{Happened}
 use Rattle.runs.specs.contracts.answer.Happened.{the_type}
-use Rattle.runs.proofs.SendLaws.{least-taken}
-use Rattle.session.specs.Say.{clientLine, happenedLine, putTold}
+use Rattle.runs.proofs.SendLaws.{least_taken}
+use Rattle.session.specs.Say.{client_line, happened_line, put_told}
 
 -- a line that is the one to be told
-pub as-told : (o : Option (List ℕ)) (l text after : List ℕ) (r : ℕ) → o ≡ some l → written after r ≡ putLine text l → written after r ≡ putTold text o
-as-told o l text after r e x = rw e x
+pub as_told : (o : Option (List ℕ)) (l text after : List ℕ) (r : ℕ) → o ≡ some l → written after r ≡ put_line text l → written after r ≡ put_told text o
+as_told o l text after r e x = rw e x
 
 -- ---- an answer's line
 
 module _ (c : ℕ) (a : ClientAnswer) (out : List ℕ) where
-  pub client-refused : (r : Refusal) (n : ℕ) → a ≡ ClientAnswer.Refused r → n ≡ number r → clientLine c a out ≡ some (refusedLine n)
+  pub client-refused : (r : Refusal) (n : ℕ) → a ≡ ClientAnswer.Refused r → n ≡ number r → client_line c a out ≡ some (refused_line n)
   client-refused r n e f = rw (e, f) refl
 
-  pub client-deposited : (v : Version) (n : ℕ) → a ≡ ClientAnswer.Deposited v n → clientLine c a out ≡ some (depositedLine c v.sequence.0)
+  pub client-deposited : (v : Version) (n : ℕ) → a ≡ ClientAnswer.Deposited v n → client_line c a out ≡ some (deposited_line c v.sequence.0)
   client-deposited v n e = rw e refl
 
-  pub client-empty : a ≡ ClientAnswer.Empty → clientLine c a out ≡ some (nothingLine c)
+  pub client-empty : a ≡ ClientAnswer.Empty → client_line c a out ≡ some (nothing_line c)
   client-empty e = rw e refl
 
   -- a page is told as far as the output has it
   pub client-page : (v : Version) (n to : ℕ) → a ≡ ClientAnswer.Page v n → to ≡ min n (length out)
-      → clientLine c a out ≡ some (pageLine c v.sequence.0 v.client (take to out))
-  client-page v n to e f = rw e (ap (λ (x : List ℕ). some (pageLine c v.sequence.0 v.client x)) (sym (least-taken n to out f)))
+      → client_line c a out ≡ some (page_line c v.sequence.0 v.client (take to out))
+  client-page v n to e f = rw e (ap (λ (x : List ℕ). some (page_line c v.sequence.0 v.client x)) (sym (least_taken n to out f)))
 
-  pub client-spent : a ≡ ClientAnswer.Spent → clientLine c a out ≡ some (refusedLine 7)
+  pub client-spent : a ≡ ClientAnswer.Spent → client_line c a out ≡ some (refused_line 7)
   client-spent e = rw e refl
 
-  pub client-failed : a ≡ ClientAnswer.Failed → clientLine c a out ≡ some (refusedLine 9)
+  pub client-failed : a ≡ ClientAnswer.Failed → client_line c a out ≡ some (refused_line 9)
   client-failed e = rw e refl
 
 module _ (c : ℕ) (what : Happened) (out : List ℕ) where
-  pub happened-refused : (r : Refusal) (n : ℕ) → what ≡ Happened.Refused r → n ≡ number r → happenedLine c what out ≡ some (refusedLine n)
-  happened-refused r n e f = rw (e, f) refl
+  pub happened_refused : (r : Refusal) (n : ℕ) → what ≡ Happened.Refused r → n ≡ number r → happened_line c what out ≡ some (refused_line n)
+  happened_refused r n e f = rw (e, f) refl
 
-  pub happened-client : (a : ClientAnswer) (text after : List ℕ) (r : ℕ) → what ≡ Happened.ByClient a → written after r ≡ putTold text (clientLine c a out)
-      → written after r ≡ putTold text (happenedLine c what out)
-  happened-client a text after r e x = rw e x
+  pub happened_client : (a : ClientAnswer) (text after : List ℕ) (r : ℕ) → what ≡ Happened.ByClient a → written after r ≡ put_told text (client_line c a out)
+      → written after r ≡ put_told text (happened_line c what out)
+  happened_client a text after r e x = rw e x
 
 -- the answers with no line
 abbrev silent : List ℕ
 silent = 1 ∷ 2 ∷ 3 ∷ 4 ∷ 5 ∷ []
 
-pub client-silent : (c : ℕ) (a : ClientAnswer) (out : List ℕ) → OneOf silent (tag_of the-client-type a) → clientLine c a out ≡ none
-client-silent c (ClientAnswer.Refused r) out k = absurd (miss silent 0 tt k)
-client-silent c ClientAnswer.Waits out k = refl
-client-silent c ClientAnswer.Scan out k = refl
-client-silent c (ClientAnswer.Update len) out k = refl
-client-silent c (ClientAnswer.Stores v len) out k = refl
-client-silent c (ClientAnswer.Requests v nodes) out k = refl
-client-silent c (ClientAnswer.Deposited v len) out k = absurd (miss silent 6 tt k)
-client-silent c ClientAnswer.Empty out k = absurd (miss silent 7 tt k)
-client-silent c (ClientAnswer.Page v len) out k = absurd (miss silent 8 tt k)
-client-silent c ClientAnswer.Spent out k = absurd (miss silent 9 tt k)
-client-silent c ClientAnswer.Failed out k = absurd (miss silent 10 tt k)
+pub client_silent : (c : ℕ) (a : ClientAnswer) (out : List ℕ) → OneOf silent (tag_of the-client-type a) → client_line c a out ≡ none
+client_silent c (ClientAnswer.Refused r) out k = absurd (miss silent 0 tt k)
+client_silent c ClientAnswer.Waits out k = refl
+client_silent c ClientAnswer.Scan out k = refl
+client_silent c (ClientAnswer.Update len) out k = refl
+client_silent c (ClientAnswer.Stores v len) out k = refl
+client_silent c (ClientAnswer.Requests v nodes) out k = refl
+client_silent c (ClientAnswer.Deposited v len) out k = absurd (miss silent 6 tt k)
+client_silent c ClientAnswer.Empty out k = absurd (miss silent 7 tt k)
+client_silent c (ClientAnswer.Page v len) out k = absurd (miss silent 8 tt k)
+client_silent c ClientAnswer.Spent out k = absurd (miss silent 9 tt k)
+client_silent c ClientAnswer.Failed out k = absurd (miss silent 10 tt k)
 
 abbrev quiet : List ℕ
 quiet = 1 ∷ 2 ∷ 4 ∷ []
 
-pub happened-silent : (c : ℕ) (a : Happened) (out : List ℕ) → OneOf quiet (tag_of the_type a) → happenedLine c a out ≡ none
-happened-silent c (Happened.Refused r) out k = absurd (miss quiet 0 tt k)
-happened-silent c Happened.Nothing out k = refl
-happened-silent c Happened.Taken out k = refl
-happened-silent c (Happened.ByClient a) out k = absurd (miss quiet 3 tt k)
-happened-silent c (Happened.ByServer a) out k = refl
+pub happened_silent : (c : ℕ) (a : Happened) (out : List ℕ) → OneOf quiet (tag_of the_type a) → happened_line c a out ≡ none
+happened_silent c (Happened.Refused r) out k = absurd (miss quiet 0 tt k)
+happened_silent c Happened.Nothing out k = refl
+happened_silent c Happened.Taken out k = refl
+happened_silent c (Happened.ByClient a) out k = absurd (miss quiet 3 tt k)
+happened_silent c (Happened.ByServer a) out k = refl
 
 -- nothing is told
-pub untold : (o : Option (List ℕ)) (text : List ℕ) → o ≡ none → written text 0 ≡ putTold text o
+pub untold : (o : Option (List ℕ)) (text : List ℕ) → o ≡ none → written text 0 ≡ put_told text o
 untold o text e = rw e refl

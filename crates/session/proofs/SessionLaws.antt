@@ -16,7 +16,7 @@ use Rattle.parties.specs.protocol.Run.{Event}
 use Rattle.parties.specs.protocol.Claim.{Lent as Given}
 use Rattle.parties.specs.declared.Service.{Service}
 use Rattle.parties.specs.Answer.{served}
-use Rattle.title.specs.Memory.{memorySize, memoryFresh}
+use Rattle.title.specs.Memory.{memory_size, memory_fresh}
 use Rattle.title.specs.Part.{short}
 use Rattle.title.proofs.FreshMemoryLaws.{fresh-refused}
 use Rattle.title.proofs.Service.{fresh-serves}
@@ -24,24 +24,24 @@ use Rattle.runs.specs.declared.answer.EventEnd.{EventEnd}
 use Rattle.runs.specs.UnderWay.{After}
 use Rattle.runs.specs.Acts.{Lent}
 use Rattle.runs.specs.Happens.{Happens}
-use Rattle.runs.specs.Oldest.{honestAll}
+use Rattle.runs.specs.Oldest.{honest_all}
 use Rattle.runs.proofs.RunClaim.{fresh-after}
-use Rattle.runs.proofs.OldestLaws.{Continues, continues-more, happens-continues, lent-more}
+use Rattle.runs.proofs.OldestLaws.{Continues, continues_more, happens_continues, lent-more}
 use Rattle.lines.proofs.ReadLaws.{begun-read}
 use Rattle.session.specs.declared.session.Session.{Session}
 use Rattle.session.specs.declared.settle.Settled.{Settled}
 use Rattle.session.specs.Settle.{Settles}
-use Rattle.session.specs.Session.{Runs, Live, newLine, started, Held, LiveIn, held, Feeds, FeedsAll, Gives, FeedsParts, FeedsInput}
-use Rattle.session.proofs.SettleLaws.{settles-continue}
+use Rattle.session.specs.Session.{Runs, Live, new_line, started, Held, LiveIn, held, Feeds, FeedsAll, Gives, FeedsParts, FeedsInput}
+use Rattle.session.proofs.SettleLaws.{settles_continue}
 
 -- ---- a run begins
 
 -- memory that was made fresh is long enough
-pub fresh-long : (s : Measures) (memory : List ℕ) (a : Service) (k : ℕ) → passes s ≡ true → a ≡ Service.Served k → served a ≡ (memoryFresh s memory).answer
-    → memorySize s ≤ length memory
-fresh-long s memory a k ok e f = go (dec_le (memorySize s) (length memory))
+pub fresh-long : (s : Measures) (memory : List ℕ) (a : Service) (k : ℕ) → passes s ≡ true → a ≡ Service.Served k → served a ≡ (memory_fresh s memory).answer
+    → memory_size s ≤ length memory
+fresh-long s memory a k ok e f = go (dec_le (memory_size s) (length memory))
   where
-    go : Dec (memorySize s ≤ length memory) → memorySize s ≤ length memory
+    go : Dec (memory_size s ≤ length memory) → memory_size s ≤ length memory
     go (yes h) = h
     go (no h) =
         let g : serves k ≡ refuses 2 = sym (ap served e) ∙ f ∙ sym (fresh-refused s memory 2 (short ok (omega arith))).0 in
@@ -52,7 +52,7 @@ pub started-live : (memory post page : List ℕ) → Live started memory post pa
 started-live memory post page = record { runs = λ e. absurd (omega arith); line = []; read = begun-read page }
 
 pub fresh-runs : (x : Session) (s : Measures) (memory after post : List ℕ) (a : Service) (k : ℕ) → x.measures ≡ s → x.used ≡ 0 → passes s ≡ true
-    → a ≡ Service.Served k → served a ≡ (memoryFresh s memory).answer → after ≡ (memoryFresh s memory).memory → Runs x after post
+    → a ≡ Service.Served k → served a ≡ (memory_fresh s memory).answer → after ≡ (memory_fresh s memory).memory → Runs x after post
 fresh-runs x s memory after post a k m u ok e f g =
     record {
       events = [];
@@ -60,17 +60,17 @@ fresh-runs x s memory after post a k m u ok e f g =
       measures = rw m ok;
       after =
           rw (m, u, g)
-          (fresh-after s honestAll (memoryFresh s memory).memory post (fresh-serves s ok honestAll memory (fresh-long s memory a k ok e f)));
+          (fresh-after s honest_all (memory_fresh s memory).memory post (fresh-serves s ok honest_all memory (fresh-long s memory a k ok e f)));
     }
 
 -- a new line is read so far
-pub new-live : (y : Session) (stage : ℕ) (s : Measures) (used : ℕ) (memory post page : List ℕ) → y ≡ newLine stage s used → (stage ≡ 1 → Runs y memory post)
+pub new_live : (y : Session) (stage : ℕ) (s : Measures) (used : ℕ) (memory post page : List ℕ) → y ≡ new_line stage s used → (stage ≡ 1 → Runs y memory post)
     → Live y memory post page
-new-live y stage s used memory post page e f =
+new_live y stage s used memory post page e f =
     record { runs = λ o. f (sym (ap (λ (x : Session). x.stage) e) ∙ o); line = []; read = rw (ap (λ (x : Session). x.reading) e) (begun-read page) }
 
-pub new-same : (y : Session) (stage : ℕ) (s : Measures) (used : ℕ) → y ≡ newLine stage s used → y ≡ newLine stage s y.used
-new-same y stage s used e = e ∙ ap (λ (n : ℕ). newLine stage s n) (sym (ap (λ (x : Session). x.used) e))
+pub new_same : (y : Session) (stage : ℕ) (s : Measures) (used : ℕ) → y ≡ new_line stage s used → y ≡ new_line stage s y.used
+new_same y stage s used e = e ∙ ap (λ (n : ℕ). new_line stage s n) (sym (ap (λ (x : Session). x.used) e))
 
 -- ---- it goes on
 
@@ -90,33 +90,33 @@ pub operation-runs : (x y : Session) (s : Measures) (used c : ℕ) (e : Event) (
     → ((honest : ℕ → Bool) → Happens s honest e used before after result) → Given e → mid.memory ≡ after.memory → mid.post ≡ after.post
     → Settles s c result mid text end text' r → Runs y end.memory end.post
 operation-runs x y s used c e before after mid end result text text' r m u h n v o g q w p =
-    let a : After s honestAll h.events before.memory before.post used = rw (m, u) at h.after in
-    let d : Continues s h.events mid.memory mid.post result.used = rw (q, w) (happens-continues s e used before after result (o honestAll) g h.events a) in
+    let a : After s honest_all h.events before.memory before.post used = rw (m, u) at h.after in
+    let d : Continues s h.events mid.memory mid.post result.used = rw (q, w) (happens_continues s e used before after result (o honest_all) g h.events a) in
     let f =
-    continues-more s h.events mid.memory mid.post end.memory end.post result.used r.used d
-    (settles-continue s c result mid text end text' r p (h.events ++ d.more)) in
+    continues_more s h.events mid.memory mid.post end.memory end.post result.used r.used d
+    (settles_continue s c result mid text end text' r p (h.events ++ d.more)) in
     record { events = h.events ++ f.more; lent = lent-more h.events f.more h.lent f.lent; measures = rw (n, ← m) h.measures; after = rw (n, v) f.after }
 
 -- ---- bytes of the input
 
-pub feeds-live : (x : Held) (bytes : List ℕ) (y : Held) → FeedsAll x bytes y → LiveIn x → LiveIn y
-feeds-live x bytes y FeedsAll.begun l = l
-feeds-live x bytes z (FeedsAll.more b a len y w h f) l = f.live (feeds-live x b y h l)
+pub feeds_live : (x : Held) (bytes : List ℕ) (y : Held) → FeedsAll x bytes y → LiveIn x → LiveIn y
+feeds_live x bytes y FeedsAll.begun l = l
+feeds_live x bytes z (FeedsAll.more b a len y w h f) l = f.live (feeds_live x b y h l)
 
 -- one byte more
-pub feeds-more : (x y : Held) (lent : Lent) (page text input : List ℕ) (z w : Session) (i len : ℕ) → i < length input → FeedsAll x (take i input) y → w ≡ z
+pub feeds_more : (x y : Held) (lent : Lent) (page text input : List ℕ) (z w : Session) (i len : ℕ) → i < length input → FeedsAll x (take i input) y → w ≡ z
     → Feeds y (get_or input i 0) (held z lent page text) len → FeedsAll x (take (i + 1) input) (held w lent page text)
-feeds-more x y lent page text input z w i len l h e f =
+feeds_more x y lent page text input z w i len l h e f =
     rw (add-one i, take-suc input i 0 l, e) (FeedsAll.more (take i input) (get_or input i 0) len y (held z lent page text) h f)
 
-pub feeds-whole : (x y : Held) (input : List ℕ) (i : ℕ) → i ≤ length input → (i < length input → ⊥) → FeedsAll x (take i input) y → FeedsAll x input y
-feeds-whole x y input i l n h =
+pub feeds_whole : (x y : Held) (input : List ℕ) (i : ℕ) → i ≤ length input → (i < length input → ⊥) → FeedsAll x (take i input) y → FeedsAll x input y
+feeds_whole x y input i l n h =
     let e : length input ≤ i = omega arith in rw (take_all i input e) at h
 
-feeds-then : (x y : Held) (a b : List ℕ) (z : Held) → FeedsAll x a y → FeedsAll y b z → FeedsAll x (a ++ b) z
-feeds-then x y a b z h FeedsAll.begun = rw (append-nil a) h
-feeds-then x y a b z h (FeedsAll.more bytes c len w v k f) =
-    rw (← append_assoc a bytes (c ∷ [])) (FeedsAll.more (a ++ bytes) c len w z (feeds-then x y a bytes w h k) f)
+feeds_then : (x y : Held) (a b : List ℕ) (z : Held) → FeedsAll x a y → FeedsAll y b z → FeedsAll x (a ++ b) z
+feeds_then x y a b z h FeedsAll.begun = rw (append-nil a) h
+feeds_then x y a b z h (FeedsAll.more bytes c len w v k f) =
+    rw (← append_assoc a bytes (c ∷ [])) (FeedsAll.more (a ++ bytes) c len w z (feeds_then x y a bytes w h k) f)
 
 -- ---- a read of standard input
 
@@ -137,16 +137,16 @@ gives_part most n input part e h l =
     }
 
 -- one part more
-pub input-more : (x y z : Held) (input before after : List ℕ) (most left : ℕ) (n : ℕ) → FeedsParts x input most y before left
+pub input_more : (x y z : Held) (input before after : List ℕ) (most left : ℕ) (n : ℕ) → FeedsParts x input most y before left
     → (y.session.stage ≡ 2 → (n ≡ 0) × (after ≡ before)) → ((y.session.stage ≡ 2 → ⊥) → Gives left before after n) → (n ≡ 0 → ⊥) → FeedsAll y (take n after) z
     → FeedsParts x input most z after (left - n)
-input-more x y z input before after most left n h u g l f =
+input_more x y z input before after most left n h u g l f =
     let d : y.session.stage ≡ 2 → ⊥ = λ e. l (u e).0 in FeedsParts.part y z before after left n h d (g d) (omega (arith, l)) f
 
 -- a last read gives none, or nothing is read
-pub input-ends : (x y : Held) (input before after : List ℕ) (most left n : ℕ) → FeedsParts x input most y before left → 0 < left → n ≡ 0
+pub input_ends : (x y : Held) (input before after : List ℕ) (most left n : ℕ) → FeedsParts x input most y before left → 0 < left → n ≡ 0
     → (y.session.stage ≡ 2 → (n ≡ 0) × (after ≡ before)) → ((y.session.stage ≡ 2 → ⊥) → Gives left before after n) → FeedsInput x input most y after left
-input-ends x y input before after most left n h l z u g = record { before = before; parts = h; unread = none; last = λ _ e. rw z at (g e) }
+input_ends x y input before after most left n h l z u g = record { before = before; parts = h; unread = none; last = λ _ e. rw z at (g e) }
   where
     none : (left ≡ 0) ⊎ (y.session.stage ≡ 2) → after ≡ before
     none (inl e) = absurd (omega arith)
@@ -167,24 +167,24 @@ drop_more left most a b h e =
     let m : left + (most - left) ≡ most = omega arith in
     ap (λ (n : ℕ). drop n a) (sym m) ∙ sym (drop-drop (most - left) left a) ∙ ap (drop (most - left)) e ∙ drop-drop (most - left) left b ∙ ap (λ (n : ℕ). drop n b) m
 
-parts-fed : (x y : Held) (input before : List ℕ) (most left : ℕ) → FeedsParts x input most y before left → Fed x input most y before left
-parts-fed x y input before most left FeedsParts.unfed = record { bytes = []; count = omega arith; feeds = FeedsAll.begun; same = refl; rest = refl }
-parts-fed x z input after most left (FeedsParts.part y w before b rest n h u g l f) =
-    let d = parts-fed x y input before most rest h in
+parts_fed : (x y : Held) (input before : List ℕ) (most left : ℕ) → FeedsParts x input most y before left → Fed x input most y before left
+parts_fed x y input before most left FeedsParts.unfed = record { bytes = []; count = omega arith; feeds = FeedsAll.begun; same = refl; rest = refl }
+parts_fed x z input after most left (FeedsParts.part y w before b rest n h u g l f) =
+    let d = parts_fed x y input before most rest h in
     let e : length (take n after) ≡ n = length-take-le n after (omega (arith, g.fits, g.same)) in
     record {
       bytes = d.bytes ++ take n after;
       count = omega (arith, d.count, e, g.few, length-append d.bytes (take n after));
-      feeds = feeds-then x y d.bytes (take n after) z d.feeds f;
+      feeds = feeds_then x y d.bytes (take n after) z d.feeds f;
       same = g.same ∙ d.same;
       rest = drop_more rest most after before (omega (arith, d.count)) g.rest ∙ d.rest;
     }
 
-pub input-fed : (x y : Held) (input input' : List ℕ) (most left : ℕ) → FeedsInput x input most y input' left → Fed x input most y input' left
-input-fed x y input input' most left h = go (dec_lt 0 left) (ℕ_discrete y.session.stage 2)
+pub input_fed : (x y : Held) (input input' : List ℕ) (most left : ℕ) → FeedsInput x input most y input' left → Fed x input most y input' left
+input_fed x y input input' most left h = go (dec_lt 0 left) (ℕ_discrete y.session.stage 2)
   where
     d : Fed x input most y h.before left
-    d = parts-fed x y input h.before most left h.parts
+    d = parts_fed x y input h.before most left h.parts
 
     go : Dec (0 < left) → Dec (y.session.stage ≡ 2) → Fed x input most y input' left
     go (yes l) (no e) =
@@ -199,6 +199,6 @@ input-fed x y input input' most left h = go (dec_lt 0 left) (ℕ_discrete y.sess
     go (yes l) (yes e) = rw (h.unread (inr e)) d
     go (no l) e = rw (h.unread (inl (omega arith))) d
 
-pub input-live : (x y : Held) (input input' : List ℕ) (most left : ℕ) → FeedsInput x input most y input' left → LiveIn x → LiveIn y
-input-live x y input input' most left h l =
-    let d = input-fed x y input input' most left h in feeds-live x d.bytes y d.feeds l
+pub input_live : (x y : Held) (input input' : List ℕ) (most left : ℕ) → FeedsInput x input most y input' left → LiveIn x → LiveIn y
+input_live x y input input' most left h l =
+    let d = input_fed x y input input' most left h in feeds_live x d.bytes y d.feeds l

@@ -2,21 +2,21 @@
 use Rattle.std.specs.Prelude.{◌≡◌, Bool, true, false, cond, ◌&&◌, ◌⊎◌, List, [], ◌∷◌, ◌++◌, ℕ, ◌+◌, ◌-◌, ◌*◌, ◌<◌, ◌≤◌, leb, ltb, length, take, drop}
 use Rattle.parties.specs.declared.Measures.{Measures}
 use Rattle.parties.specs.protocol.Measures.{passes}
-use Rattle.parties.specs.protocol.ClientEvents.{roomSize}
-use Rattle.parties.specs.protocol.DirectoryEvents.{directorySize}
+use Rattle.parties.specs.protocol.ClientEvents.{room_size}
+use Rattle.parties.specs.protocol.DirectoryEvents.{directory_size}
 use Rattle.parties.specs.protocol.Run.{Event, deposit, reading}
 use Rattle.parties.specs.protocol.Claim.{AllLent}
-use Rattle.title.specs.Memory.{memorySize, memoryFresh}
+use Rattle.title.specs.Memory.{memory_size, memory_fresh}
 use Rattle.runs.specs.declared.answer.EventEnd.{EventEnd}
 use Rattle.runs.specs.UnderWay.{After}
 use Rattle.runs.specs.Acts.{Lent}
 use Rattle.runs.specs.Sent.{needed}
 use Rattle.runs.specs.Happens.{Happens}
-use Rattle.runs.specs.Oldest.{honestAll, without, alone}
-use Rattle.lines.specs.Read.{begun as lineBegun, next_of, nextPage, ended_of, Read}
+use Rattle.runs.specs.Oldest.{honest_all, without, alone}
+use Rattle.lines.specs.Read.{begun as lineBegun, next_of, next_page, ended_of, Read}
 use Rattle.lines.specs.Command.{Asked, asked_of, given}
-use Rattle.lines.specs.Text.{written, putLine}
-use Rattle.lines.specs.Sentences.{headerLine, refusedLine}
+use Rattle.lines.specs.Text.{written, put_line}
+use Rattle.lines.specs.Sentences.{header_line, refused_line}
 use Rattle.session.specs.declared.session.Session.{Session}
 use Rattle.session.specs.declared.session.Lengths.{Lengths}
 use Rattle.session.specs.Settle.{Desk, desk, Settles}
@@ -28,7 +28,7 @@ pub record Runs (x : Session) (memory post : List ℕ) : Type 0 where
   pub events : List Event
   pub lent : AllLent events
   pub measures : passes x.measures ≡ true
-  pub after : After x.measures honestAll events memory post x.used
+  pub after : After x.measures honest_all events memory post x.used
 
 -- and the line that is being read is read so far
 pub record Live (x : Session) (memory post page : List ℕ) : Type 0 where
@@ -37,12 +37,12 @@ pub record Live (x : Session) (memory post page : List ℕ) : Type 0 where
   pub read : Read line x.reading page
 
 -- a new line is read, and nothing of it yet
-abbrev pub newLine : ℕ → Measures → ℕ → Session
-newLine stage s used = record { stage = stage; measures = s; used = used; «open» = false; reading = lineBegun }
+abbrev pub new_line : ℕ → Measures → ℕ → Session
+new_line stage s used = record { stage = stage; measures = s; used = used; «open» = false; reading = lineBegun }
 
 -- before the first line there are no measures
 abbrev pub started : Session
-started = newLine 0 (record { m = 0; n = 0; k = 0; t = 0; f = 0 }) 0
+started = new_line 0 (record { m = 0; n = 0; k = 0; t = 0; f = 0 }) 0
 
 -- all that a session has from byte to byte
 pub record Held : Type 0 where
@@ -58,8 +58,8 @@ abbrev pub held : Session → Lent → List ℕ → List ℕ → Held
 held x lent page text = record { session = x; lent = lent; page = page; text = text }
 
 -- with the length of a line in the text
-abbrev pub deskOf : Held → ℕ → Desk
-deskOf x len = desk x.lent x.session.used x.text len
+abbrev pub desk_of : Held → ℕ → Desk
+desk_of x len = desk x.lent x.session.used x.text len
 
 -- what the line that is read asks for, if it ends here
 abbrev pub asks : Held → Asked
@@ -73,9 +73,9 @@ small s = leb s.m 3 && leb s.f 64
 
 -- and its slices suffice for them: a room for what a client sends and for rows, an output for a page, a page for one byte more, so that a longer
 -- one is told from it, a text for a line, and parcels for twice what an event sends at most
-abbrev pub slicesLong : Measures → Lengths → Bool
-slicesLong s l =
-    leb (roomSize s) l.room && (leb (directorySize s) l.room && (leb (s.k * s.f - 4) l.out && (ltb (s.k * s.f - 4) l.page
+abbrev pub slices_long : Measures → Lengths → Bool
+slices_long s l =
+    leb (room_size s) l.room && (leb (directory_size s) l.room && (leb (s.k * s.f - 4) l.out && (ltb (s.k * s.f - 4) l.page
     && (leb (2 * (s.k * s.f) + 32) l.text && leb (2 * needed s) l.post))))
 
 abbrev pub lengths : Held → Lengths
@@ -89,50 +89,50 @@ pub record Reply : Type 0 where
   pub memory : List ℕ
 
 abbrev pub refuses : ℕ → List ℕ → Reply
-refuses x memory = record { line = refusedLine x; stage = 2; memory = memory }
+refuses x memory = record { line = refused_line x; stage = 2; memory = memory }
 
 -- a `config`: 1 for its measures; 2 for those that are too big, and for slices or a memory that are too short; else the header, and a fresh memory
 unfoldable pub opens : Measures → Lengths → List ℕ → Reply
 opens s l memory =
     cond (passes s)
     (cond (small s)
-    (cond (slicesLong s l)
-    (cond (leb (memorySize s) (length memory))
-    (record { line = headerLine s.m s.n s.k s.t s.f; stage = 1; memory = (memoryFresh s memory).memory })
+    (cond (slices_long s l)
+    (cond (leb (memory_size s) (length memory))
+    (record { line = header_line s.m s.n s.k s.t s.f; stage = 1; memory = (memory_fresh s memory).memory })
     (refuses 2 memory)) (refuses 2 memory)) (refuses 2 memory)) (refuses 1 memory)
 
 -- any other first line: 4
-abbrev pub firstReply : Asked → Lengths → List ℕ → Reply
-firstReply (Asked.config m n k t f) l memory = opens (record { m = m; n = n; k = k; t = t; f = f }) l memory
-firstReply (Asked.read c) l memory = refuses 4 memory
-firstReply (Asked.deposit c bytes) l memory = refuses 4 memory
-firstReply Asked.other l memory = refuses 4 memory
+abbrev pub first_reply : Asked → Lengths → List ℕ → Reply
+first_reply (Asked.config m n k t f) l memory = opens (record { m = m; n = n; k = k; t = t; f = f }) l memory
+first_reply (Asked.read c) l memory = refuses 4 memory
+first_reply (Asked.deposit c bytes) l memory = refuses 4 memory
+first_reply Asked.other l memory = refuses 4 memory
 
 -- a `config` sets the measures, and any other first line leaves them
-abbrev pub firstMeasures : Asked → Measures → Measures
-firstMeasures (Asked.config m n k t f) s = record { m = m; n = n; k = k; t = t; f = f }
-firstMeasures (Asked.read c) s = s
-firstMeasures (Asked.deposit c bytes) s = s
-firstMeasures Asked.other s = s
+abbrev pub first_measures : Asked → Measures → Measures
+first_measures (Asked.config m n k t f) s = record { m = m; n = n; k = k; t = t; f = f }
+first_measures (Asked.read c) s = s
+first_measures (Asked.deposit c bytes) s = s
+first_measures Asked.other s = s
 
 -- a reply is printed, and the measures are these
 pub record Replies (w : Reply) (s : Measures) (text memory' text' : List ℕ) (y : Session) (len : ℕ) : Type 0 where
-  pub line : written text' len ≡ putLine text w.line
+  pub line : written text' len ≡ put_line text w.line
   pub memory : memory' ≡ w.memory
-  pub next : y ≡ newLine w.stage s 0
+  pub next : y ≡ new_line w.stage s 0
 
 abbrev pub First : Asked → Measures → Lengths → List ℕ → List ℕ → List ℕ → List ℕ → Session → ℕ → Type 0
-First a s l memory text memory' text' y len = Replies (firstReply a l memory) (firstMeasures a s) text memory' text' y len
+First a s l memory text memory' text' y len = Replies (first_reply a l memory) (first_measures a s) text memory' text' y len
 
 -- ---- a later line
 
 -- the start of a reading of client c, which is lent no output; of a deposit, which is lent no room either
 pub record Reads (s : Measures) (c used : ℕ) (x y : Lent) (result : EventEnd) : Type 0 where
-  pub event : Happens s honestAll (reading c x.room) used (without x) (without y) result
+  pub event : Happens s honest_all (reading c x.room) used (without x) (without y) result
   pub out : y.out ≡ x.out
 
 pub record Deposits (s : Measures) (c used : ℕ) (page : List ℕ) (x y : Lent) (result : EventEnd) : Type 0 where
-  pub event : Happens s honestAll (deposit c page) used (alone x) (alone y) result
+  pub event : Happens s honest_all (deposit c page) used (alone x) (alone y) result
   pub room : y.room ≡ x.room
   pub out : y.out ≡ x.out
 
@@ -145,7 +145,7 @@ pub record Operates (s : Measures) (c : ℕ) (Starts : Lent → EventEnd → Typ
 
 -- a refusal, by its number
 pub record Refuses (n : ℕ) (x y : Desk) : Type 0 where
-  pub line : written y.text y.len ≡ putLine x.text (refusedLine n)
+  pub line : written y.text y.len ≡ put_line x.text (refused_line n)
   pub lent : y.lent ≡ x.lent
   pub used : y.used ≡ x.used
 
@@ -162,11 +162,11 @@ pub record Ends (x : Held) (a : Asked) (y : Held) (len : ℕ) : Type 0 where
   pub page : y.page ≡ x.page
   pub first : x.session.stage ≡ 0 → First a x.session.measures (lengths x) x.lent.memory x.text y.lent.memory y.text y.session len
       × (y.lent.post ≡ x.lent.post) × (y.lent.room ≡ x.lent.room) × (y.lent.out ≡ x.lent.out)
-  pub later : x.session.stage ≡ 1 → Later a x.session.measures (deskOf x 0) (deskOf y len)
-      × (y.session ≡ newLine 1 x.session.measures y.session.used)
+  pub later : x.session.stage ≡ 1 → Later a x.session.measures (desk_of x 0) (desk_of y len)
+      × (y.session ≡ new_line 1 x.session.measures y.session.used)
   pub over : 1 < x.session.stage → (y ≡ x) × (len ≡ 0)
 
--- of the bytes p of a line it is `standLine p` that is asked for; but of a page, where the slice would be too short for the measures, only the bytes
+-- of the bytes p of a line it is `stand_line p` that is asked for; but of a page, where the slice would be too short for the measures, only the bytes
 -- for which it has room
 abbrev pub within : Measures → List ℕ → Asked → Asked
 within s page (Asked.config m n k t f) = Asked.config m n k t f
@@ -179,7 +179,7 @@ within s page Asked.other = Asked.other
 abbrev pub taken : Held → ℕ → Held
 taken x b =
     held (record { stage = x.session.stage; measures = x.session.measures; used = x.session.used; «open» = true; reading = next_of x.session.reading b (length x.page) })
-    x.lent (nextPage x.session.reading b x.page) x.text
+    x.lent (next_page x.session.reading b x.page) x.text
 
 -- ---- a byte of the input: a line feed ends the line; in any case a session stays live
 

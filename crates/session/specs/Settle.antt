@@ -9,7 +9,7 @@ use Rattle.runs.specs.Acts.{Lent}
 use Rattle.runs.specs.Oldest.{Oldest}
 use Rattle.lines.specs.Text.{written}
 use Rattle.session.specs.declared.settle.Settled.{Settled}
-use Rattle.session.specs.Say.{happenedLine, putTold}
+use Rattle.session.specs.Say.{happened_line, put_told}
 
 -- what is lent, the bytes of parcels under way, the text, and the length of its line
 pub record Desk : Type 0 where
@@ -27,8 +27,8 @@ desk lent used text len = record { lent = lent; used = used; text = text; len = 
 -- the line of an answer, if it has one, takes the place of the one before
 pub record Tells (c : ℕ) (what : Happened) (out text : List ℕ) (len : ℕ) (text' : List ℕ) (len' : ℕ) : Type 0 where
   pub n : ℕ
-  pub says : written text' n ≡ putTold text (happenedLine c what out)
-  pub lineLength : len' ≡ cond (ltb 0 n) n len
+  pub says : written text' n ≡ put_told text (happened_line c what out)
+  pub line_length : len' ≡ cond (ltb 0 n) n len
 
 -- so many parcels are handed over, the oldest first; the room and the output have bytes in them
 pub data Hands (s : Measures) (c : ℕ) (x : Desk) : ℕ → Desk → Type 0 where
@@ -38,8 +38,8 @@ pub data Hands (s : Measures) (c : ℕ) (x : Desk) : ℕ → Desk → Type 0 whe
       → Hands s c x (n + 1) z
 
 -- more parcels than an operation has
-abbrev pub mostParcels : ℕ
-mostParcels = 128
+abbrev pub most_parcels : ℕ
+most_parcels = 128
 
 -- the start's line, then parcels until none is under way, or so many
 pub record Settles (s : Measures) (c : ℕ) (start : EventEnd) (x : Lent) (text : List ℕ) (y : Lent) (text' : List ℕ) (r : Settled) : Type 0 where
@@ -47,7 +47,7 @@ pub record Settles (s : Measures) (c : ℕ) (start : EventEnd) (x : Lent) (text 
   pub len : ℕ
   pub starts : Tells c start.what x.out text 0 said len
   pub events : ℕ
-  pub most : events ≤ mostParcels
-  pub done : (r.used ≡ 0) ⊎ (events ≡ mostParcels)
+  pub most : events ≤ most_parcels
+  pub done : (r.used ≡ 0) ⊎ (events ≡ most_parcels)
   pub hands : Hands s c (desk x start.used said len) events
       (desk y r.used text' r.len)

@@ -1,7 +1,7 @@
 // The line that tells how an operation ended.
 ghost use Rattle.std.specs.Prelude.{◌≡◌};
 ghost use Rattle.lines.specs.Text.{written};
-ghost use Rattle.session.specs.Say.{clientLine, happenedLine, putTold};
+ghost use Rattle.session.specs.Say.{client_line, happened_line, put_told};
 
 use lines::text::{deposited, read_nothing, read_page, refused};
 use parties::ClientAnswer;
@@ -9,7 +9,7 @@ use runs::answer::Happened;
 use runs::least::least;
 
 fn client(c: usize, a: ClientAnswer, out: &[u8], text: &mut [u8]) -> usize
-    ensures { written text.new result ≡ putTold text.old (clientLine c a out.now) }
+    ensures { written text.new result ≡ put_told text.old (client_line c a out.now) }
 {
     match a {
         ClientAnswer::Refused(r) => refused(text, r.number()),
@@ -31,7 +31,7 @@ fn client(c: usize, a: ClientAnswer, out: &[u8], text: &mut [u8]) -> usize
 
 // The line's length, or 0 if client c's operation goes on or the line does not fit.
 pub fn say(c: usize, what: Happened, out: &[u8], text: &mut [u8]) -> usize
-    ensures { written text.new result ≡ putTold text.old (happenedLine c what out.now) }
+    ensures { written text.new result ≡ put_told text.old (happened_line c what out.now) }
 {
     match what {
         Happened::Refused(r) => refused(text, r.number()),

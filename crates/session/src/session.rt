@@ -4,7 +4,7 @@ ghost use Rattle.parties.specs.protocol.Measures.{passes};
 ghost use Rattle.lines.specs.Read.{ended_of};
 ghost use Rattle.lines.specs.Command.{asked_of, given};
 ghost use Rattle.session.specs.Settle.{lend, desk};
-ghost use Rattle.session.specs.Session.{Runs, Live, newLine, started, held, small as fits, slicesLong as suffice, opens, Replies, First, Reads, Deposits, Operates, Later, Ends, Feeds, Closes};
+ghost use Rattle.session.specs.Session.{Runs, Live, new_line, started, held, small as fits, slices_long as suffice, opens, Replies, First, Reads, Deposits, Operates, Later, Ends, Feeds, Closes};
 
 use crate::settle::settle;
 use lines::command::{Command, asked};
@@ -64,7 +64,7 @@ pub fn start() -> Session
 
 // A new line is read.
 fn at_stage(stage: u8, measures: Measures, used: usize, len: usize) -> Answer
-    ensures { (result.len ≡ len) × (result.session ≡ newLine stage measures used) }
+    ensures { (result.len ≡ len) × (result.session ≡ new_line stage measures used) }
 {
     Answer {
         session: Session {
@@ -174,7 +174,7 @@ fn read(
         × Operates s c (Reads s c used (lend memory.old post.old room.old out.old))
         (desk (lend memory.old post.old room.old out.old) used text.old 0)
         (desk (lend memory.new post.new room.new out.new) result.session.used text.new result.len)
-        × (result.session ≡ newLine 1 s result.session.used) }
+        × (result.session ≡ new_line 1 s result.session.used) }
 {
     let result = reading(s, c, memory, room, post, used);
     let e = settle(s, c, result, memory, room, out, post, text);
@@ -197,7 +197,7 @@ fn put(
         × Operates s c (Deposits s c used (take bytes page.now) (lend memory.old post.old room.old out.old))
         (desk (lend memory.old post.old room.old out.old) used text.old 0)
         (desk (lend memory.new post.new room.new out.new) result.session.used text.new result.len)
-        × (result.session ≡ newLine 1 s result.session.used) }
+        × (result.session ≡ new_line 1 s result.session.used) }
 {
     let n = least(bytes, page.len());
     let result = deposit(s, c, memory, &page[..n], post, used);
@@ -219,7 +219,7 @@ fn later(
         × Later (given (asked_of (ended_of x.reading)) page.now) x.measures
         (desk (lend memory.old post.old room.old out.old) x.used text.old 0)
         (desk (lend memory.new post.new room.new out.new) result.session.used text.new result.len)
-        × (result.session ≡ newLine 1 x.measures result.session.used) }
+        × (result.session ≡ new_line 1 x.measures result.session.used) }
 {
     let r = x.reading;
     let s = x.measures;

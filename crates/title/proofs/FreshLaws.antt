@@ -9,18 +9,18 @@ use lib.ListN.{length, take, drop, length-append, length-drop}
 use lib.Seq.{take_at, drop-append-add}
 use Rattle.parties.specs.declared.Measures.{Measures}
 use Rattle.parties.specs.protocol.Measures.{passes}
-use Rattle.parties.specs.protocol.Directory.{writeDirectory, freshDirectory}
-use Rattle.parties.specs.protocol.NodeTable.{writeTable}
-use Rattle.parties.specs.protocol.Client.{clientSize, writeClient, freshClient}
-use Rattle.parties.specs.protocol.DirectoryEvents.{directorySize}
-use Rattle.parties.specs.protocol.NodeEvents.{tableSize}
+use Rattle.parties.specs.protocol.Directory.{write_directory, fresh_directory}
+use Rattle.parties.specs.protocol.NodeTable.{write_table}
+use Rattle.parties.specs.protocol.Client.{client_size, write_client, fresh_client}
+use Rattle.parties.specs.protocol.DirectoryEvents.{directory_size}
+use Rattle.parties.specs.protocol.NodeEvents.{table_size}
 use Rattle.parties.specs.protocol.Run.{fresh}
 use Rattle.parties.proofs.protocol.events.FreshTableLaws.{directory-long, table-long, client-long}
 use Rattle.parties.proofs.directory.RoomLaws.{many-first}
-use Rattle.title.specs.Memory.{memorySize, tableAt, recordAt, freshMemory, memoryFresh}
+use Rattle.title.specs.Memory.{memory_size, table_at, record_at, fresh_memory, memory_fresh}
 use Rattle.title.specs.Service.{MemoryShows}
-use Rattle.title.proofs.MemoryLaws.{table-own, record-own, part-is}
-use Rattle.title.proofs.FreshMemoryLaws.{copies, tables, records, tables-long, records-long, front_long, fresh-served}
+use Rattle.title.proofs.MemoryLaws.{table_own, record_own, part_is}
+use Rattle.title.proofs.FreshMemoryLaws.{copies, tables, records, tables_long, records_long, front_long, fresh-served}
 
 -- ---- over plain lists: the j-th of n copies, behind a front
 
@@ -38,9 +38,9 @@ copy x rest size e (suc j) (suc n) h =
     ∙ ap (take size) (drop-append-add x (copies x n ++ rest) (j * size))
     ∙ copy x rest size e j n (omega arith)
 
-copy-behind : (front x rest : List ℕ) (at size : ℕ) → length front ≡ at → length x ≡ size → (j n : ℕ) → j < n
+copy_behind : (front x rest : List ℕ) (at size : ℕ) → length front ≡ at → length x ≡ size → (j n : ℕ) → j < n
     → take size (drop (at + j * size) (front ++ (copies x n ++ rest))) ≡ x
-copy-behind front x rest at size f e j n h =
+copy_behind front x rest at size f e j n h =
     ap (λ (k : ℕ). take size (drop (k + j * size) (front ++ (copies x n ++ rest)))) (sym f)
     ∙ ap (take size) (drop-append-add front (copies x n ++ rest) (j * size))
     ∙ copy x rest size e j n h
@@ -50,49 +50,49 @@ long-sum x y z w d t r k e f g h l = omega arith
 
 -- ---- the fresh parts
 
-module _ (s : Measures) (ok : passes s ≡ true) (memory : List ℕ) (long : memorySize s ≤ length memory) where
+module _ (s : Measures) (ok : passes s ≡ true) (memory : List ℕ) (long : memory_size s ≤ length memory) where
   abbrev rest : List ℕ
-  rest = drop (memorySize s) memory
+  rest = drop (memory_size s) memory
 
   abbrev rows : List ℕ
-  rows = writeDirectory s (freshDirectory s)
+  rows = write_directory s (fresh_directory s)
 
   abbrev made : List ℕ
   made = (rows ++ (tables s ++ records s)) ++ rest
 
-  tables-behind : made ≡ rows ++ (tables s ++ (records s ++ rest))
-  tables-behind = append_assoc rows (tables s ++ records s) rest ∙ ap (λ (u : List ℕ). rows ++ u) (append_assoc (tables s) (records s) rest)
+  tables_behind : made ≡ rows ++ (tables s ++ (records s ++ rest))
+  tables_behind = append_assoc rows (tables s ++ records s) rest ∙ ap (λ (u : List ℕ). rows ++ u) (append_assoc (tables s) (records s) rest)
 
-  records-behind : made ≡ (rows ++ tables s) ++ (records s ++ rest)
-  records-behind = tables-behind ∙ sym (append_assoc rows (tables s) (records s ++ rest))
+  records_behind : made ≡ (rows ++ tables s) ++ (records s ++ rest)
+  records_behind = tables_behind ∙ sym (append_assoc rows (tables s) (records s ++ rest))
 
-  made-long : memorySize s ≤ length made
-  made-long =
+  made_long : memory_size s ≤ length made
+  made_long =
       rw (length-append (rows ++ (tables s ++ records s)) rest)
       (rw (length-append rows (tables s ++ records s))
       (rw (length-append (tables s) (records s))
-      (long-sum (length rows) (length (tables s)) (length (records s)) (length memory) (directorySize s) (s.n * tableSize s) (s.m * clientSize s) (length rest)
-      (directory-long s) (tables-long s) (records-long s ok) (length-drop (memorySize s) memory) long)))
+      (long-sum (length rows) (length (tables s)) (length (records s)) (length memory) (directory_size s) (s.n * table_size s) (s.m * client_size s) (length rest)
+      (directory-long s) (tables_long s) (records_long s ok) (length-drop (memory_size s) memory) long)))
 
-  made-shows : MemoryShows s made (fresh s)
-  made-shows =
+  made_shows : MemoryShows s made (fresh s)
+  made_shows =
       record {
-        long = made-long;
+        long = made_long;
         directory =
-            part-is s 0 (directorySize s) made made-long
-            ∙ ap (take (directorySize s)) tables-behind
-            ∙ take_at rows (tables s ++ (records s ++ rest)) (directorySize s) (directory-long s);
+            part_is s 0 (directory_size s) made made_long
+            ∙ ap (take (directory_size s)) tables_behind
+            ∙ take_at rows (tables s ++ (records s ++ rest)) (directory_size s) (directory-long s);
         nodes = λ i lo up.
-            part-is s (tableAt s i) (tableSize s) made made-long
-            ∙ ap₂ (λ (k : ℕ) (u : List ℕ). take (tableSize s) (drop k u)) (table-own s i lo up) tables-behind
-            ∙ copy-behind rows (writeTable s []) (records s ++ rest) (directorySize s) (tableSize s) (directory-long s) (table-long s) (i - 1) s.n (omega arith);
+            part_is s (table_at s i) (table_size s) made made_long
+            ∙ ap₂ (λ (k : ℕ) (u : List ℕ). take (table_size s) (drop k u)) (table_own s i lo up) tables_behind
+            ∙ copy_behind rows (write_table s []) (records s ++ rest) (directory_size s) (table_size s) (directory-long s) (table-long s) (i - 1) s.n (omega arith);
         clients = λ c l.
-            part-is s (recordAt s c) (clientSize s) made made-long
-            ∙ ap₂ (λ (k : ℕ) (u : List ℕ). take (clientSize s) (drop k u)) (record-own s c l) records-behind
-            ∙ copy-behind (rows ++ tables s) (writeClient s (freshClient s)) rest (directorySize s + s.n * tableSize s) (clientSize s)
+            part_is s (record_at s c) (client_size s) made made_long
+            ∙ ap₂ (λ (k : ℕ) (u : List ℕ). take (client_size s) (drop k u)) (record_own s c l) records_behind
+            ∙ copy_behind (rows ++ tables s) (write_client s (fresh_client s)) rest (directory_size s + s.n * table_size s) (client_size s)
             (front_long s) (client-long s ok) c s.m l;
       }
 
-  pub fresh-shows : MemoryShows s (memoryFresh s memory).memory (fresh s)
-  unfolding freshMemory
-  fresh-shows = rw (fresh-served s memory ok long) made-shows
+  pub fresh-shows : MemoryShows s (memory_fresh s memory).memory (fresh s)
+  unfolding fresh_memory
+  fresh-shows = rw (fresh-served s memory ok long) made_shows

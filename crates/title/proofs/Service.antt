@@ -9,8 +9,8 @@ use Rattle.parties.specs.protocol.Measures.{passes}
 use Rattle.parties.specs.protocol.Run.{State, Event, run, fresh}
 use Rattle.parties.specs.protocol.Claim.{Claim, AllLent, Differ, RunString, dishonest}
 use Rattle.parties.proofs.protocol.events.RunLaws.{run-last}
-use Rattle.parties.proofs.protocol.claim.Demand.{demand-3}
-use Rattle.title.specs.Memory.{memorySize, memoryFresh}
+use Rattle.parties.proofs.protocol.claim.Demand.{demand_3}
+use Rattle.title.specs.Memory.{memory_size, memory_fresh}
 use Rattle.title.specs.Service.{MemoryShows, Serves}
 use Rattle.title.specs.ServiceClaim.{in_memory, ServiceClaim}
 use Rattle.title.proofs.ShowsLaws.{handed-shows}
@@ -44,13 +44,13 @@ module _ (s : Measures) (ok : passes s ≡ true) (honest : ℕ → Bool) where
       (handed-shows s ok old after (run s honest before (fresh s)) (serves-shows before old v) honest e h)
 
   -- fresh memory begins a run
-  pub fresh-serves : (memory : List ℕ) → memorySize s ≤ length memory → Serves s honest [] (memoryFresh s memory).memory
-  fresh-serves memory long = Serves.begins (memoryFresh s memory).memory (fresh-shows s ok memory long)
+  pub fresh-serves : (memory : List ℕ) → memory_size s ≤ length memory → Serves s honest [] (memory_fresh s memory).memory
+  fresh-serves memory long = Serves.begins (memory_fresh s memory).memory (fresh-shows s ok memory long)
 
   -- Demand 3 over the service: for every list of events, from fresh tables and records in lent memory
-  pub service-demand-3 : dishonest honest s.n ≤ s.t → (es : List Event) → AllLent es → Differ (RunString s honest es (fresh s))
+  pub service_demand_3 : dishonest honest s.n ≤ s.t → (es : List Event) → AllLent es → Differ (RunString s honest es (fresh s))
       → (memory : List ℕ) → Serves s honest es memory → ServiceClaim s honest memory (run s honest es (fresh s))
-  service-demand-3 few es l d memory v =
+  service_demand_3 few es l d memory v =
       let o = serves-shows es memory v in
-      let claim = demand-3 s ok honest few es l d in
-      record { shows = o; ofRun = claim; ofMemory = shown-claim s honest memory (run s honest es (fresh s)) o claim }
+      let claim = demand_3 s ok honest few es l d in
+      record { shows = o; of_run = claim; of_memory = shown-claim s honest memory (run s honest es (fresh s)) o claim }

@@ -3,20 +3,20 @@ use Rattle.std.specs.Prelude.{Bool, List, ℕ}
 use Rattle.parties.specs.declared.Measures.{Measures}
 use Rattle.parties.specs.protocol.Run.{State}
 use Rattle.parties.specs.protocol.Claim.{Claim}
-use Rattle.title.specs.Memory.{directoryIn, tableIn, recordIn}
+use Rattle.title.specs.Memory.{directory_in, table_in, record_in}
 use Rattle.title.specs.Service.{MemoryShows}
 
 -- a run's state, with the memory's tables and records in place of its own
 abbrev pub in_memory : Measures → List ℕ → State → State
 in_memory s memory st =
     record {
-      directory = directoryIn s memory;
-      nodes = λ i. tableIn s i memory;
-      clients = λ c. recordIn s c memory;
+      directory = directory_in s memory;
+      nodes = λ i. table_in s i memory;
+      clients = λ c. record_in s c memory;
       calls = st.calls;
       returns = st.returns;
-      toNode = st.toNode;
-      toClient = st.toClient;
+      to_node = st.to_node;
+      to_client = st.to_client;
       history = st.history;
     }
 
@@ -24,6 +24,6 @@ pub record ServiceClaim (s : Measures) (honest : ℕ → Bool) (memory : List �
   -- the memory has the run's tables and records
   pub shows : MemoryShows s memory st
   -- the claim holds of the run
-  pub ofRun : Claim s honest st
+  pub of_run : Claim s honest st
   -- and of the memory itself: an honest node's table there reads; named by an open reading's pointer it has the piece, and of one writer at most 2m
-  pub ofMemory : Claim s honest (in_memory s memory st)
+  pub of_memory : Claim s honest (in_memory s memory st)

@@ -1,15 +1,15 @@
 // Fresh tables and records in lent memory.
 ghost use Rattle.std.specs.Prelude.{◌≡◌, true, [], ◌+◌, ◌*◌, ◌≤◌, length, replicate};
 ghost use Rattle.parties.specs.protocol.Measures.{passes};
-ghost use Rattle.parties.specs.protocol.Format.{writeMany};
-ghost use Rattle.parties.specs.protocol.Directory.{writeDirectory, freshDirectory};
-ghost use Rattle.parties.specs.protocol.NodeTable.{writeTable};
-ghost use Rattle.parties.specs.protocol.Client.{clientSize, writeClient, freshClient};
-ghost use Rattle.parties.specs.protocol.DirectoryEvents.{directorySize};
-ghost use Rattle.parties.specs.protocol.NodeEvents.{tableSize};
+ghost use Rattle.parties.specs.protocol.Format.{write_many};
+ghost use Rattle.parties.specs.protocol.Directory.{write_directory, fresh_directory};
+ghost use Rattle.parties.specs.protocol.NodeTable.{write_table};
+ghost use Rattle.parties.specs.protocol.Client.{client_size, write_client, fresh_client};
+ghost use Rattle.parties.specs.protocol.DirectoryEvents.{directory_size};
+ghost use Rattle.parties.specs.protocol.NodeEvents.{table_size};
 ghost use Rattle.parties.specs.records.Places.{splice};
 ghost use Rattle.parties.specs.Answer.{served};
-ghost use Rattle.title.specs.Memory.{memoryFresh};
+ghost use Rattle.title.specs.Memory.{memory_fresh};
 
 use crate::memory::{Part, directory_part, record_size, records_at, table_size};
 use parties::client::record::fresh as fresh_record;
@@ -19,24 +19,24 @@ use parties::{Measures, Service};
 
 // A fresh directory from one place to another.
 fn put_directory(s: Measures, at: usize, to: usize, memory: &mut [u8])
-    requires { (passes s ≡ true) × (to ≡ at + directorySize s) × (to ≤ length memory.old) }
-    ensures { memory.new ≡ splice memory.old at (writeDirectory s (freshDirectory s)) }
+    requires { (passes s ≡ true) × (to ≡ at + directory_size s) × (to ≤ length memory.old) }
+    ensures { memory.new ≡ splice memory.old at (write_directory s (fresh_directory s)) }
 {
     fresh_directory(s, &mut memory[at..to]);
 }
 
 // A fresh node table, likewise.
 fn put_table(s: Measures, at: usize, to: usize, memory: &mut [u8])
-    requires { (passes s ≡ true) × (to ≡ at + tableSize s) × (to ≤ length memory.old) }
-    ensures { memory.new ≡ splice memory.old at (writeTable s []) }
+    requires { (passes s ≡ true) × (to ≡ at + table_size s) × (to ≤ length memory.old) }
+    ensures { memory.new ≡ splice memory.old at (write_table s []) }
 {
     fresh_table(s, &mut memory[at..to]);
 }
 
 // Fresh tables for all nodes, from a place on.
 fn put_tables(s: Measures, from: usize, size: usize, memory: &mut [u8])
-    requires { (passes s ≡ true) × (size ≡ tableSize s) × (from + s.n * tableSize s ≤ length memory.old) }
-    ensures { memory.new ≡ splice memory.old from (writeMany (λ t. t) (replicate s.n (writeTable s []))) }
+    requires { (passes s ≡ true) × (size ≡ table_size s) × (from + s.n * table_size s ≤ length memory.old) }
+    ensures { memory.new ≡ splice memory.old from (write_many (λ t. t) (replicate s.n (write_table s []))) }
 {
     let nodes = s.n;
     let mut at = from;
@@ -51,16 +51,16 @@ fn put_tables(s: Measures, from: usize, size: usize, memory: &mut [u8])
 
 // A fresh record, likewise.
 fn put_record(s: Measures, at: usize, to: usize, memory: &mut [u8])
-    requires { (passes s ≡ true) × (to ≡ at + clientSize s) × (to ≤ length memory.old) }
-    ensures { memory.new ≡ splice memory.old at (writeClient s (freshClient s)) }
+    requires { (passes s ≡ true) × (to ≡ at + client_size s) × (to ≤ length memory.old) }
+    ensures { memory.new ≡ splice memory.old at (write_client s (fresh_client s)) }
 {
     fresh_record(s, &mut memory[at..to]);
 }
 
 // Fresh records for all clients, from a place on.
 fn put_records(s: Measures, from: usize, size: usize, memory: &mut [u8])
-    requires { (passes s ≡ true) × (size ≡ clientSize s) × (from + s.m * clientSize s ≤ length memory.old) }
-    ensures { memory.new ≡ splice memory.old from (writeMany (λ c. c) (replicate s.m (writeClient s (freshClient s)))) }
+    requires { (passes s ≡ true) × (size ≡ client_size s) × (from + s.m * client_size s ≤ length memory.old) }
+    ensures { memory.new ≡ splice memory.old from (write_many (λ c. c) (replicate s.m (write_client s (fresh_client s)))) }
 {
     let clients = s.m;
     let mut at = from;
@@ -75,7 +75,7 @@ fn put_records(s: Measures, from: usize, size: usize, memory: &mut [u8])
 
 // Fresh tables and records.
 pub fn fresh(s: Measures, memory: &mut [u8]) -> Service
-    ensures { (served result ≡ (memoryFresh s memory.old).answer) × (memory.new ≡ (memoryFresh s memory.old).memory) }
+    ensures { (served result ≡ (memory_fresh s memory.old).answer) × (memory.new ≡ (memory_fresh s memory.old).memory) }
 {
     let part = directory_part(s, memory.len());
     match part {

@@ -1,10 +1,10 @@
 // One page's tables and records in lent memory.
 ghost use Rattle.std.specs.Prelude.{◌≡◌, true, ◌+◌, ◌*◌};
 ghost use Rattle.parties.specs.protocol.Measures.{passes};
-ghost use Rattle.parties.specs.protocol.DirectoryEvents.{directorySize};
-ghost use Rattle.parties.specs.protocol.NodeEvents.{tableSize};
-ghost use Rattle.parties.specs.protocol.Client.{clientSize};
-ghost use Rattle.title.specs.Memory.{memorySize, tableAt, recordAt};
+ghost use Rattle.parties.specs.protocol.DirectoryEvents.{directory_size};
+ghost use Rattle.parties.specs.protocol.NodeEvents.{table_size};
+ghost use Rattle.parties.specs.protocol.Client.{client_size};
+ghost use Rattle.title.specs.Memory.{memory_size, table_at, record_at};
 ghost use Rattle.title.specs.Part.{Placed};
 
 use parties::{Measures, Refusal, sizes};
@@ -20,21 +20,21 @@ pub enum Part {
 // The sizes of measures that pass.
 fn directory_size(s: Measures) -> usize
     requires { passes s ≡ true }
-    ensures { result ≡ directorySize s }
+    ensures { result ≡ directory_size s }
 {
     sizes::directory(s)
 }
 
 pub fn table_size(s: Measures) -> usize
     requires { passes s ≡ true }
-    ensures { result ≡ tableSize s }
+    ensures { result ≡ table_size s }
 {
     sizes::table(s)
 }
 
 pub fn record_size(s: Measures) -> usize
     requires { passes s ≡ true }
-    ensures { result ≡ clientSize s }
+    ensures { result ≡ client_size s }
 {
     sizes::record(s)
 }
@@ -42,7 +42,7 @@ pub fn record_size(s: Measures) -> usize
 // Where the records begin.
 pub fn records_at(s: Measures) -> usize
     requires { passes s ≡ true }
-    ensures { result ≡ directorySize s + s.n * tableSize s }
+    ensures { result ≡ directory_size s + s.n * table_size s }
 {
     let directory = directory_size(s);
     let table = table_size(s);
@@ -51,7 +51,7 @@ pub fn records_at(s: Measures) -> usize
 
 fn memory_size(s: Measures) -> usize
     requires { passes s ≡ true }
-    ensures { result ≡ memorySize s }
+    ensures { result ≡ memory_size s }
 {
     let tables = records_at(s);
     let record = record_size(s);
@@ -61,7 +61,7 @@ fn memory_size(s: Measures) -> usize
 // Node i's table; of a number out of bounds the first one's place.
 fn table_at(s: Measures, i: usize) -> usize
     requires { passes s ≡ true }
-    ensures { result ≡ tableAt s i }
+    ensures { result ≡ table_at s i }
 {
     let directory = directory_size(s);
     if i < 1 {
@@ -77,7 +77,7 @@ fn table_at(s: Measures, i: usize) -> usize
 // Client c's record, likewise.
 fn record_at(s: Measures, c: usize) -> usize
     requires { passes s ≡ true }
-    ensures { result ≡ recordAt s c }
+    ensures { result ≡ record_at s c }
 {
     let tables = records_at(s);
     if s.m <= c {
@@ -89,7 +89,7 @@ fn record_at(s: Measures, c: usize) -> usize
 
 // The directory in a memory of so many bytes.
 pub fn directory_part(s: Measures, len: usize) -> Part
-    ensures { Placed s len 0 (directorySize s) result }
+    ensures { Placed s len 0 (directory_size s) result }
 {
     if !s.pass() {
         return Part::Refused(Refusal::Measures);
@@ -104,7 +104,7 @@ pub fn directory_part(s: Measures, len: usize) -> Part
 
 // Node i's table, likewise.
 pub fn table_part(s: Measures, i: usize, len: usize) -> Part
-    ensures { Placed s len (tableAt s i) (tableSize s) result }
+    ensures { Placed s len (table_at s i) (table_size s) result }
 {
     if !s.pass() {
         return Part::Refused(Refusal::Measures);
@@ -120,7 +120,7 @@ pub fn table_part(s: Measures, i: usize, len: usize) -> Part
 
 // Client c's record, likewise.
 pub fn record_part(s: Measures, c: usize, len: usize) -> Part
-    ensures { Placed s len (recordAt s c) (clientSize s) result }
+    ensures { Placed s len (record_at s c) (client_size s) result }
 {
     if !s.pass() {
         return Part::Refused(Refusal::Measures);

@@ -1,11 +1,11 @@
 // The title service: each event is handed to the party that it is for.
 ghost use Rattle.std.specs.Prelude.{◌≡◌};
-ghost use Rattle.parties.specs.protocol.ClientEvents.{startDeposit, startReading, updateAnswer, scanAnswer, clientMessage};
-ghost use Rattle.parties.specs.protocol.DirectoryEvents.{directoryUpdate, directoryScan};
-ghost use Rattle.parties.specs.protocol.NodeEvents.{nodeMessage};
+ghost use Rattle.parties.specs.protocol.ClientEvents.{start_deposit, start_reading, update_answer, scan_answer, client_message};
+ghost use Rattle.parties.specs.protocol.DirectoryEvents.{directory_update, directory_scan};
+ghost use Rattle.parties.specs.protocol.NodeEvents.{node_message};
 ghost use Rattle.parties.specs.Answer.{served};
 ghost use Rattle.parties.specs.client.Answer.{answered};
-ghost use Rattle.title.specs.Memory.{directoryIn, tableIn, recordIn};
+ghost use Rattle.title.specs.Memory.{directory_in, table_in, record_in};
 ghost use Rattle.title.specs.Service.{Deposits, Reads, Updated, Scanned, ToClient, Updates, ToNode};
 
 use crate::memory::{Part, directory_part, record_part, table_part};
@@ -19,7 +19,7 @@ use parties::{ClientAnswer, Measures, Service};
 
 // The start of a deposit at client c.
 pub fn deposit(s: Measures, c: usize, memory: &mut [u8], page: &[u8]) -> ClientAnswer
-    ensures { (answered result ≡ (startDeposit s c (recordIn s c memory.old) page.now).answer)
+    ensures { (answered result ≡ (start_deposit s c (record_in s c memory.old) page.now).answer)
         × Deposits s c page.now memory.old memory.new }
 {
     let part = record_part(s, c, memory.len());
@@ -31,9 +31,9 @@ pub fn deposit(s: Measures, c: usize, memory: &mut [u8], page: &[u8]) -> ClientA
 
 // The start of a reading at client c.
 pub fn read(s: Measures, c: usize, memory: &mut [u8], room: &mut [u8]) -> ClientAnswer
-    ensures { (answered result ≡ (startReading s c (recordIn s c memory.old) room.old).answer)
+    ensures { (answered result ≡ (start_reading s c (record_in s c memory.old) room.old).answer)
         × Reads s c room.old memory.old memory.new
-        × (room.new ≡ (startReading s c (recordIn s c memory.old) room.old).room) }
+        × (room.new ≡ (start_reading s c (record_in s c memory.old) room.old).room) }
 {
     let part = record_part(s, c, memory.len());
     match part {
@@ -44,9 +44,9 @@ pub fn read(s: Measures, c: usize, memory: &mut [u8], room: &mut [u8]) -> Client
 
 // The directory's acknowledgement of client c's update, handed to the client.
 pub fn updated(s: Measures, c: usize, memory: &mut [u8], room: &mut [u8]) -> ClientAnswer
-    ensures { (answered result ≡ (updateAnswer s c (recordIn s c memory.old) room.old).answer)
+    ensures { (answered result ≡ (update_answer s c (record_in s c memory.old) room.old).answer)
         × Updated s c room.old memory.old memory.new
-        × (room.new ≡ (updateAnswer s c (recordIn s c memory.old) room.old).room) }
+        × (room.new ≡ (update_answer s c (record_in s c memory.old) room.old).room) }
 {
     let part = record_part(s, c, memory.len());
     match part {
@@ -63,9 +63,9 @@ pub fn scanned(
     rows: &[u8],
     room: &mut [u8],
 ) -> ClientAnswer
-    ensures { (answered result ≡ (scanAnswer s c (recordIn s c memory.old) rows.now room.old).answer)
+    ensures { (answered result ≡ (scan_answer s c (record_in s c memory.old) rows.now room.old).answer)
         × Scanned s c rows.now room.old memory.old memory.new
-        × (room.new ≡ (scanAnswer s c (recordIn s c memory.old) rows.now room.old).room) }
+        × (room.new ≡ (scan_answer s c (record_in s c memory.old) rows.now room.old).room) }
 {
     let part = record_part(s, c, memory.len());
     match part {
@@ -84,10 +84,10 @@ pub fn to_client(
     room: &mut [u8],
     out: &mut [u8],
 ) -> ClientAnswer
-    ensures { (answered result ≡ (clientMessage s c i (recordIn s c memory.old) message.now room.old out.old).answer)
+    ensures { (answered result ≡ (client_message s c i (record_in s c memory.old) message.now room.old out.old).answer)
         × ToClient s c i message.now room.old out.old memory.old memory.new
-        × (room.new ≡ (clientMessage s c i (recordIn s c memory.old) message.now room.old out.old).room)
-        × (out.new ≡ (clientMessage s c i (recordIn s c memory.old) message.now room.old out.old).out) }
+        × (room.new ≡ (client_message s c i (record_in s c memory.old) message.now room.old out.old).room)
+        × (out.new ≡ (client_message s c i (record_in s c memory.old) message.now room.old out.old).out) }
 {
     let part = record_part(s, c, memory.len());
     match part {
@@ -98,7 +98,7 @@ pub fn to_client(
 
 // Client c's update, carried out at the directory.
 pub fn update(s: Measures, c: usize, memory: &mut [u8], fields: &[u8]) -> Service
-    ensures { (served result ≡ (directoryUpdate s c (directoryIn s memory.old) fields.now).answer)
+    ensures { (served result ≡ (directory_update s c (directory_in s memory.old) fields.now).answer)
         × Updates s c fields.now memory.old memory.new }
 {
     let part = directory_part(s, memory.len());
@@ -110,8 +110,8 @@ pub fn update(s: Measures, c: usize, memory: &mut [u8], fields: &[u8]) -> Servic
 
 // A scan of the directory.
 pub fn scan(s: Measures, memory: &[u8], room: &mut [u8]) -> Service
-    ensures { (served result ≡ (directoryScan s (directoryIn s memory.now) room.old).answer)
-        × (room.new ≡ (directoryScan s (directoryIn s memory.now) room.old).room) }
+    ensures { (served result ≡ (directory_scan s (directory_in s memory.now) room.old).answer)
+        × (room.new ≡ (directory_scan s (directory_in s memory.now) room.old).room) }
 {
     let part = directory_part(s, memory.len());
     match part {
@@ -122,9 +122,9 @@ pub fn scan(s: Measures, memory: &[u8], room: &mut [u8]) -> Service
 
 // A message to node i.
 pub fn to_node(s: Measures, i: usize, memory: &mut [u8], message: &[u8], room: &mut [u8]) -> Service
-    ensures { (served result ≡ (nodeMessage s i (tableIn s i memory.old) message.now room.old).answer)
+    ensures { (served result ≡ (node_message s i (table_in s i memory.old) message.now room.old).answer)
         × ToNode s i message.now room.old memory.old memory.new
-        × (room.new ≡ (nodeMessage s i (tableIn s i memory.old) message.now room.old).room) }
+        × (room.new ≡ (node_message s i (table_in s i memory.old) message.now room.old).room) }
 {
     let part = table_part(s, i, memory.len());
     match part {

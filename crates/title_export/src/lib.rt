@@ -1,9 +1,9 @@
 // The title service for C and Rust: each function takes numbers and slices, and requires nothing.
 ghost use Rattle.std.specs.Prelude.{◌≡◌};
-ghost use Rattle.parties.specs.protocol.ClientEvents.{startDeposit, startReading, updateAnswer, scanAnswer, clientMessage};
-ghost use Rattle.parties.specs.protocol.DirectoryEvents.{directoryUpdate, directoryScan};
-ghost use Rattle.parties.specs.protocol.NodeEvents.{nodeMessage};
-ghost use Rattle.title.specs.Memory.{memoryFresh, directoryIn, tableIn, recordIn};
+ghost use Rattle.parties.specs.protocol.ClientEvents.{start_deposit, start_reading, update_answer, scan_answer, client_message};
+ghost use Rattle.parties.specs.protocol.DirectoryEvents.{directory_update, directory_scan};
+ghost use Rattle.parties.specs.protocol.NodeEvents.{node_message};
+ghost use Rattle.title.specs.Memory.{memory_fresh, directory_in, table_in, record_in};
 ghost use Rattle.title.specs.Service.{Deposits, Reads, Updated, Scanned, ToClient, Updates, ToNode};
 ghost use Rattle.numbers.specs.Code.{measured, code, told};
 
@@ -19,8 +19,8 @@ pub extern "C" fn title_fresh(
     f: usize,
     memory: &mut [u8],
 ) -> u64
-    ensures { (result ≡ code (memoryFresh (measured m n k t f) memory.old).answer)
-        × (memory.new ≡ (memoryFresh (measured m n k t f) memory.old).memory) }
+    ensures { (result ≡ code (memory_fresh (measured m n k t f) memory.old).answer)
+        × (memory.new ≡ (memory_fresh (measured m n k t f) memory.old).memory) }
 {
     service_code(title::fresh::fresh(Measures { m, n, k, t, f }, memory))
 }
@@ -37,7 +37,7 @@ pub extern "C" fn title_deposit(
     page: &[u8],
     answer: &mut [u64; 4],
 )
-    ensures { (answer.new ≡ told (startDeposit (measured m n k t f) c (recordIn (measured m n k t f) c memory.old) page.now).answer)
+    ensures { (answer.new ≡ told (start_deposit (measured m n k t f) c (record_in (measured m n k t f) c memory.old) page.now).answer)
         × Deposits (measured m n k t f) c page.now memory.old memory.new }
 {
     *answer = numbers_of(title::title::deposit(Measures { m, n, k, t, f }, c, memory, page));
@@ -55,9 +55,9 @@ pub extern "C" fn title_read(
     room: &mut [u8],
     answer: &mut [u64; 4],
 )
-    ensures { (answer.new ≡ told (startReading (measured m n k t f) c (recordIn (measured m n k t f) c memory.old) room.old).answer)
+    ensures { (answer.new ≡ told (start_reading (measured m n k t f) c (record_in (measured m n k t f) c memory.old) room.old).answer)
         × Reads (measured m n k t f) c room.old memory.old memory.new
-        × (room.new ≡ (startReading (measured m n k t f) c (recordIn (measured m n k t f) c memory.old) room.old).room) }
+        × (room.new ≡ (start_reading (measured m n k t f) c (record_in (measured m n k t f) c memory.old) room.old).room) }
 {
     *answer = numbers_of(title::title::read(Measures { m, n, k, t, f }, c, memory, room));
 }
@@ -74,9 +74,9 @@ pub extern "C" fn title_updated(
     room: &mut [u8],
     answer: &mut [u64; 4],
 )
-    ensures { (answer.new ≡ told (updateAnswer (measured m n k t f) c (recordIn (measured m n k t f) c memory.old) room.old).answer)
+    ensures { (answer.new ≡ told (update_answer (measured m n k t f) c (record_in (measured m n k t f) c memory.old) room.old).answer)
         × Updated (measured m n k t f) c room.old memory.old memory.new
-        × (room.new ≡ (updateAnswer (measured m n k t f) c (recordIn (measured m n k t f) c memory.old) room.old).room) }
+        × (room.new ≡ (update_answer (measured m n k t f) c (record_in (measured m n k t f) c memory.old) room.old).room) }
 {
     *answer = numbers_of(title::title::updated(Measures { m, n, k, t, f }, c, memory, room));
 }
@@ -94,9 +94,9 @@ pub extern "C" fn title_scanned(
     room: &mut [u8],
     answer: &mut [u64; 4],
 )
-    ensures { (answer.new ≡ told (scanAnswer (measured m n k t f) c (recordIn (measured m n k t f) c memory.old) rows.now room.old).answer)
+    ensures { (answer.new ≡ told (scan_answer (measured m n k t f) c (record_in (measured m n k t f) c memory.old) rows.now room.old).answer)
         × Scanned (measured m n k t f) c rows.now room.old memory.old memory.new
-        × (room.new ≡ (scanAnswer (measured m n k t f) c (recordIn (measured m n k t f) c memory.old) rows.now room.old).room) }
+        × (room.new ≡ (scan_answer (measured m n k t f) c (record_in (measured m n k t f) c memory.old) rows.now room.old).room) }
 {
     *answer = numbers_of(title::title::scanned(Measures { m, n, k, t, f }, c, memory, rows, room));
 }
@@ -116,10 +116,10 @@ pub extern "C" fn title_to_client(
     out: &mut [u8],
     answer: &mut [u64; 4],
 )
-    ensures { (answer.new ≡ told (clientMessage (measured m n k t f) c i (recordIn (measured m n k t f) c memory.old) message.now room.old out.old).answer)
+    ensures { (answer.new ≡ told (client_message (measured m n k t f) c i (record_in (measured m n k t f) c memory.old) message.now room.old out.old).answer)
         × ToClient (measured m n k t f) c i message.now room.old out.old memory.old memory.new
-        × (room.new ≡ (clientMessage (measured m n k t f) c i (recordIn (measured m n k t f) c memory.old) message.now room.old out.old).room)
-        × (out.new ≡ (clientMessage (measured m n k t f) c i (recordIn (measured m n k t f) c memory.old) message.now room.old out.old).out) }
+        × (room.new ≡ (client_message (measured m n k t f) c i (record_in (measured m n k t f) c memory.old) message.now room.old out.old).room)
+        × (out.new ≡ (client_message (measured m n k t f) c i (record_in (measured m n k t f) c memory.old) message.now room.old out.old).out) }
 {
     *answer = numbers_of(title::title::to_client(
         Measures { m, n, k, t, f },
@@ -143,7 +143,7 @@ pub extern "C" fn title_update(
     memory: &mut [u8],
     fields: &[u8],
 ) -> u64
-    ensures { (result ≡ code (directoryUpdate (measured m n k t f) c (directoryIn (measured m n k t f) memory.old) fields.now).answer)
+    ensures { (result ≡ code (directory_update (measured m n k t f) c (directory_in (measured m n k t f) memory.old) fields.now).answer)
         × Updates (measured m n k t f) c fields.now memory.old memory.new }
 {
     service_code(title::title::update(Measures { m, n, k, t, f }, c, memory, fields))
@@ -159,8 +159,8 @@ pub extern "C" fn title_scan(
     memory: &[u8],
     room: &mut [u8],
 ) -> u64
-    ensures { (result ≡ code (directoryScan (measured m n k t f) (directoryIn (measured m n k t f) memory.now) room.old).answer)
-        × (room.new ≡ (directoryScan (measured m n k t f) (directoryIn (measured m n k t f) memory.now) room.old).room) }
+    ensures { (result ≡ code (directory_scan (measured m n k t f) (directory_in (measured m n k t f) memory.now) room.old).answer)
+        × (room.new ≡ (directory_scan (measured m n k t f) (directory_in (measured m n k t f) memory.now) room.old).room) }
 {
     service_code(title::title::scan(Measures { m, n, k, t, f }, memory, room))
 }
@@ -177,9 +177,9 @@ pub extern "C" fn title_to_node(
     message: &[u8],
     room: &mut [u8],
 ) -> u64
-    ensures { (result ≡ code (nodeMessage (measured m n k t f) i (tableIn (measured m n k t f) i memory.old) message.now room.old).answer)
+    ensures { (result ≡ code (node_message (measured m n k t f) i (table_in (measured m n k t f) i memory.old) message.now room.old).answer)
         × ToNode (measured m n k t f) i message.now room.old memory.old memory.new
-        × (room.new ≡ (nodeMessage (measured m n k t f) i (tableIn (measured m n k t f) i memory.old) message.now room.old).room) }
+        × (room.new ≡ (node_message (measured m n k t f) i (table_in (measured m n k t f) i memory.old) message.now room.old).room) }
 {
     service_code(title::title::to_node(Measures { m, n, k, t, f }, i, memory, message, room))
 }

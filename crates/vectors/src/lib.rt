@@ -1,12 +1,12 @@
 // What the programs that execute vectors have in common: bytes to work on, sums of them, and printing.
 ghost use Rattle.std.specs.Prelude.{◌≡◌, ◌<◌, length};
-ghost use Rattle.vectors.specs.Bytes.{poisonOf, checksumFrom};
+ghost use Rattle.vectors.specs.Bytes.{poison_of, checksum_from};
 
 use libc::STDOUT_FILENO;
 
 // What a slice holds before a call, so that a byte too many or too few shows.
 pub fn poison(s: &mut [u8])
-    ensures { s.new ≡ poisonOf (length s.old) }
+    ensures { s.new ≡ poison_of (length s.old) }
 {
     let mut i = 0;
     while i < s.len() {
@@ -22,7 +22,7 @@ fn wide(b: u8) -> usize
 }
 
 pub fn checksum(s: &[u8]) -> usize
-    ensures { result ≡ checksumFrom 0 s.now }
+    ensures { result ≡ checksum_from 0 s.now }
 {
     let mut h = 0;
     let mut i = 0;

@@ -1,7 +1,7 @@
 use mathlib.Core.Path.{refl}
 use borrow.Author.Tests.{lt-ltb, le-ltb}
 use lib.ListN.{length}
-use Rattle.coding_export.specs.Digest.{digestPlaced}
+use Rattle.coding_export.specs.Digest.{digest_placed}
 use Rattle.coding_export.proofs.DigestLaws.{into-short, into-done}
 use borrow.Author.Rules.{rules}
 use Rattle.coding_export.proofs.coding_digest_placed.Statement.{statement}
@@ -11,7 +11,7 @@ refused-requires : tie.Need-refused-requires
 refused-requires c κs = search rules
 
 returns : tie.Need-returns
-unfolding digestPlaced
+unfolding digest_placed
 returns c =
     rw (lt-ltb (length c.before.before.before.before.before.args.version.now) 5 c.before.if1.true) (c.refused.ensures, refl)
 
@@ -19,7 +19,7 @@ refused-requires-2 : tie.Need-refused-requires-2
 refused-requires-2 c κs = search rules
 
 returns-2 : tie.Need-returns-2
-unfolding digestPlaced
+unfolding digest_placed
 returns-2 c =
     let a = c.before.before.before.before.before.before.args in
     rw (le-ltb (length a.version.now) 5 c.before.before.if1.false, into-short a.out.now _ c.before.if2.true)
@@ -38,7 +38,7 @@ same_length : tie.Need-same-length
 same_length c = search rules
 
 returns-3 : tie.Need-returns-3
-unfolding digestPlaced
+unfolding digest_placed
 returns-3 c =
     let a = c.before.before.before.before.before.before.before.before.before.before.before.args in
     let d = c.before.before.before.before.digest-placed.ensures in

@@ -2,13 +2,13 @@ use borrow.Author.Rules.{rules}
 use mathlib.Core.Path.{sym, ap, ◌∙◌}
 use Prim.Native.Nat.{ℕ}
 use Rattle.coding.specs.declared.answer.JoinAnswer.{JoinAnswer}
-use Rattle.coding.specs.Answer.{joinOutcome}
+use Rattle.coding.specs.Answer.{join_outcome}
 use Rattle.coding_export.specs.Code.{code}
 use Rattle.coding_export.proofs.join_code.Statement.{statement}
 use Rattle.coding_export.proofs.join_code.Tie as tie
 
 abbrev answered : JoinAnswer → ℕ
-answered a = code (joinOutcome a)
+answered a = code (join_outcome a)
 
 enum-known-a : tie.Need-enum-known-a
 enum-known-a c = search rules

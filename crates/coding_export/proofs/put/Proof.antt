@@ -12,8 +12,8 @@ use Rattle.coding_export.proofs.put.Statement.{statement}
 use Rattle.coding_export.proofs.put.Tie as tie
 
 module _ (t u d : List ℕ) (i : ℕ) (room : 32 ≤ length t) (long : length d ≡ 32) (copied : u ≡ paste t 0 d i) where
-  copied-length : i ≤ 32 → length u ≡ length t
-  copied-length h = ap length copied ∙ length-paste t 0 d i (omega arith) (omega arith)
+  copied_length : i ≤ 32 → length u ≡ length t
+  copied_length h = ap length copied ∙ length-paste t 0 d i (omega arith) (omega arith)
 
   copied_more : i < 32 → set u i (get_or d i 0) ≡ paste t 0 d (i + 1)
   copied_more h =
@@ -37,7 +37,7 @@ array-read-out c = omega arith
 slice-write-out : tie.Need-slice-write-out invariant-loop decreases-loop
 slice-write-out c =
     let l : length c.before.before.args.t1 ≡ 32 = search rules in
-    omega (arith, copied-length c.before.before.args.out.now _ c.before.before.args.t1 c.before.loop.i c.before.before.requires l c.before.loop.invariant.1 c.before.loop.invariant.0)
+    omega (arith, copied_length c.before.before.args.out.now _ c.before.before.args.t1 c.before.loop.i c.before.before.requires l c.before.loop.invariant.1 c.before.loop.invariant.0)
 
 add-i : tie.Need-overflow-add-i invariant-loop decreases-loop
 add-i c = omega arith
@@ -53,7 +53,7 @@ loop-again c =
 same_length : tie.Need-same-length invariant-loop decreases-loop
 same_length c =
     let l : length c.before.before.args.t1 ≡ 32 = search rules in
-    copied-length c.before.before.args.out.now _ c.before.before.args.t1 c.before.loop.i c.before.before.requires l c.before.loop.invariant.1 c.before.loop.invariant.0
+    copied_length c.before.before.args.out.now _ c.before.before.args.t1 c.before.loop.i c.before.before.requires l c.before.loop.invariant.1 c.before.loop.invariant.0
 
 returns : tie.Need-returns invariant-loop decreases-loop
 returns c = let e : c.before.loop.i ≡ 32 = omega arith in rw e at c.before.loop.invariant.1

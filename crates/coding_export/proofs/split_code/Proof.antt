@@ -2,13 +2,13 @@ use borrow.Author.Rules.{rules}
 use mathlib.Core.Path.{sym, ap, ◌∙◌}
 use Prim.Native.Nat.{ℕ}
 use Rattle.coding.specs.declared.answer.SplitAnswer.{SplitAnswer}
-use Rattle.coding.specs.Answer.{splitOutcome}
+use Rattle.coding.specs.Answer.{split_outcome}
 use Rattle.coding_export.specs.Code.{code}
 use Rattle.coding_export.proofs.split_code.Statement.{statement}
 use Rattle.coding_export.proofs.split_code.Tie as tie
 
 abbrev answered : SplitAnswer → ℕ
-answered a = code (splitOutcome a)
+answered a = code (split_outcome a)
 
 enum-known-a : tie.Need-enum-known-a
 enum-known-a c = search rules

@@ -7,16 +7,16 @@ use native.Mathlib.Omega.{arith}
 use lib.ListN.{length}
 use Rattle.parties.specs.declared.Measures.{Measures}
 use Rattle.parties.specs.protocol.Measures.{passes}
-use Rattle.parties.specs.protocol.Client.{clientSize}
+use Rattle.parties.specs.protocol.Client.{client_size}
 use Rattle.parties.specs.protocol.Answer.{ClientAnswer, refused}
 use Rattle.parties.specs.protocol.ClientEvents.{ClientEnd, unchanged}
 use Rattle.parties.proofs.protocol.events.LacksLaws.{Lacks, measures, short}
 
-pub brief-lacks : (s : Measures) (client : List ℕ) → length client < 5
-    → (n : ℕ) × Lacks s (clientSize s) client n × (cond (passes s) (refused 2) (refused 1) ≡ refused n)
-brief-lacks s client h = go (passes s) refl
+pub brief_lacks : (s : Measures) (client : List ℕ) → length client < 5
+    → (n : ℕ) × Lacks s (client_size s) client n × (cond (passes s) (refused 2) (refused 1) ≡ refused n)
+brief_lacks s client h = go (passes s) refl
   where
-    go : (b : Bool) → passes s ≡ b → (n : ℕ) × Lacks s (clientSize s) client n × (cond b (refused 2) (refused 1) ≡ refused n)
+    go : (b : Bool) → passes s ≡ b → (n : ℕ) × Lacks s (client_size s) client n × (cond b (refused 2) (refused 1) ≡ refused n)
     go true e = (2, short e (omega arith), refl)
     go false e = (1, measures e, refl)
 

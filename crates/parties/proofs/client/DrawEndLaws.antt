@@ -13,27 +13,27 @@ use Rattle.parties.specs.declared.Measures.{Measures}
 use Rattle.parties.specs.declared.Sequence.{Sequence}
 use Rattle.parties.specs.declared.Version.{Version}
 use Rattle.parties.specs.declared.NextSequence.{NextSequence}
-use Rattle.parties.specs.protocol.Format.{Read, readNumber, writeNumber, writeMany, writeArea}
+use Rattle.parties.specs.protocol.Format.{Read, read_number, write_number, write_many, write_area}
 use Rattle.parties.specs.protocol.Measures.{passes}
-use Rattle.parties.specs.protocol.Pointer.{writeVersion}
+use Rattle.parties.specs.protocol.Pointer.{write_version}
 use Rattle.parties.specs.protocol.Answer.{stores}
-use Rattle.parties.specs.protocol.Client.{Phase as Work, Client, workSize, writeWork, writeStores}
-use Rattle.parties.specs.protocol.Deposit.{digestsOf}
-use Rattle.parties.specs.protocol.ClientEvents.{onClient, draw, roomSize, storesRoom}
+use Rattle.parties.specs.protocol.Client.{Phase as Work, Client, work_size, write_work, write_stores}
+use Rattle.parties.specs.protocol.Deposit.{digests_of}
+use Rattle.parties.specs.protocol.ClientEvents.{on_client, draw, room_size, stores_room}
 use Rattle.parties.proofs.protocol.formats.PointerLaws.{length-number, length-version}
-use Rattle.parties.proofs.protocol.events.DepositLaws.{storing-good}
+use Rattle.parties.proofs.protocol.events.DepositLaws.{storing_good}
 use Rattle.parties.specs.declared.Phase.{Phase}
-use Rattle.parties.specs.client.Record.{recordOf, workAt}
-use Rattle.parties.specs.client.Draw.{roomDigests, storesWork, page_of, drawEnd}
+use Rattle.parties.specs.client.Record.{record_of, work_at}
+use Rattle.parties.specs.client.Draw.{room_digests, stores_work, page_of, draw_end}
 use Rattle.parties.proofs.client.FormLaws.{sizes}
 use Rattle.parties.proofs.client.AreaLaws.{ShownClient, turned-written}
-use Rattle.parties.proofs.client.GateLaws.{work-within, Opened, found, found-reads, found-shows}
+use Rattle.parties.proofs.client.GateLaws.{work_within, Opened, found, found-reads, found-shows}
 use Rattle.parties.proofs.client.DrawLaws.{length-room-digests, digests-there, page-short, page-length, page-there}
 use Rattle.parties.proofs.client.StepLaws.{scanning-step}
 
 module _ (s : Measures) (own : ℕ) (within : own < s.m) (p : Phase) (area : List ℕ) (opened : Opened s p area) (d : p.step ≡ 1) where
   abbrev client : List ℕ
-  client = recordOf p area
+  client = record_of p area
 
   abbrev read : Read Client
   read = found s p area opened
@@ -47,35 +47,35 @@ module _ (s : Measures) (own : ℕ) (within : own < s.m) (p : Phase) (area : Lis
   abbrev bytes : List ℕ
   bytes = page_of read.value.phase
 
-  phase-is : read.value.phase ≡ Work.scanning bytes
-  phase-is = scanning-step read.value.phase (sym shows.stands ∙ d)
+  phase_is : read.value.phase ≡ Work.scanning bytes
+  phase_is = scanning-step read.value.phase (sym shows.stands ∙ d)
 
-  module _ (n : ℕ) (u : List ℕ) (f : readNumber 4 (drop (workAt s) area) ≡ some (record { value = n; rest = u })) where
-    n-is : n ≡ length bytes
-    n-is = page-length s h p area read.value read.rest shows bytes phase-is n u f
+  module _ (n : ℕ) (u : List ℕ) (f : read_number 4 (drop (work_at s) area) ≡ some (record { value = n; rest = u })) where
+    n_is : n ≡ length bytes
+    n_is = page-length s h p area read.value read.rest shows bytes phase_is n u f
 
-    drawn-short : n ≤ s.k * s.f - 4
-    drawn-short = omega (arith, n-is, page-short s h p area read.value read.rest shows bytes phase-is)
+    drawn_short : n ≤ s.k * s.f - 4
+    drawn_short = omega (arith, n_is, page-short s h p area read.value read.rest shows bytes phase_is)
 
-    drawn-page : take n (drop (workAt s + 4) area) ≡ bytes
-    drawn-page =
-        ap (λ (k : ℕ). take k (drop (workAt s + 4) area)) n-is ∙ page-there s h p area read.value read.rest shows bytes phase-is
+    drawn_page : take n (drop (work_at s + 4) area) ≡ bytes
+    drawn_page =
+        ap (λ (k : ℕ). take k (drop (work_at s + 4) area)) n_is ∙ page-there s h p area read.value read.rest shows bytes phase_is
 
-    module _ (q : Sequence) (one : 1 ≤ q.0) (hq : q.0 < 256 ^ 4) (room : List ℕ) (enough : roomSize s ≤ length room) where
+    module _ (q : Sequence) (one : 1 ≤ q.0) (hq : q.0 < 256 ^ 4) (room : List ℕ) (enough : room_size s ≤ length room) where
       abbrev v : Version
       v = record { sequence = q; client = own }
 
       short : length bytes ≤ s.k * s.f - 4
-      short = page-short s h p area read.value read.rest shows bytes phase-is
+      short = page-short s h p area read.value read.rest shows bytes phase_is
 
-      work-is : writeArea (workSize s) (writeWork s) (Work.storing v 0 (digestsOf s v bytes))
-          ≡ storesWork s v (roomDigests s.n s.f v (columns s.k (length bytes)) (storesRoom s v bytes room))
-      unfolding writeArea writeWork writeStores
-      work-is =
-          let w = writeVersion v in
-          let z = writeNumber 2 0 in
-          let r = roomDigests s.n s.f v (columns s.k (length bytes)) (storesRoom s v bytes room) in
-          let e : writeMany (λ d. d) (digestsOf s v bytes) ≡ r = sym (digests-there s h v bytes room short enough) in
+      work_is : write_area (work_size s) (write_work s) (Work.storing v 0 (digests_of s v bytes))
+          ≡ stores_work s v (room_digests s.n s.f v (columns s.k (length bytes)) (stores_room s v bytes room))
+      unfolding write_area write_work write_stores
+      work_is =
+          let w = write_version v in
+          let z = write_number 2 0 in
+          let r = room_digests s.n s.f v (columns s.k (length bytes)) (stores_room s v bytes room) in
+          let e : write_many (λ d. d) (digests_of s v bytes) ≡ r = sym (digests-there s h v bytes room short enough) in
           let l : length (w ++ (z ++ r)) ≡ 7 + 32 * s.n =
           omega (
             arith,
@@ -83,83 +83,83 @@ module _ (s : Measures) (own : ℕ) (within : own < s.m) (p : Phase) (area : Lis
             length-append z r,
             length-version v,
             length-number 2 0,
-            length-room-digests s.n s.f v (columns s.k (length bytes)) (storesRoom s v bytes room),
+            length-room-digests s.n s.f v (columns s.k (length bytes)) (stores_room s v bytes room),
           )
           in
-          ap (λ (x : List ℕ). (w ++ (z ++ x)) ++ replicate (workSize s - length (w ++ (z ++ x))) 0) e
-          ∙ ap (λ (k : ℕ). (w ++ (z ++ r)) ++ replicate (workSize s - k) 0) l
+          ap (λ (x : List ℕ). (w ++ (z ++ x)) ++ replicate (work_size s - length (w ++ (z ++ x))) 0) e
+          ∙ ap (λ (k : ℕ). (w ++ (z ++ r)) ++ replicate (work_size s - k) 0) l
 
-      drawn-bytes : drawEnd s own q client room
+      drawn_bytes : draw_end s own q client room
           ≡ record {
             answer = stores v (columns s.k (length bytes));
             client =
-                recordOf (record { step = 2; reading = p.reading })
-                (paste area (workAt s) (storesWork s v (roomDigests s.n s.f v (columns s.k (length bytes)) (storesRoom s v bytes room))) (workSize s));
-            room = storesRoom s v bytes room;
+                record_of (record { step = 2; reading = p.reading })
+                (paste area (work_at s) (stores_work s v (room_digests s.n s.f v (columns s.k (length bytes)) (stores_room s v bytes room))) (work_size s));
+            room = stores_room s v bytes room;
             out = [];
           }
-      unfolding drawEnd
-      drawn-bytes =
+      unfolding draw_end
+      drawn_bytes =
           let c = read.value in
-          let g = storing-good s h v bytes ((hq, omega (arith, (sizes s h).clients)), simp (le-leb 1 q.0 one, lt-ltb own s.m within)) in
-          ap (λ (x : Option (Read Client)). onClient s client room [] x (λ c. draw s own c room (page_of c.phase) (NextSequence.Drawn q))) (found-reads s p area opened)
+          let g = storing_good s h v bytes ((hq, omega (arith, (sizes s h).clients)), simp (le-leb 1 q.0 one, lt-ltb own s.m within)) in
+          ap (λ (x : Option (Read Client)). on_client s client room [] x (λ c. draw s own c room (page_of c.phase) (NextSequence.Drawn q))) (found-reads s p area opened)
           ∙ (λ j. record {
             answer = stores v (columns s.k (length bytes));
             client =
-                (turned-written s h p area c read.rest shows (Work.storing v 0 (digestsOf s v bytes)) c.readingIndex g
-                ∙ (λ i. recordOf (record { step = 2; reading = sym shows.reading i }) (paste area (workAt s) (work-is i) (workSize s)))) j;
-            room = storesRoom s v bytes room;
+                (turned-written s h p area c read.rest shows (Work.storing v 0 (digests_of s v bytes)) c.reading_index g
+                ∙ (λ i. record_of (record { step = 2; reading = sym shows.reading i }) (paste area (work_at s) (work_is i) (work_size s)))) j;
+            room = stores_room s v bytes room;
             out = [];
           })
 
-      drawn : (page : List ℕ) → page ≡ take n (drop (workAt s + 4) area) → (len : ℕ) → len ≡ columns s.k (length page)
-          → (r : List ℕ) → r ≡ storesRoom s v page room
-          → (a : List ℕ) → a ≡ paste area (workAt s) (storesWork s v (roomDigests s.n s.f v len r)) (workSize s)
-          → drawEnd s own q client room
-          ≡ record { answer = stores v len; client = recordOf (record { step = 2; reading = p.reading }) a; room = r; out = [] }
+      drawn : (page : List ℕ) → page ≡ take n (drop (work_at s + 4) area) → (len : ℕ) → len ≡ columns s.k (length page)
+          → (r : List ℕ) → r ≡ stores_room s v page room
+          → (a : List ℕ) → a ≡ paste area (work_at s) (stores_work s v (room_digests s.n s.f v len r)) (work_size s)
+          → draw_end s own q client room
+          ≡ record { answer = stores v len; client = record_of (record { step = 2; reading = p.reading }) a; room = r; out = [] }
       drawn page e len l r x a y =
-          let z : page ≡ bytes = e ∙ drawn-page in
+          let z : page ≡ bytes = e ∙ drawn_page in
           let l2 : len ≡ columns s.k (length bytes) = l ∙ ap (λ (t : List ℕ). columns s.k (length t)) z in
-          let x2 : r ≡ storesRoom s v bytes room = x ∙ ap (λ (t : List ℕ). storesRoom s v t room) z in
-          let y2 = y ∙ (λ i. paste area (workAt s) (storesWork s v (roomDigests s.n s.f v (l2 i) (x2 i))) (workSize s)) in
-          drawn-bytes
+          let x2 : r ≡ stores_room s v bytes room = x ∙ ap (λ (t : List ℕ). stores_room s v t room) z in
+          let y2 = y ∙ (λ i. paste area (work_at s) (stores_work s v (room_digests s.n s.f v (l2 i) (x2 i))) (work_size s)) in
+          drawn_bytes
           ∙ (λ j. record {
             answer = stores v (sym l2 j);
-            client = recordOf (record { step = 2; reading = p.reading }) (sym y2 j);
+            client = record_of (record { step = 2; reading = p.reading }) (sym y2 j);
             room = sym x2 j;
             out = [];
           })
 
   -- the same, with the work's place as the code computes it
-  module _ (at : ℕ) (w : at ≡ workAt s) (n : ℕ) (u : List ℕ) (f : readNumber 4 (drop at area) ≡ some (record { value = n; rest = u })) where
-    there : readNumber 4 (drop (workAt s) area) ≡ some (record { value = n; rest = u })
-    there = ap (λ (k : ℕ). readNumber 4 (drop k area)) (sym w) ∙ f
+  module _ (at : ℕ) (w : at ≡ work_at s) (n : ℕ) (u : List ℕ) (f : read_number 4 (drop at area) ≡ some (record { value = n; rest = u })) where
+    there : read_number 4 (drop (work_at s) area) ≡ some (record { value = n; rest = u })
+    there = ap (λ (k : ℕ). read_number 4 (drop k area)) (sym w) ∙ f
 
     pub page-fits : at + 4 + n ≤ length area
-    page-fits = let z = sizes s h in omega (arith, work-within s p area opened, drawn-short n u there, z.frame, z.pieces)
+    page-fits = let z = sizes s h in omega (arith, work_within s p area opened, drawn_short n u there, z.frame, z.pieces)
 
-    pub page-short-at : length (take (at + 4 + n - (at + 4)) (drop (at + 4) area)) ≤ s.k * s.f - 4
-    page-short-at =
+    pub page_short_at : length (take (at + 4 + n - (at + 4)) (drop (at + 4) area)) ≤ s.k * s.f - 4
+    page_short_at =
         omega (
           arith,
-          drawn-short n u there,
+          drawn_short n u there,
           page-fits,
           length-drop (at + 4) area,
           length-take-le (at + 4 + n - (at + 4)) (drop (at + 4) area) (omega (arith, page-fits, length-drop (at + 4) area)),
         )
 
-    pub drawn-at : (q : Sequence) → 1 ≤ q.0 → q.0 < 256 ^ 4 → (room : List ℕ) → roomSize s ≤ length room
+    pub drawn_at : (q : Sequence) → 1 ≤ q.0 → q.0 < 256 ^ 4 → (room : List ℕ) → room_size s ≤ length room
         → (len : ℕ) → len ≡ columns s.k (length (take (at + 4 + n - (at + 4)) (drop (at + 4) area)))
-        → (r : List ℕ) → r ≡ storesRoom s (record { sequence = q; client = own }) (take (at + 4 + n - (at + 4)) (drop (at + 4) area)) room
-        → (a : List ℕ) → a ≡ paste area at (storesWork s (record { sequence = q; client = own }) (roomDigests s.n s.f (record { sequence = q; client = own }) len r)) (workSize s)
-        → drawEnd s own q client room
+        → (r : List ℕ) → r ≡ stores_room s (record { sequence = q; client = own }) (take (at + 4 + n - (at + 4)) (drop (at + 4) area)) room
+        → (a : List ℕ) → a ≡ paste area at (stores_work s (record { sequence = q; client = own }) (room_digests s.n s.f (record { sequence = q; client = own }) len r)) (work_size s)
+        → draw_end s own q client room
         ≡ record {
           answer = stores (record { sequence = q; client = own }) len;
-          client = recordOf (record { step = 2; reading = p.reading }) a;
+          client = record_of (record { step = 2; reading = p.reading }) a;
           room = r;
           out = [];
         }
-    drawn-at q one hq room enough len l r x a y =
+    drawn_at q one hq room enough len l r x a y =
         let k : at + 4 + n - (at + 4) ≡ n = omega arith in
         drawn n u there q one hq room enough (take (at + 4 + n - (at + 4)) (drop (at + 4) area)) (λ i. take (k i) (drop (w i + 4) area)) len l r x a
-        (y ∙ (λ i. paste area (w i) (storesWork s (record { sequence = q; client = own }) (roomDigests s.n s.f (record { sequence = q; client = own }) len r)) (workSize s)))
+        (y ∙ (λ i. paste area (w i) (stores_work s (record { sequence = q; client = own }) (room_digests s.n s.f (record { sequence = q; client = own }) len r)) (work_size s)))

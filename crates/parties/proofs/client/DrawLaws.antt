@@ -13,140 +13,140 @@ use Rattle.coding.specs.Bytes.{Bytes, tabulate}
 use Rattle.coding.specs.Pieces.{columns, piece}
 use Rattle.coding.specs.declared.answer.Refusal.{Refusal}
 use Rattle.coding.specs.declared.answer.SplitAnswer.{SplitAnswer}
-use Rattle.coding.specs.Answer.{Outcome, splitOutcome}
+use Rattle.coding.specs.Answer.{Outcome, split_outcome}
 use Rattle.coding.specs.Split.{SplitEnd, written, split}
 use Rattle.coding.proofs.SplitLaws.{split_done}
-use Rattle.coding.specs.Placed.{pieceDigest}
-use Rattle.coding.proofs.BytesLaws.{length-tabulate, get_d_tabulate, tabulate-ext}
-use Rattle.coding.proofs.PageLaws.{some-eq}
+use Rattle.coding.specs.Placed.{piece_digest}
+use Rattle.coding.proofs.BytesLaws.{length-tabulate, get_or-tabulate, tabulate_ext}
+use Rattle.coding.proofs.PageLaws.{some_eq}
 use Rattle.coding.proofs.PlacedLaws.{length-digest}
 use Rattle.parties.specs.declared.Measures.{Measures}
 use Rattle.parties.specs.declared.Sequence.{Sequence}
 use Rattle.parties.specs.declared.Version.{Version}
-use Rattle.parties.specs.protocol.Format.{Read, readNumber, writeNumber, writeMany, writeArea}
-use Rattle.parties.specs.protocol.Measures.{passes, rowSize}
-use Rattle.parties.specs.protocol.Pointer.{writePointer, writeVersion, writeNamed}
-use Rattle.parties.specs.protocol.Directory.{Row, no_row, pointersOf, indicesOf, mapOf, writeContent, writeFields, writeRecord, writeRow, readDirectory, writeDirectory}
-use Rattle.parties.specs.protocol.Message.{ToNode, writeToNode}
-use Rattle.parties.specs.protocol.Deposit.{highest, digestsOf}
-use Rattle.parties.specs.protocol.Client.{Phase as Work, Client, workSize, writeWork, writePage}
-use Rattle.parties.specs.protocol.ClientEvents.{roomSize, storesRoom}
-use Rattle.parties.proofs.protocol.formats.FormatLaws.{Each, length-area, length-same}
+use Rattle.parties.specs.protocol.Format.{Read, read_number, write_number, write_many, write_area}
+use Rattle.parties.specs.protocol.Measures.{passes, row_size}
+use Rattle.parties.specs.protocol.Pointer.{write_pointer, write_version, write_named}
+use Rattle.parties.specs.protocol.Directory.{Row, no_row, pointers_of, indices_of, map_of, write_content, write_fields, write_record, write_row, read_directory, write_directory}
+use Rattle.parties.specs.protocol.Message.{ToNode, write_to_node}
+use Rattle.parties.specs.protocol.Deposit.{highest, digests_of}
+use Rattle.parties.specs.protocol.Client.{Phase as Work, Client, work_size, write_work, write_page}
+use Rattle.parties.specs.protocol.ClientEvents.{room_size, stores_room}
+use Rattle.parties.proofs.protocol.formats.FormatLaws.{Each, length_area, length-same}
 use Rattle.parties.proofs.protocol.formats.EachLaws.{each_at, each-tabulate}
 use Rattle.parties.proofs.protocol.formats.MeasureLaws.{passed}
-use Rattle.parties.proofs.protocol.steps.GoodLaws.{proper-passed}
+use Rattle.parties.proofs.protocol.steps.GoodLaws.{proper_passed}
 use Rattle.parties.proofs.protocol.formats.PointerLaws.{length-number, length-version}
-use Rattle.parties.proofs.protocol.formats.RowLaws.{FitsRow, format-directory, length-directory}
+use Rattle.parties.proofs.protocol.formats.RowLaws.{FitsRow, format_directory, length-directory}
 use Rattle.parties.proofs.protocol.formats.ClientLaws.{GoodPhase}
 use Rattle.parties.proofs.protocol.events.DepositLaws.{stores-sent}
 use Rattle.parties.specs.declared.Phase.{Phase}
-use Rattle.parties.specs.client.Record.{workAt, is_some}
-use Rattle.parties.specs.client.Draw.{rows_of, roomDigest, roomDigests, storesWork}
-use Rattle.parties.proofs.records.BytesLaws.{Copied, copied-length, copied-block, copied_all}
+use Rattle.parties.specs.client.Record.{work_at, is_some}
+use Rattle.parties.specs.client.Draw.{rows_of, room_digest, room_digests, stores_work}
+use Rattle.parties.proofs.records.BytesLaws.{Copied, copied_length, copied_block, copied_all}
 use Rattle.parties.proofs.records.PlaceLaws.{number_read}
 use Rattle.parties.proofs.records.SpliceLaws.{to_end, paste-join, many-part}
-use Rattle.parties.proofs.client.AreaLaws.{byte-written, ShownClient, work-front}
+use Rattle.parties.proofs.client.AreaLaws.{byte_written, ShownClient, work_front}
 use Rattle.parties.proofs.client.FormLaws.{sizes}
-use Rattle.parties.proofs.client.GateLaws.{some-value}
+use Rattle.parties.proofs.client.GateLaws.{some_value}
 
 -- ---- rows
 
-abbrev sequenceOf : Row → ℕ
-sequenceOf r = r.written.version.sequence.0
+abbrev sequence_of : Row → ℕ
+sequence_of r = r.written.version.sequence.0
 
 -- a row starts with its map and its written pointer's sequence
-row-front : (r : Row) → (z : List ℕ) × (writeRow r ≡ 15 ∷ (writeNumber 4 (sequenceOf r) ++ z))
-unfolding writeRecord writeFields writeContent writeMany writePointer writeVersion mapOf
-row-front r =
-    let q = writeNumber 4 (sequenceOf r) in
-    let c = writeNumber 1 r.written.version.client in
-    let n = writeNamed r.written.named in
-    let f = writeFields (some (pointersOf r.frozen) ∷ some (indicesOf r.frozenIndices) ∷ some (indicesOf (r.readingIndex ∷ [])) ∷ []) in (
+row_front : (r : Row) → (z : List ℕ) × (write_row r ≡ 15 ∷ (write_number 4 (sequence_of r) ++ z))
+unfolding write_record write_fields write_content write_many write_pointer write_version map_of
+row_front r =
+    let q = write_number 4 (sequence_of r) in
+    let c = write_number 1 r.written.version.client in
+    let n = write_named r.written.named in
+    let f = write_fields (some (pointers_of r.frozen) ∷ some (indices_of r.frozen_indices) ∷ some (indices_of (r.reading_index ∷ [])) ∷ []) in (
       c ++ (n ++ f),
-      byte-written 15 (((q ++ c) ++ n) ++ [] ++ f) refl
+      byte_written 15 (((q ++ c) ++ n) ++ [] ++ f) refl
           ∙ ap (λ (l : List ℕ). 15 ∷ l)
           (ap (λ (l : List ℕ). l ++ f) (append-nil ((q ++ c) ++ n)) ∙ append_assoc (q ++ c) n f ∙ append_assoc q c (n ++ f)),
     )
 
-module _ (s : Measures) (t : List ℕ) (b : Bytes t) (o : is_some (readDirectory s t) ≡ true) where
+module _ (s : Measures) (t : List ℕ) (b : Bytes t) (o : is_some (read_directory s t) ≡ true) where
   abbrev read : Read (List Row)
-  read = (some-value (readDirectory s t) o).0
+  read = (some_value (read_directory s t) o).0
 
-  rows-read : rows_of (readDirectory s t) ≡ read.value
-  rows-read = ap rows_of (some-value (readDirectory s t) o).1
+  rows-read : rows_of (read_directory s t) ≡ read.value
+  rows-read = ap rows_of (some_value (read_directory s t) o).1
 
-  kept : (Each (FitsRow s) read.value × (length read.value ≡ s.m)) × (t ≡ writeDirectory s read.value ++ read.rest)
-  kept = (format-directory s).only t read b (some-value (readDirectory s t) o).1
+  kept : (Each (FitsRow s) read.value × (length read.value ≡ s.m)) × (t ≡ write_directory s read.value ++ read.rest)
+  kept = (format_directory s).only t read b (some_value (read_directory s t) o).1
 
-  pub rows-count : length (rows_of (readDirectory s t)) ≡ s.m
+  pub rows-count : length (rows_of (read_directory s t)) ≡ s.m
   rows-count = ap length rows-read ∙ kept.0.1
 
-  pub rows_fit : s.m * rowSize s ≤ length t
+  pub rows_fit : s.m * row_size s ≤ length t
   rows_fit =
-      omega (arith, ap length kept.1, length-append (writeDirectory s read.value) read.rest, length-directory s read.value kept.0.0 kept.0.1)
+      omega (arith, ap length kept.1, length-append (write_directory s read.value) read.rest, length-directory s read.value kept.0.0 kept.0.1)
 
-  row-part : (i : ℕ) → i < s.m → take (rowSize s) (drop (i * rowSize s) t) ≡ writeArea (rowSize s) writeRow (get_or read.value i no_row)
-  unfolding writeDirectory
-  row-part i h =
-      ap (λ (l : List ℕ). take (rowSize s) (drop (i * rowSize s) l)) kept.1
-      ∙ many-part (writeArea (rowSize s) writeRow) (FitsRow s) (rowSize s)
-      (λ r g. length-area (rowSize s) writeRow r (leb-true (length (writeRow r)) (rowSize s) g.1)) no_row read.value kept.0.0 i
+  row_part : (i : ℕ) → i < s.m → take (row_size s) (drop (i * row_size s) t) ≡ write_area (row_size s) write_row (get_or read.value i no_row)
+  unfolding write_directory
+  row_part i h =
+      ap (λ (l : List ℕ). take (row_size s) (drop (i * row_size s) l)) kept.1
+      ∙ many-part (write_area (row_size s) write_row) (FitsRow s) (row_size s)
+      (λ r g. length_area (row_size s) write_row r (leb-true (length (write_row r)) (row_size s) g.1)) no_row read.value kept.0.0 i
       (omega (arith, kept.0.1)) read.rest
 
   -- what is read after the map is the row's sequence
-  pub row-sequence : (i : ℕ) → i < s.m → (q : ℕ) (u : List ℕ) → readNumber 4 (drop (i * rowSize s + 1) t) ≡ some (record { value = q; rest = u })
-      → q ≡ (get_or (rows_of (readDirectory s t)) i no_row).written.version.sequence.0
-  unfolding writeArea
-  row-sequence i h q u e =
-      let w = rowSize s in
+  pub row_sequence : (i : ℕ) → i < s.m → (q : ℕ) (u : List ℕ) → read_number 4 (drop (i * row_size s + 1) t) ≡ some (record { value = q; rest = u })
+      → q ≡ (get_or (rows_of (read_directory s t)) i no_row).written.version.sequence.0
+  unfolding write_area
+  row_sequence i h q u e =
+      let w = row_size s in
       let r = get_or read.value i no_row in
-      let n = writeNumber 4 (sequenceOf r) in
-      let x = row-front r in
-      let z = replicate {A = ℕ} (w - length (writeRow r)) 0 in
+      let n = write_number 4 (sequence_of r) in
+      let x = row_front r in
+      let z = replicate {A = ℕ} (w - length (write_row r)) 0 in
       let a = drop w (drop (i * w) t) in
       let g = each_at (FitsRow s) no_row read.value kept.0.0 i (omega (arith, kept.0.1)) in
       let f : drop (i * w + 1) t ≡ n ++ (x.0 ++ (z ++ a)) =
       sym (drop-drop 1 (i * w) t) ∙ ap (drop 1) (sym (take-append-drop w (drop (i * w) t)))
-      ∙ ap (λ (l : List ℕ). drop 1 (l ++ a)) (row-part i h)
+      ∙ ap (λ (l : List ℕ). drop 1 (l ++ a)) (row_part i h)
       ∙ ap (λ (l : List ℕ). drop 1 ((l ++ z) ++ a)) x.1
       ∙ append_assoc (n ++ x.0) z a
       ∙ append_assoc n x.0 (z ++ a)
       in
-      number_read 4 t (i * w + 1) (sequenceOf r) (x.0 ++ (z ++ a)) g.0.0.0.1.1.0.0.0.0.0.0 f q u e
-      ∙ ap (λ (l : List Row). sequenceOf (get_or l i no_row)) (sym rows-read)
+      number_read 4 t (i * w + 1) (sequence_of r) (x.0 ++ (z ++ a)) g.0.0.0.1.1.0.0.0.0.0.0 f q u e
+      ∙ ap (λ (l : List Row). sequence_of (get_or l i no_row)) (sym rows-read)
 
 -- no row yet; one row more, from the last on
 module _ (l : List Row) (n : ℕ) (e : length l ≡ n) where
-  pub top-none : record { 0 = 0 } ≡ highest (drop n l)
+  pub top_none : record { 0 = 0 } ≡ highest (drop n l)
   unfolding highest
-  top-none = ap highest (sym (ap (λ (k : ℕ). drop k l) (sym e) ∙ drop-length l))
+  top_none = ap highest (sym (ap (λ (k : ℕ). drop k l) (sym e) ∙ drop-length l))
 
-  pub top-more : (i : ℕ) → i < n → (q top : Sequence) → q ≡ (get_or l i no_row).written.version.sequence → top ≡ highest (drop (suc i) l)
+  pub top_more : (i : ℕ) → i < n → (q top : Sequence) → q ≡ (get_or l i no_row).written.version.sequence → top ≡ highest (drop (suc i) l)
       → cond (ltb top.0 q.0) q top ≡ highest (drop i l)
   unfolding highest
-  top-more i h q top f g =
+  top_more i h q top f g =
       (λ j. cond (ltb (g j).0 (f j).0) (f j) (g j)) ∙ ap highest (sym (drop-cons l i no_row (omega arith)))
 
 -- ---- the front of the store messages
 
-pub front-put : (v : Version) (room : List ℕ) → v.client < 256 → 6 ≤ length room
-    → set (paste (set room 0 1) 1 (writeNumber 4 v.sequence.0) 4) 5 v.client ≡ writeToNode (ToNode.store v []) ++ drop 6 room
-unfolding writeToNode writeVersion
-front-put v [] b h = absurd (omega arith)
-front-put v (x ∷ t) b h =
-    let w = writeNumber 4 v.sequence.0 in
-    let one = writeNumber 1 v.client in
+pub front_put : (v : Version) (room : List ℕ) → v.client < 256 → 6 ≤ length room
+    → set (paste (set room 0 1) 1 (write_number 4 v.sequence.0) 4) 5 v.client ≡ write_to_node (ToNode.store v []) ++ drop 6 room
+unfolding write_to_node write_version
+front_put v [] b h = absurd (omega arith)
+front_put v (x ∷ t) b h =
+    let w = write_number 4 v.sequence.0 in
+    let one = write_number 1 v.client in
     let m : v.client % 256 ≡ v.client = omega arith in
     ap (λ (l : List ℕ). set ((1 ∷ take 4 w) ++ l) 5 v.client) (drop-cons t 4 0 (omega arith))
     ∙ set_at (1 ∷ take 4 w) (get_or t 4 0) (drop 5 t) v.client 5 (ap suc (length-take-le 4 w (omega (arith, length-number 4 v.sequence.0))))
     ∙ ap (λ (l : List ℕ). 1 ∷ (l ++ v.client ∷ drop 5 t)) (take_all 4 w (omega (arith, length-number 4 v.sequence.0)))
-    ∙ ap (λ (l : List ℕ). 1 ∷ (w ++ l)) (sym (byte-written v.client (drop 5 t) m))
+    ∙ ap (λ (l : List ℕ). 1 ∷ (w ++ l)) (sym (byte_written v.client (drop 5 t) m))
     ∙ ap (λ (l : List ℕ). 1 ∷ l) (sym (ap (λ (l : List ℕ). l ++ drop 5 t) (append-nil (w ++ one)) ∙ append_assoc w one (drop 5 t)))
 
-pub length-front-put : (v : Version) (room : List ℕ) → 6 ≤ length room
-    → length (set (paste (set room 0 1) 1 (writeNumber 4 v.sequence.0) 4) 5 v.client) ≡ length room
-length-front-put v room h =
-    let w = writeNumber 4 v.sequence.0 in
+pub length_front_put : (v : Version) (room : List ℕ) → 6 ≤ length room
+    → length (set (paste (set room 0 1) 1 (write_number 4 v.sequence.0) 4) 5 v.client) ≡ length room
+length_front_put v room h =
+    let w = write_number 4 v.sequence.0 in
     let l : length (set room 0 1) ≡ length room = length-set room 0 1 in
     length-set (paste (set room 0 1) 1 w 4) 5 v.client
     ∙ length-paste (set room 0 1) 1 w 4 (omega arith) (omega (arith, length-number 4 v.sequence.0))
@@ -156,69 +156,69 @@ length-front-put v room h =
 
 module _ (n f : ℕ) (v : Version) (len : ℕ) (room : List ℕ) where
   abbrev digests : List (List ℕ)
-  digests = tabulate n (roomDigest f v len room)
+  digests = tabulate n (room_digest f v len room)
 
   abbrev sized : List ℕ → Type 0
   sized d = length d ≡ 32
 
   each-sized : Each sized digests
-  each-sized = each-tabulate sized n (roomDigest f v len room) (λ i h. length-digest (writeVersion v) (i + 1) (take len (drop (6 + i * f) room)))
+  each-sized = each-tabulate sized n (room_digest f v len room) (λ i h. length-digest (write_version v) (i + 1) (take len (drop (6 + i * f) room)))
 
-  pub length-room-digests : length (roomDigests n f v len room) ≡ 32 * n
-  length-room-digests = length-same (λ d. d) sized 32 (λ d g. g) digests each-sized ∙ omega (arith, length-tabulate n (roomDigest f v len room))
+  pub length-room-digests : length (room_digests n f v len room) ≡ 32 * n
+  length-room-digests = length-same (λ d. d) sized 32 (λ d g. g) digests each-sized ∙ omega (arith, length-tabulate n (room_digest f v len room))
 
-  digest-part : (i : ℕ) → i < n → take 32 (drop (32 * i) (roomDigests n f v len room)) ≡ roomDigest f v len room i
+  digest-part : (i : ℕ) → i < n → take 32 (drop (32 * i) (room_digests n f v len room)) ≡ room_digest f v len room i
   digest-part i h =
       let z : 32 * i ≡ i * 32 = omega arith in
       rw z
-      (ap (λ (l : List ℕ). take 32 (drop (i * 32) l)) (sym (append-nil (roomDigests n f v len room)))
-      ∙ many-part (λ d. d) sized 32 (λ d g. g) [] digests each-sized i (omega (arith, length-tabulate n (roomDigest f v len room))) []
-      ∙ get_d_tabulate n (roomDigest f v len room) i [] h)
+      (ap (λ (l : List ℕ). take 32 (drop (i * 32) l)) (sym (append-nil (room_digests n f v len room)))
+      ∙ many-part (λ d. d) sized 32 (λ d g. g) [] digests each-sized i (omega (arith, length-tabulate n (room_digest f v len room))) []
+      ∙ get_or-tabulate n (room_digest f v len room) i [] h)
 
   module _ (t : List ℕ) (at : ℕ) (ht : at + 32 * n ≤ length t) where
     -- one digest more
-    pub digests-more : (u : List ℕ) (i : ℕ) → Copied t at (roomDigests n f v len room) 0 (32 * n) u (32 * i) → i < n
-        → (w : List ℕ) → w ≡ paste u (at + 32 * i) (roomDigest f v len room i) 32
-        → Copied t at (roomDigests n f v len room) 0 (32 * n) w (32 * (i + 1))
+    pub digests-more : (u : List ℕ) (i : ℕ) → Copied t at (room_digests n f v len room) 0 (32 * n) u (32 * i) → i < n
+        → (w : List ℕ) → w ≡ paste u (at + 32 * i) (room_digest f v len room i) 32
+        → Copied t at (room_digests n f v len room) 0 (32 * n) w (32 * (i + 1))
     digests-more u i c h w e =
-        let all = roomDigests n f v len room in
-        let d = roomDigest f v len room i in
+        let all = room_digests n f v len room in
+        let d = room_digest f v len room i in
         let y : 0 + 32 * i ≡ 32 * i = omega arith in
         let m : 32 * (i + 1) ≡ 32 * i + 32 = omega arith in
-        let k : length d ≡ 32 = length-digest (writeVersion v) (i + 1) (take len (drop (6 + i * f) room)) in
+        let k : length d ≡ 32 = length-digest (write_version v) (i + 1) (take len (drop (6 + i * f) room)) in
         let x : take 32 d ≡ take 32 (drop (0 + 32 * i) all) =
         take_all 32 d (omega arith) ∙ sym (digest-part i h) ∙ ap (λ (m : ℕ). take 32 (drop m all)) (sym y)
         in
         rw m
-        (copied-block t at all 0 (32 * n) ht (omega (arith, length-room-digests)) u (32 * i) c 32 (omega arith) w
+        (copied_block t at all 0 (32 * n) ht (omega (arith, length-room-digests)) u (32 * i) c 32 (omega arith) w
         (e ∙ ap (λ (l : List ℕ). take (at + 32 * i) u ++ l ++ drop (at + 32 * i + 32) u) x))
 
-    pub digests-length : (u : List ℕ) (l : ℕ) → Copied t at (roomDigests n f v len room) 0 (32 * n) u l → length u ≡ length t
-    digests-length u l c = copied-length t at (roomDigests n f v len room) 0 (32 * n) ht (omega (arith, length-room-digests)) u l c
+    pub digests-length : (u : List ℕ) (l : ℕ) → Copied t at (room_digests n f v len room) 0 (32 * n) u l → length u ≡ length t
+    digests-length u l c = copied_length t at (room_digests n f v len room) 0 (32 * n) ht (omega (arith, length-room-digests)) u l c
 
-    pub digests-all : (u : List ℕ) (i : ℕ) → Copied t at (roomDigests n f v len room) 0 (32 * n) u (32 * i) → n ≤ i
-        → u ≡ paste t at (roomDigests n f v len room) (32 * n)
-    digests-all u i c h = copied_all t at (roomDigests n f v len room) 0 (32 * n) ht (omega (arith, length-room-digests)) u (32 * i) c (omega arith)
+    pub digests-all : (u : List ℕ) (i : ℕ) → Copied t at (room_digests n f v len room) 0 (32 * n) u (32 * i) → n ≤ i
+        → u ≡ paste t at (room_digests n f v len room) (32 * n)
+    digests-all u i c h = copied_all t at (room_digests n f v len room) 0 (32 * n) ht (omega (arith, length-room-digests)) u (32 * i) c (omega arith)
 
 -- ---- the pieces in the room
 
-pub digests-there : (s : Measures) → passes s ≡ true → (v : Version) (bytes room : List ℕ) → length bytes ≤ s.k * s.f - 4 → roomSize s ≤ length room
-    → roomDigests s.n s.f v (columns s.k (length bytes)) (storesRoom s v bytes room) ≡ writeMany (λ d. d) (digestsOf s v bytes)
-unfolding digestsOf writeToNode
+pub digests-there : (s : Measures) → passes s ≡ true → (v : Version) (bytes room : List ℕ) → length bytes ≤ s.k * s.f - 4 → room_size s ≤ length room
+    → room_digests s.n s.f v (columns s.k (length bytes)) (stores_room s v bytes room) ≡ write_many (λ d. d) (digests_of s v bytes)
+unfolding digests_of write_to_node
 digests-there s h v bytes room short enough =
-    ap (writeMany (λ d. d))
-    (tabulate-ext s.n (roomDigest s.f v len r) (λ j. pieceDigest (writeVersion v) (j + 1) (piece s.k bytes (j + 1)))
-    (λ j l. ap (pieceDigest (writeVersion v) (j + 1)) (there j l)))
+    ap (write_many (λ d. d))
+    (tabulate_ext s.n (room_digest s.f v len r) (λ j. piece_digest (write_version v) (j + 1) (piece s.k bytes (j + 1)))
+    (λ j l. ap (piece_digest (write_version v) (j + 1)) (there j l)))
   where
     len : ℕ
     len = columns s.k (length bytes)
 
     r : List ℕ
-    r = storesRoom s v bytes room
+    r = stores_room s v bytes room
 
     front : 6 ≤ length r
     front =
-        let w = writeVersion v in
+        let w = write_version v in
         let z = (split s.n s.k s.f bytes (drop 6 room)).room in
         omega (arith, length-append (1 ∷ (w ++ [])) z, length-append w [], length-version v)
 
@@ -226,46 +226,46 @@ digests-there s h v bytes room short enough =
     there j l =
         let p = piece s.k bytes (j + 1) in
         let e : j + 1 - 1 ≡ j = omega arith in
-        let x = some-eq (stores-sent s h v bytes room short enough (j + 1) (omega arith) (omega arith)) in
+        let x = some_eq (stores-sent s h v bytes room short enough (j + 1) (omega arith) (omega arith)) in
         ap (λ (i : ℕ). take len (drop (6 + i * s.f) r)) (sym e)
         ∙ sym (drop_at (take 6 r) (take len (drop (6 + (j + 1 - 1) * s.f) r)) 6 (length-take-le 6 r front))
         ∙ ap (drop 6) x
-        ∙ drop_at (writeVersion v) p 5 (length-version v)
+        ∙ drop_at (write_version v) p 5 (length-version v)
 
 -- ---- the work area
 
-pub version-put : (t : List ℕ) (at : ℕ) (v : Version) → v.client < 256 → at + 5 ≤ length t
-    → set (paste t at (writeNumber 4 v.sequence.0) 4) (at + 4) v.client ≡ paste t at (writeVersion v) 5
-unfolding writeVersion
-version-put t at v b h =
-    let w = writeNumber 4 v.sequence.0 in
+pub version_put : (t : List ℕ) (at : ℕ) (v : Version) → v.client < 256 → at + 5 ≤ length t
+    → set (paste t at (write_number 4 v.sequence.0) 4) (at + 4) v.client ≡ paste t at (write_version v) 5
+unfolding write_version
+version_put t at v b h =
+    let w = write_number 4 v.sequence.0 in
     let lw : length w ≡ 4 = length-number 4 v.sequence.0 in
-    let one = writeNumber 1 v.client in
+    let one = write_number 1 v.client in
     let m : v.client % 256 ≡ v.client = omega arith in
-    let e : one ≡ v.client ∷ [] = sym (append-nil one) ∙ byte-written v.client [] m in
+    let e : one ≡ v.client ∷ [] = sym (append-nil one) ∙ byte_written v.client [] m in
     let g : get_or (w ++ one) 4 0 ≡ v.client = ap (λ (l : List ℕ). get_or (w ++ l) 4 0) e ∙ get_or_at w v.client [] 0 4 lw in
     let k : take 4 w ≡ take 4 (w ++ one) = take_all 4 w (omega arith) ∙ sym (take_at w one 4 lw) in
     let l : 4 < length (w ++ one) = omega (arith, length-append w one, length-number 1 v.client) in
     (λ i. set (take at t ++ k i ++ drop (at + 4) t) (at + 4) (sym g i)) ∙ paste-suc t at (w ++ one) 4 0 (omega arith) l
 
 -- the four writes of a deposit's work
-pub stores-put : (s : Measures) → passes s ≡ true → (v : Version) (ds t : List ℕ) (at rest : ℕ) → length ds ≡ 32 * s.n → at + workSize s ≤ length t
+pub stores_put : (s : Measures) → passes s ≡ true → (v : Version) (ds t : List ℕ) (at rest : ℕ) → length ds ≡ 32 * s.n → at + work_size s ≤ length t
     → rest ≡ at + 7 + 32 * s.n
-    → paste (paste (paste (paste t at (writeVersion v) 5) (at + 5) (writeNumber 2 0) 2) (at + 7) ds (32 * s.n)) rest
-    (replicate (at + workSize s - rest) 0) (at + workSize s - rest)
-    ≡ paste t at (storesWork s v ds) (workSize s)
-stores-put s h v ds t at rest e l f =
+    → paste (paste (paste (paste t at (write_version v) 5) (at + 5) (write_number 2 0) 2) (at + 7) ds (32 * s.n)) rest
+    (replicate (at + work_size s - rest) 0) (at + work_size s - rest)
+    ≡ paste t at (stores_work s v ds) (work_size s)
+stores_put s h v ds t at rest e l f =
     let z = sizes s h in
     let n : ℕ = 32 * s.n in
-    let k : ℕ = workSize s - (7 + n) in
-    let w = writeVersion v in
-    let o = writeNumber 2 0 in
+    let k : ℕ = work_size s - (7 + n) in
+    let w = write_version v in
+    let o = write_number 2 0 in
     let lw : length w ≡ 5 = length-version v in
     let lo : length o ≡ 2 = length-number 2 0 in
     let zs = replicate {A = ℕ} k 0 in
     let lz : length zs ≡ k = length-replicate {A = ℕ} k 0 in
-    let fits : 7 + n + k ≡ workSize s = omega (arith, z.pieces) in
-    let q : at + workSize s - rest ≡ k = omega (arith, fits) in
+    let fits : 7 + n + k ≡ work_size s = omega (arith, z.pieces) in
+    let q : at + work_size s - rest ≡ k = omega (arith, fits) in
     let a : at + 7 ≡ at + 5 + 2 = omega arith in
     let a2 : at + 7 ≡ at + (5 + 2) = omega arith in
     let la : length (w ++ o) ≡ 5 + 2 = omega (arith, length-append w o) in
@@ -276,7 +276,7 @@ stores-put s h v ds t at rest e l f =
     let p3 : paste t2 (at + 7) ds n ≡ paste t at ((w ++ o) ++ ds) (5 + 2 + n) =
     (λ i. paste (p2 i) (a2 i) ds n) ∙ paste-join t at (w ++ o) ds (5 + 2) n la e (omega (arith, fits))
     in
-    let g : 5 + 2 + n + k ≡ workSize s = omega (arith, fits) in
+    let g : 5 + 2 + n + k ≡ work_size s = omega (arith, fits) in
     (λ i. paste (p3 i) (r i) (replicate (q i) 0) (q i))
     ∙ paste-join t at ((w ++ o) ++ ds) zs (5 + 2 + n) k lb lz (omega (arith, fits))
     ∙ (λ i. paste t at (append_assoc w o ds i ++ zs) (g i))
@@ -286,62 +286,62 @@ stores-put s h v ds t at rest e l f =
 module _ (s : Measures) (h : passes s ≡ true) (p : Phase) (area : List ℕ) (c : Client) (rest : List ℕ) (x : ShownClient s p area c rest) (bytes : List ℕ)
     (e : c.phase ≡ Work.scanning bytes) where
   abbrev spare : List ℕ
-  spare = replicate (workSize s - length (writeWork s c.phase)) 0 ++ rest
+  spare = replicate (work_size s - length (write_work s c.phase)) 0 ++ rest
 
-  page-onward : drop (workAt s) area ≡ writeNumber 4 (length bytes) ++ (bytes ++ spare)
-  unfolding writeWork writePage
-  page-onward =
-      work-front s h p area c rest x ∙ ap (λ (q : Work). writeWork s q ++ spare) e ∙ append_assoc (writeNumber 4 (length bytes)) bytes spare
+  page_onward : drop (work_at s) area ≡ write_number 4 (length bytes) ++ (bytes ++ spare)
+  unfolding write_work write_page
+  page_onward =
+      work_front s h p area c rest x ∙ ap (λ (q : Work). write_work s q ++ spare) e ∙ append_assoc (write_number 4 (length bytes)) bytes spare
 
   pub page-short : length bytes ≤ s.k * s.f - 4
   page-short = leb-true (length bytes) (s.k * s.f - 4) (subst (GoodPhase s) e x.good.phase).1
 
-  pub page-length : (n : ℕ) (u : List ℕ) → readNumber 4 (drop (workAt s) area) ≡ some (record { value = n; rest = u }) → n ≡ length bytes
+  pub page-length : (n : ℕ) (u : List ℕ) → read_number 4 (drop (work_at s) area) ≡ some (record { value = n; rest = u }) → n ≡ length bytes
   page-length n u f =
       let z = sizes s h in
       let b : length bytes < 256 ^ 4 = omega (arith, z.frame, page-short) in
-      number_read 4 area (workAt s) (length bytes) (bytes ++ spare) b page-onward n u f
+      number_read 4 area (work_at s) (length bytes) (bytes ++ spare) b page_onward n u f
 
-  pub page-there : take (length bytes) (drop (workAt s + 4) area) ≡ bytes
+  pub page-there : take (length bytes) (drop (work_at s + 4) area) ≡ bytes
   page-there =
       ap (take (length bytes))
-      (sym (drop-drop 4 (workAt s) area) ∙ ap (drop 4) page-onward
-      ∙ drop_at (writeNumber 4 (length bytes)) (bytes ++ spare) 4 (length-number 4 (length bytes)))
+      (sym (drop-drop 4 (work_at s) area) ∙ ap (drop 4) page_onward
+      ∙ drop_at (write_number 4 (length bytes)) (bytes ++ spare) 4 (length-number 4 (length bytes)))
       ∙ take_at bytes spare (length bytes) refl
 
 -- ---- the cut
 
-module _ (s : Measures) (h : passes s ≡ true) (v : Version) (page room : List ℕ) (short : length page ≤ s.k * s.f - 4) (enough : roomSize s ≤ length room) where
+module _ (s : Measures) (h : passes s ≡ true) (v : Version) (page room : List ℕ) (short : length page ≤ s.k * s.f - 4) (enough : room_size s ≤ length room) where
   abbrev behind : List ℕ
   behind = take (length room - 6) (drop 6 room)
 
-  cut-end : split s.n s.k s.f page behind
+  cut_end : split s.n s.k s.f page behind
       ≡ record { outcome = Outcome.gives (columns s.k (length page)); room = written s.k s.f page behind s.n }
-  cut-end =
-      split_done s.n s.k s.f page behind (proper-passed s (passed s h)) (rw (to_end room 6) (omega (arith, length-drop 6 room))) short
+  cut_end =
+      split_done s.n s.k s.f page behind (proper_passed s (passed s h)) (rw (to_end room 6) (omega (arith, length-drop 6 room))) short
 
   -- the answer is a length of pieces
-  pub split-gives : (a : SplitAnswer) → splitOutcome a ≡ (split s.n s.k s.f page behind).outcome → (len : ℕ) → a ≡ SplitAnswer.Pieces len
+  pub split-gives : (a : SplitAnswer) → split_outcome a ≡ (split s.n s.k s.f page behind).outcome → (len : ℕ) → a ≡ SplitAnswer.Pieces len
       → len ≡ columns s.k (length page)
   split-gives a e len f =
-      ap given (sym (ap splitOutcome f) ∙ e ∙ ap (λ (x : SplitEnd). x.outcome) cut-end)
+      ap given (sym (ap split_outcome f) ∙ e ∙ ap (λ (x : SplitEnd). x.outcome) cut_end)
     where
       given : Outcome → ℕ
       given (Outcome.gives n) = n
       given (Outcome.refuses n) = 0
 
-  pub split-refuses : (a : SplitAnswer) → splitOutcome a ≡ (split s.n s.k s.f page behind).outcome → (r : Refusal) → a ≡ SplitAnswer.Refused r → ⊥
+  pub split-refuses : (a : SplitAnswer) → split_outcome a ≡ (split s.n s.k s.f page behind).outcome → (r : Refusal) → a ≡ SplitAnswer.Refused r → ⊥
   split-refuses a e r f =
-      true≢false (ap gives (sym (ap (λ (x : SplitEnd). x.outcome) cut-end) ∙ sym e ∙ ap splitOutcome f))
+      true≢false (ap gives (sym (ap (λ (x : SplitEnd). x.outcome) cut_end) ∙ sym e ∙ ap split_outcome f))
     where
       gives : Outcome → Bool
       gives (Outcome.gives n) = true
       gives (Outcome.refuses n) = false
 
   pub split-room : (u : List ℕ) → u ≡ (split s.n s.k s.f page behind).room
-      → writeToNode (ToNode.store v []) ++ drop 6 (take 6 room ++ (u ++ drop (length room - 6) (drop 6 room))) ≡ storesRoom s v page room
+      → write_to_node (ToNode.store v []) ++ drop 6 (take 6 room ++ (u ++ drop (length room - 6) (drop 6 room))) ≡ stores_room s v page room
   split-room u e =
       let n : drop (length room - 6) (drop 6 room) ≡ [] = ap (λ (k : ℕ). drop k (drop 6 room)) (sym (length-drop 6 room)) ∙ drop-length (drop 6 room) in
-      ap (λ (l : List ℕ). writeToNode (ToNode.store v []) ++ l)
+      ap (λ (l : List ℕ). write_to_node (ToNode.store v []) ++ l)
       (drop_at (take 6 room) (u ++ drop (length room - 6) (drop 6 room)) 6 (length-take-le 6 room (omega arith))
       ∙ ap (λ (l : List ℕ). u ++ l) n ∙ append-nil u ∙ e ∙ ap (λ (l : List ℕ). (split s.n s.k s.f page l).room) (to_end room 6))

@@ -7,24 +7,24 @@ use native.Mathlib.Omega.{arith}
 use lib.ListN.{length, get_or, take, drop, replicate, length-append, length-replicate, length-drop, length-map}
 use lib.Seq.{paste, drop_at, take-take, take-append-le, length-take-le}
 use Rattle.coding.specs.Bytes.{Bytes}
-use Rattle.coding.specs.Nodes.{nodesOf}
-use Rattle.coding.proofs.BytesLaws.{get_d_tabulate}
-use Rattle.coding.proofs.NodesLaws.{nodes-start, nodes-skip, nodes-more, nodes-few, nodes-within}
+use Rattle.coding.specs.Nodes.{nodes_of}
+use Rattle.coding.proofs.BytesLaws.{get_or-tabulate}
+use Rattle.coding.proofs.NodesLaws.{nodes_start, nodes_skip, nodes-more, nodes-few, nodes-within}
 use Rattle.parties.specs.declared.Measures.{Measures}
-use Rattle.parties.specs.protocol.Format.{writeNumber, writeMany}
-use Rattle.parties.specs.protocol.Measures.{passes, pointerSize}
+use Rattle.parties.specs.protocol.Format.{write_number, write_many}
+use Rattle.parties.specs.protocol.Measures.{passes, pointer_size}
 use Rattle.parties.specs.protocol.Nodes.{count, stands}
-use Rattle.parties.specs.protocol.Pointer.{Pointer, writeVersion, writeNamed, writePointer}
-use Rattle.parties.specs.protocol.Client.{workSize}
-use Rattle.parties.specs.protocol.Deposit.{pointerOf}
+use Rattle.parties.specs.protocol.Pointer.{Pointer, write_version, write_named, write_pointer}
+use Rattle.parties.specs.protocol.Client.{work_size}
+use Rattle.parties.specs.protocol.Deposit.{pointer_of}
 use Rattle.parties.proofs.protocol.formats.FormatLaws.{length-same}
 use Rattle.parties.proofs.protocol.formats.EachLaws.{each_map}
 use Rattle.parties.proofs.protocol.formats.NodeMapLaws.{nodes-all}
 use Rattle.parties.proofs.protocol.formats.PointerLaws.{length-number, length-version, length-pointer}
-use Rattle.parties.specs.records.Places.{versionAt, splice}
-use Rattle.parties.specs.client.Publish.{digestsIn, pointerFrom}
-use Rattle.parties.proofs.records.NodesLaws.{bit-of}
-use Rattle.parties.proofs.records.SpliceLaws.{paste_all, length-splice, splice-next, splice-self, many-append}
+use Rattle.parties.specs.records.Places.{version_at, splice}
+use Rattle.parties.specs.client.Publish.{digests_in, pointer_from}
+use Rattle.parties.proofs.records.NodesLaws.{bit_of}
+use Rattle.parties.proofs.records.SpliceLaws.{paste_all, length-splice, splice-next, splice_self, many-append}
 use Rattle.parties.proofs.node.FreeingLaws.{drop-splice}
 use Rattle.parties.proofs.node.ShownLaws.{version-bytes}
 use Rattle.parties.proofs.client.FormLaws.{sizes}
@@ -45,30 +45,30 @@ splice-before t at k x y e h =
 
 -- those of the nodes up to i that the map names, as they are written
 abbrev gathered : ℕ → ℕ → List ℕ → ℕ → ℕ → List ℕ
-gathered n map t at i = writeMany (λ d. d) (each (λ j. get_or (digestsIn n t at) (j - 1) []) (nodesOf map i))
+gathered n map t at i = write_many (λ d. d) (each (λ j. get_or (digests_in n t at) (j - 1) []) (nodes_of map i))
 
 module _ (n map : ℕ) (t : List ℕ) (at : ℕ) where
   abbrev digest : ℕ → List ℕ
-  digest j = get_or (digestsIn n t at) (j - 1) []
+  digest j = get_or (digests_in n t at) (j - 1) []
 
   gathered_none : gathered n map t at 0 ≡ []
-  unfolding writeMany
-  gathered_none = ap (λ (l : List ℕ). writeMany (λ d. d) (each digest l)) (nodes-start map)
+  unfolding write_many
+  gathered_none = ap (λ (l : List ℕ). write_many (λ d. d) (each digest l)) (nodes_start map)
 
-  gathered-skip : (i : ℕ) → stands map (i + 1) ≡ false → gathered n map t at (i + 1) ≡ gathered n map t at i
-  gathered-skip i e = ap (λ (l : List ℕ). writeMany (λ d. d) (each digest l)) (nodes-skip map i (sym (bit-of map i) ∙ e))
+  gathered_skip : (i : ℕ) → stands map (i + 1) ≡ false → gathered n map t at (i + 1) ≡ gathered n map t at i
+  gathered_skip i e = ap (λ (l : List ℕ). write_many (λ d. d) (each digest l)) (nodes_skip map i (sym (bit_of map i) ∙ e))
 
-  gathered-more : (i : ℕ) → i < n → stands map (i + 1) ≡ true
+  gathered_more : (i : ℕ) → i < n → stands map (i + 1) ≡ true
       → gathered n map t at (i + 1) ≡ gathered n map t at i ++ take 32 (drop (at + 7 + 32 * i) t)
-  unfolding writeMany
-  gathered-more i h e =
+  unfolding write_many
+  gathered_more i h e =
       let z : i + 1 - 1 ≡ i = omega arith in
-      ap (λ (l : List ℕ). writeMany (λ d. d) (each digest l)) (nodes-more map i (sym (bit-of map i) ∙ e))
-      ∙ ap (writeMany (λ d. d)) (map-append digest (nodesOf map i) ((i + 1) ∷ []))
-      ∙ many-append (λ d. d) (each digest (nodesOf map i)) (digest (i + 1) ∷ [])
+      ap (λ (l : List ℕ). write_many (λ d. d) (each digest l)) (nodes-more map i (sym (bit_of map i) ∙ e))
+      ∙ ap (write_many (λ d. d)) (map-append digest (nodes_of map i) ((i + 1) ∷ []))
+      ∙ many-append (λ d. d) (each digest (nodes_of map i)) (digest (i + 1) ∷ [])
       ∙ ap (λ (l : List ℕ). gathered n map t at i ++ l)
-      (append-nil (digest (i + 1)) ∙ ap (λ (j : ℕ). get_or (digestsIn n t at) j []) z
-      ∙ get_d_tabulate n (λ j. take 32 (drop (at + 7 + 32 * j) t)) i [] h)
+      (append-nil (digest (i + 1)) ∙ ap (λ (j : ℕ). get_or (digests_in n t at) j []) z
+      ∙ get_or-tabulate n (λ j. take 32 (drop (at + 7 + 32 * j) t)) i [] h)
 
   module _ (ht : at + 7 + 32 * n ≤ length t) where
     part_length : (i : ℕ) → i < n → length (take 32 (drop (at + 7 + 32 * i) t)) ≡ 32
@@ -76,15 +76,15 @@ module _ (n map : ℕ) (t : List ℕ) (at : ℕ) where
 
     digest-length : (j : ℕ) → 1 ≤ j → j ≤ n → length (digest j) ≡ 32
     digest-length j a b =
-        ap length (get_d_tabulate n (λ i. take 32 (drop (at + 7 + 32 * i) t)) (j - 1) [] (omega arith)) ∙ part_length (j - 1) (omega arith)
+        ap length (get_or-tabulate n (λ i. take 32 (drop (at + 7 + 32 * i) t)) (j - 1) [] (omega arith)) ∙ part_length (j - 1) (omega arith)
 
-    gathered-length : (i : ℕ) → i ≤ n → length (gathered n map t at i) ≡ 32 * length (nodesOf map i)
-    gathered-length i h =
-        length-same (λ d. d) (λ d. length d ≡ 32) 32 (λ d g. g) (each digest (nodesOf map i))
-        (each_map (λ d. length d ≡ 32) digest 0 (nodesOf map i)
+    gathered_length : (i : ℕ) → i ≤ n → length (gathered n map t at i) ≡ 32 * length (nodes_of map i)
+    gathered_length i h =
+        length-same (λ d. d) (λ d. length d ≡ 32) 32 (λ d g. g) (each digest (nodes_of map i))
+        (each_map (λ d. length d ≡ 32) digest 0 (nodes_of map i)
         (λ k b.
-        let x = nodes-within map i k b in digest-length (get_or (nodesOf map i) k 0) x.0 (omega (arith, x.1))))
-        ∙ omega (arith, length-map (nodesOf map i) digest)
+        let x = nodes-within map i k b in digest-length (get_or (nodes_of map i) k 0) x.0 (omega (arith, x.1))))
+        ∙ omega (arith, length-map (nodes_of map i) digest)
 
 -- ---- the walk
 
@@ -102,17 +102,17 @@ module _ (n map : ℕ) (t : List ℕ) (at : ℕ) (ht : at + 7 + 32 * n ≤ lengt
         within = omega arith;
         source = omega arith;
         target = omega (arith, ap length (gathered_none n map t at));
-        moved = splice-self t (at + 7) 0 ∙ ap (splice t (at + 7)) (sym (gathered_none n map t at));
+        moved = splice_self t (at + 7) 0 ∙ ap (splice t (at + 7)) (sym (gathered_none n map t at));
       }
 
   module _ (u : List ℕ) (from to i : ℕ) (w : Gathered n map t at u from to i) where
-    pub walk-down : to ≤ from
-    walk-down = omega (arith, w.source, w.target, gathered-length n map t at ht i w.within, nodes-few map i)
+    pub walk_down : to ≤ from
+    walk_down = omega (arith, w.source, w.target, gathered_length n map t at ht i w.within, nodes-few map i)
 
-    pub walk-length : length u ≡ length t
-    walk-length =
+    pub walk_length : length u ≡ length t
+    walk_length =
         ap length w.moved
-        ∙ length-splice t (at + 7) (gathered n map t at i) (omega (arith, gathered-length n map t at ht i w.within, nodes-few map i, w.within))
+        ∙ length-splice t (at + 7) (gathered n map t at i) (omega (arith, gathered_length n map t at ht i w.within, nodes-few map i, w.within))
 
     pub walk_more : i < n → (r : ℕ) (v : List ℕ) → r ≡ cond (stands map (i + 1)) (to + 32) to
         → v ≡ cond (stands map (i + 1)) (splice u to (take 32 (drop from u))) u
@@ -125,86 +125,86 @@ module _ (n map : ℕ) (t : List ℕ) (at : ℕ) (ht : at + 7 + 32 * n ≤ lengt
             let g = gathered n map t at i in
             let d = take 32 (drop (at + 7 + 32 * i) t) in
             let ld : length d ≡ 32 = part_length n map t at ht i h in
-            let lg : at + 7 + length g ≤ from = omega (arith, walk-down, w.target) in
+            let lg : at + 7 + length g ≤ from = omega (arith, walk_down, w.target) in
             let f : drop from u ≡ drop (at + 7 + 32 * i) t =
             ap (drop from) w.moved ∙ drop-splice t (at + 7) g (omega arith) from lg ∙ ap (λ (k : ℕ). drop k t) w.source
             in
             record {
               within = omega arith;
               source = omega (arith, w.source);
-              target = omega (arith, x, w.target, ap length (gathered-more n map t at i h e), length-append g d, ld);
+              target = omega (arith, x, w.target, ap length (gathered_more n map t at i h e), length-append g d, ld);
               moved =
                   y ∙ (λ j. splice (w.moved j) to (take 32 (f j)))
-                  ∙ splice-next t (at + 7) g d to w.target (omega (arith, walk-down, w.source, ld))
-                  ∙ ap (splice t (at + 7)) (sym (gathered-more n map t at i h e));
+                  ∙ splice-next t (at + 7) g d to w.target (omega (arith, walk_down, w.source, ld))
+                  ∙ ap (splice t (at + 7)) (sym (gathered_more n map t at i h e));
             }
         go false e x y =
             record {
               within = omega arith;
               source = omega (arith, w.source);
-              target = x ∙ w.target ∙ ap (λ (l : List ℕ). at + 7 + length l) (sym (gathered-skip n map t at i e));
-              moved = y ∙ w.moved ∙ ap (splice t (at + 7)) (sym (gathered-skip n map t at i e));
+              target = x ∙ w.target ∙ ap (λ (l : List ℕ). at + 7 + length l) (sym (gathered_skip n map t at i e));
+              moved = y ∙ w.moved ∙ ap (splice t (at + 7)) (sym (gathered_skip n map t at i e));
             }
 
 -- all digests that the pointer names
 module _ (s : Measures) (h : passes s ≡ true) (map : ℕ) (b : map < 2 ^ s.n) (t : List ℕ) (at : ℕ) where
   abbrev p : Pointer
-  p = pointerFrom s map t at
+  p = pointer_from s map t at
 
   abbrev digests : List ℕ
-  digests = writeMany (λ d. d) p.named.digests
+  digests = write_many (λ d. d) p.named.digests
 
-  digests-are : gathered s.n map t at s.n ≡ digests
-  unfolding pointerFrom pointerOf
-  digests-are =
-      ap (λ (l : List ℕ). writeMany (λ d. d) (each (λ j. get_or (digestsIn s.n t at) (j - 1) []) l)) (sym (nodes-all map s.n b (sizes s h).nodes))
+  digests_are : gathered s.n map t at s.n ≡ digests
+  unfolding pointer_from pointer_of
+  digests_are =
+      ap (λ (l : List ℕ). write_many (λ d. d) (each (λ j. get_or (digests_in s.n t at) (j - 1) []) l)) (sym (nodes-all map s.n b (sizes s h).nodes))
 
-  pub walk-all : (u : List ℕ) (from to i : ℕ) → Gathered s.n map t at u from to i → s.n ≤ i → u ≡ splice t (at + 7) digests
-  walk-all u from to i w l =
+  pub walk_all : (u : List ℕ) (from to i : ℕ) → Gathered s.n map t at u from to i → s.n ≤ i → u ≡ splice t (at + 7) digests
+  walk_all u from to i w l =
       let e : i ≡ s.n = omega (arith, w.within) in
-      w.moved ∙ ap (λ (k : ℕ). splice t (at + 7) (gathered s.n map t at k)) e ∙ ap (splice t (at + 7)) digests-are
+      w.moved ∙ ap (λ (k : ℕ). splice t (at + 7) (gathered s.n map t at k)) e ∙ ap (splice t (at + 7)) digests_are
 
   -- ---- the pointer
-  module _ (f : count map ≡ s.t + s.k) (ht : at + workSize s ≤ length t) where
+  module _ (f : count map ≡ s.t + s.k) (ht : at + work_size s ≤ length t) where
     digests-length : length digests ≡ 32 * (s.t + s.k)
     digests-length =
-        sym (ap length digests-are)
-        ∙ gathered-length s.n map t at (omega (arith, (sizes s h).pieces)) s.n (omega arith)
+        sym (ap length digests_are)
+        ∙ gathered_length s.n map t at (omega (arith, (sizes s h).pieces)) s.n (omega arith)
         ∙ omega (arith, ap length (nodes-all map s.n b (sizes s h).nodes))
 
-    formed-length : length (writePointer p) ≡ pointerSize s
-    formed-length = length-pointer p ∙ omega (arith, digests-length)
+    formed_length : length (write_pointer p) ≡ pointer_size s
+    formed_length = length-pointer p ∙ omega (arith, digests-length)
 
-    pointer-written : writeVersion (versionAt t at) ++ (writeNumber 2 map ++ digests) ≡ writePointer p
-    unfolding writePointer writeNamed pointerFrom pointerOf
+    pointer-written : write_version (version_at t at) ++ (write_number 2 map ++ digests) ≡ write_pointer p
+    unfolding write_pointer write_named pointer_from pointer_of
     pointer-written = refl
 
     -- the three writes
-    pub formed : Bytes t → (front size : ℕ) → front ≡ pointerSize s → size ≡ workSize s
-        → (u v w : List ℕ) → u ≡ splice t (at + 7) digests → v ≡ paste u (at + 5) (writeNumber 2 map) 2
+    pub formed : Bytes t → (front size : ℕ) → front ≡ pointer_size s → size ≡ work_size s
+        → (u v w : List ℕ) → u ≡ splice t (at + 7) digests → v ≡ paste u (at + 5) (write_number 2 map) 2
         → w ≡ paste v (at + front) (replicate (at + size - (at + front)) 0) (at + size - (at + front))
-        → w ≡ paste t at (writePointer p ++ replicate (workSize s - pointerSize s) 0) (workSize s)
+        → w ≡ paste t at (write_pointer p ++ replicate (work_size s - pointer_size s) 0) (work_size s)
     formed bt front size ef es u v w eu ev ew =
-        let x = writeVersion (versionAt t at) in
-        let y = writeNumber 2 map in
-        let k : ℕ = workSize s - pointerSize s in
+        let x = write_version (version_at t at) in
+        let y = write_number 2 map in
+        let k : ℕ = work_size s - pointer_size s in
         let z = replicate {A = ℕ} k 0 in
-        let lx : length x ≡ 5 = length-version (versionAt t at) in
+        let lx : length x ≡ 5 = length-version (version_at t at) in
         let ly : length y ≡ 2 = length-number 2 map in
         let lz : length z ≡ k = length-replicate {A = ℕ} k 0 in
         let ld : length (y ++ digests) ≡ 2 + 32 * (s.t + s.k) = omega (arith, length-append y digests, digests-length) in
-        let lp : length (writePointer p) ≡ pointerSize s = formed-length in
-        let ep : at + front ≡ at + pointerSize s = omega arith in
+        let lp : length (write_pointer p) ≡ pointer_size s = formed_length in
+        let ep : at + front ≡ at + pointer_size s = omega arith in
         let ek : at + size - (at + front) ≡ k = omega arith in
-        let a : v ≡ splice t at (writePointer p) =
+        let a : v ≡ splice t at (write_pointer p) =
         ev ∙ ap (λ (l : List ℕ). paste l (at + 5) y 2) eu ∙ paste_all (splice t (at + 7) digests) (at + 5) y 2 (sym ly)
         ∙ splice-before t (at + 5) (at + 7) y digests (omega arith) (omega arith)
         ∙ ap (λ (l : List ℕ). splice l (at + 5) (y ++ digests))
-        (splice-self t at 5 ∙ ap (splice t at) (version-bytes t at bt (omega arith)))
+        (splice_self t at 5 ∙ ap (splice t at) (version-bytes t at bt (omega arith)))
         ∙ splice-next t at x (y ++ digests) (at + 5) (omega arith) (omega arith)
         ∙ ap (splice t at) pointer-written
         in
         ew ∙ (λ i. paste (a i) (ep i) (replicate (ek i) 0) (ek i))
-        ∙ paste_all (splice t at (writePointer p)) (at + pointerSize s) z k (sym lz)
-        ∙ splice-next t at (writePointer p) z (at + pointerSize s) (omega arith) (omega arith)
-        ∙ sym (paste_all t at (writePointer p ++ z) (workSize s) (omega (arith, length-append (writePointer p) z)))
+        ∙ paste_all (splice t at (write_pointer p)) (at + pointer_size s) z k (sym lz)
+        ∙ splice-next t at (write_pointer p) z (at + pointer_size s) (omega arith) (omega arith)
+        ∙ sym (paste_all t at (write_pointer p ++ z) (work_size s) (omega (arith, length-append (write_pointer p) z)))

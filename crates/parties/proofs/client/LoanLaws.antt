@@ -30,8 +30,8 @@ use Rattle.parties.specs.contracts.Turned as T
 use Rattle.parties.proofs.Turned.TheLaws as T'
 
 -- the machine value of the struct
-abbrev pub structVal : Phase → Val
-structVal = LL.val S.the_type S'.the_laws
+abbrev pub struct_val : Phase → Val
+struct_val = LL.val S.the_type S'.the_laws
 
 abbrev pub StructIs : Phase → Type 0
 StructIs h = Is S.the_row h (LL.vals S.the_type S'.the_laws h)
@@ -51,7 +51,7 @@ answer_at r u is = subst (Is N.the_row r) (EL.tells N.the_type N'.the_laws r (u 
 
 module _ {M : Type 1} {𝓤 : Ura M} (𝓛 : Logic 𝓤) (h : Phase) (b o : ℕ) where
   abbrev pub cell : Fml
-  cell = fat full_share S'.mir b o (structVal h)
+  cell = fat full_share S'.mir b o (struct_val h)
 
   abbrev pub Lies : Fml
   Lies = part_at S.the_row full_share h b o
@@ -59,12 +59,12 @@ module _ {M : Type 1} {𝓤 : Ura M} (𝓛 : Logic 𝓤) (h : Phase) (b o : ℕ)
   pub cell_in : StructIs h → ent 𝓤 (sem 𝓛 cell) (sem 𝓛 Lies)
   unfolding part_of
   cell_in g =
-      qed 𝓛 (‵ cell ∷ []) ∵ use1 𝓛 (‵ (cell_at full_share (S.the_row).mir (structVal h ∷ []) b o)) (𝓛.laws.at_raw full_share S'.mir b o (structVal h)) $
-      owned ! S.the_row (Is S.the_row) (LL.makes S.the_type S'.the_plain 𝓛) h _ g $ move ! (1 ∷ 0 ∷ []) $ fjoin ! $ fpack ! (List Val) (λ us. fsep (cell_at full_share (S.the_row).mir us b o) ((S.the_row).own_val h us)) (structVal h ∷ []) $ done !
+      qed 𝓛 (‵ cell ∷ []) ∵ use1 𝓛 (‵ (cell_at full_share (S.the_row).mir (struct_val h ∷ []) b o)) (𝓛.laws.at_raw full_share S'.mir b o (struct_val h)) $
+      owned ! S.the_row (Is S.the_row) (LL.makes S.the_type S'.the_plain 𝓛) h _ g $ move ! (1 ∷ 0 ∷ []) $ fjoin ! $ fpack ! (List Val) (λ us. fsep (cell_at full_share (S.the_row).mir us b o) ((S.the_row).own_val h us)) (struct_val h ∷ []) $ done !
 
   pub cell_out : ent 𝓤 (sem 𝓛 Lies) (guard 𝓤 (StructIs h) (sem 𝓛 cell))
   unfolding part_of
   cell_out =
       qed 𝓛 (‵ Lies ∷ []) ∵ fpick ! (λ vs. fsplit ! $ spelt ! S.the_row (Is S.the_row) (shows 𝓛 S.the_row) (LL.vals S.the_type S'.the_laws) (LL.tells S.the_type S'.the_laws) full_share h vs b o $
-      move ! (1 ∷ []) $ peeks ! S.the_row (Is S.the_row) (shows 𝓛 S.the_row) h (structVal h ∷ []) (λ g. drop ! $
-      use1 𝓛 (‵ cell) (𝓛.laws.raw_at full_share S'.mir b o (structVal h)) $ by ! (guard_i 𝓤 (StructIs h) (sem 𝓛 cell) g)))
+      move ! (1 ∷ []) $ peeks ! S.the_row (Is S.the_row) (shows 𝓛 S.the_row) h (struct_val h ∷ []) (λ g. drop ! $
+      use1 𝓛 (‵ cell) (𝓛.laws.raw_at full_share S'.mir b o (struct_val h)) $ by ! (guard_i 𝓤 (StructIs h) (sem 𝓛 cell) g)))

@@ -9,10 +9,10 @@ use lib.ListN.{length, take, drop}
 use Rattle.parties.specs.declared.Measures.{Measures}
 use Rattle.parties.specs.protocol.Measures.{passes}
 use Rattle.parties.specs.protocol.Answer.{refuses, serves}
-use Rattle.parties.specs.protocol.Directory.{readDirectory}
-use Rattle.parties.specs.protocol.Owner.{ownRows}
-use Rattle.parties.specs.protocol.Verdict.{broken, rowsVerdict}
-use Rattle.parties.specs.protocol.DirectoryEvents.{DirectoryEnd, directorySize, scanned, directoryScan}
+use Rattle.parties.specs.protocol.Directory.{read_directory}
+use Rattle.parties.specs.protocol.Owner.{own_rows}
+use Rattle.parties.specs.protocol.Verdict.{broken, rows_verdict}
+use Rattle.parties.specs.protocol.DirectoryEvents.{DirectoryEnd, directory_size, scanned, directory_scan}
 use Rattle.parties.specs.records.Form.{rest, holds}
 use Rattle.parties.proofs.records.RecordLaws.{rows-sound}
 
@@ -26,29 +26,29 @@ ends-table x e q = (sym (ap (λ (d : DirectoryEnd). d.answer) q), sym (ap (λ (d
 -- ---- scan
 
 module _ (s : Measures) (table room : List ℕ) where
-  pub scan-measures : passes s ≡ false → directoryScan s table room ≡ record { answer = refuses 1; table = table; room = room }
-  unfolding directoryScan
+  pub scan-measures : passes s ≡ false → directory_scan s table room ≡ record { answer = refuses 1; table = table; room = room }
+  unfolding directory_scan
   scan-measures p = simp p
 
   module _ (p : passes s ≡ true) where
-    pub scan-short-table : length table < directorySize s → directoryScan s table room ≡ record { answer = refuses 2; table = table; room = room }
-    unfolding directoryScan
-    scan-short-table h = simp (p, lt-leb (directorySize s) (length table) h)
+    pub scan-short-table : length table < directory_size s → directory_scan s table room ≡ record { answer = refuses 2; table = table; room = room }
+    unfolding directory_scan
+    scan-short-table h = simp (p, lt-leb (directory_size s) (length table) h)
 
-    pub scan-short-room : directorySize s ≤ length table → length room < directorySize s
-        → directoryScan s table room ≡ record { answer = refuses 2; table = table; room = room }
-    unfolding directoryScan
-    scan-short-room g h = simp (p, le-leb (directorySize s) (length table) g, lt-leb (directorySize s) (length room) h)
+    pub scan-short-room : directory_size s ≤ length table → length room < directory_size s
+        → directory_scan s table room ≡ record { answer = refuses 2; table = table; room = room }
+    unfolding directory_scan
+    scan-short-room g h = simp (p, le-leb (directory_size s) (length table) g, lt-leb (directory_size s) (length room) h)
 
-    module _ (g : directorySize s ≤ length table) (h : directorySize s ≤ length room) where
-      scan-reads : directoryScan s table room ≡ scanned s table room (rowsVerdict s table)
-      unfolding directoryScan
-      scan-reads = simp (p, le-leb (directorySize s) (length table) g, le-leb (directorySize s) (length room) h)
+    module _ (g : directory_size s ≤ length table) (h : directory_size s ≤ length room) where
+      scan-reads : directory_scan s table room ≡ scanned s table room (rows_verdict s table)
+      unfolding directory_scan
+      scan-reads = simp (p, le-leb (directory_size s) (length table) g, le-leb (directory_size s) (length room) h)
 
-      pub scan-broken : (n : ℕ) → rowsVerdict s table ≡ broken n → directoryScan s table room ≡ record { answer = refuses n; table = table; room = room }
+      pub scan-broken : (n : ℕ) → rows_verdict s table ≡ broken n → directory_scan s table room ≡ record { answer = refuses n; table = table; room = room }
       scan-broken n e = scan-reads ∙ ap (scanned s table room) e
 
-      pub scan-rows : (v : List ℕ) → rest (readDirectory s table) ≡ some v → true ≡ holds (ownRows 0) (readDirectory s table)
-          → directoryScan s table room
-          ≡ record { answer = serves (directorySize s); table = table; room = take (directorySize s) table ++ drop (directorySize s) room }
+      pub scan-rows : (v : List ℕ) → rest (read_directory s table) ≡ some v → true ≡ holds (own_rows 0) (read_directory s table)
+          → directory_scan s table room
+          ≡ record { answer = serves (directory_size s); table = table; room = take (directory_size s) table ++ drop (directory_size s) room }
       scan-rows v e o = scan-reads ∙ ap (scanned s table room) (rows-sound s table v e o).2

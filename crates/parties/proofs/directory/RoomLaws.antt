@@ -7,58 +7,58 @@ use native.Mathlib.Numerals.{add-one}
 use native.Mathlib.Omega.{arith}
 use lib.ListN.{length, take, drop, set, replicate, length-append, length-replicate, replicate-append-replicate}
 use lib.Seq.{length-take-le, take_at, drop_at, drop-append-add, set_at, paste, drop-drop, take-append-add}
-use Rattle.parties.specs.protocol.Format.{writeMany}
-use Rattle.parties.specs.directory.Room.{longestRow, Built}
+use Rattle.parties.specs.protocol.Format.{write_many}
+use Rattle.parties.specs.directory.Room.{longest_row, Built}
 
 -- zeros, some of them first
-zeros-split : (n k : ℕ) → n ≤ k → replicate {A = ℕ} k 0 ≡ replicate n 0 ++ replicate (k - n) 0
-zeros-split n k h =
+zeros_split : (n k : ℕ) → n ≤ k → replicate {A = ℕ} k 0 ≡ replicate n 0 ++ replicate (k - n) 0
+zeros_split n k h =
     let e : n + (k - n) ≡ k = omega arith in sym (replicate-append-replicate n (k - n) 0 ∙ ap (λ (x : ℕ). replicate {A = ℕ} x 0) e)
 
-zeros-drop : (n k : ℕ) → n ≤ k → drop n (replicate {A = ℕ} k 0) ≡ replicate (k - n) 0
-zeros-drop n k h = rw (zeros-split n k h) (drop_at (replicate n 0) (replicate (k - n) 0) n (length-replicate {A = ℕ} n 0))
+zeros_drop : (n k : ℕ) → n ≤ k → drop n (replicate {A = ℕ} k 0) ≡ replicate (k - n) 0
+zeros_drop n k h = rw (zeros_split n k h) (drop_at (replicate n 0) (replicate (k - n) 0) n (length-replicate {A = ℕ} n 0))
 
-built-none : Built [] (replicate longestRow 0)
-built-none = record { fits = omega arith; bytes = refl }
+built_none : Built [] (replicate longest_row 0)
+built_none = record { fits = omega arith; bytes = refl }
 
 module _ (p room : List ℕ) (b : Built p room) where
-  pub built-length : length room ≡ longestRow
-  built-length =
-      let f : length p ≤ longestRow = b.fits in
-      omega (arith, ap length b.bytes, length-append p (replicate (longestRow - length p) 0), length-replicate {A = ℕ} (longestRow - length p) 0)
+  pub built_length : length room ≡ longest_row
+  built_length =
+      let f : length p ≤ longest_row = b.fits in
+      omega (arith, ap length b.bytes, length-append p (replicate (longest_row - length p) 0), length-replicate {A = ℕ} (longest_row - length p) 0)
 
   -- bytes after those that stand
-  pub built-part : (q : List ℕ) (n : ℕ) → n ≤ length q → length p + n ≤ longestRow → Built (p ++ take n q) (paste room (length p) q n)
-  built-part q n h l =
+  pub built_part : (q : List ℕ) (n : ℕ) → n ≤ length q → length p + n ≤ longest_row → Built (p ++ take n q) (paste room (length p) q n)
+  built_part q n h l =
       let t : length (take n q) ≡ n = length-take-le n q h in
-      let z = replicate {A = ℕ} (longestRow - length p) 0 in
+      let z = replicate {A = ℕ} (longest_row - length p) 0 in
       let f : length (p ++ take n q) ≡ length p + n = length-append p (take n q) ∙ ap (λ (x : ℕ). length p + x) t in
-      let k : longestRow - length p - n ≡ longestRow - length (p ++ take n q) = omega arith in
+      let k : longest_row - length p - n ≡ longest_row - length (p ++ take n q) = omega arith in
       record {
         fits = omega arith;
         bytes = ap₂ (λ (x y : List ℕ). (x ++ take n q) ++ y)
             (ap (take (length p)) b.bytes ∙ take_at p z (length p) refl)
-            (ap (drop (length p + n)) b.bytes ∙ drop-append-add p z n ∙ zeros-drop n (longestRow - length p) (omega arith) ∙ ap (λ (x : ℕ). replicate x 0) k);
+            (ap (drop (length p + n)) b.bytes ∙ drop-append-add p z n ∙ zeros_drop n (longest_row - length p) (omega arith) ∙ ap (λ (x : ℕ). replicate x 0) k);
       }
 
   -- zeros stand already
-  pub built-zeros : (n : ℕ) → length p + n ≤ longestRow → Built (p ++ replicate n 0) room
-  built-zeros n l =
+  pub built_zeros : (n : ℕ) → length p + n ≤ longest_row → Built (p ++ replicate n 0) room
+  built_zeros n l =
       let f : length (p ++ replicate n 0) ≡ length p + n = length-append p (replicate n 0) ∙ ap (λ (x : ℕ). length p + x) (length-replicate {A = ℕ} n 0) in
-      let k : longestRow - length p - n ≡ longestRow - length (p ++ replicate n 0) = omega arith in
+      let k : longest_row - length p - n ≡ longest_row - length (p ++ replicate n 0) = omega arith in
       record {
         fits = omega arith;
         bytes = b.bytes
-            ∙ ap (λ (x : List ℕ). p ++ x) (zeros-split n (longestRow - length p) (omega arith))
-            ∙ sym (append_assoc p (replicate n 0) (replicate (longestRow - length p - n) 0))
+            ∙ ap (λ (x : List ℕ). p ++ x) (zeros_split n (longest_row - length p) (omega arith))
+            ∙ sym (append_assoc p (replicate n 0) (replicate (longest_row - length p - n) 0))
             ∙ ap (λ (x : ℕ). (p ++ replicate n 0) ++ replicate x 0) k;
       }
 
-  pub built-byte : (v : ℕ) → length p < longestRow → Built (p ++ (v ∷ [])) (set room (length p) v)
-  built-byte v l =
+  pub built_byte : (v : ℕ) → length p < longest_row → Built (p ++ (v ∷ [])) (set room (length p) v)
+  built_byte v l =
       let f : length (p ++ (v ∷ [])) ≡ length p + 1 = length-append p (v ∷ []) in
-      let k : longestRow - length p ≡ suc (longestRow - length (p ++ (v ∷ []))) = omega arith in
-      let z = replicate {A = ℕ} (longestRow - length (p ++ (v ∷ []))) 0 in
+      let k : longest_row - length p ≡ suc (longest_row - length (p ++ (v ∷ []))) = omega arith in
+      let z = replicate {A = ℕ} (longest_row - length (p ++ (v ∷ []))) 0 in
       record {
         fits = omega arith;
         bytes = ap (λ (x : List ℕ). set x (length p) v) (b.bytes ∙ ap (λ (x : ℕ). p ++ replicate x 0) k)
@@ -67,48 +67,48 @@ module _ (p room : List ℕ) (b : Built p room) where
       }
 
   -- the row's area
-  pub built-area : (size : ℕ) → length p ≤ size → size ≤ longestRow → take size room ≡ p ++ replicate (size - length p) 0
-  built-area size h l =
+  pub built_area : (size : ℕ) → length p ≤ size → size ≤ longest_row → take size room ≡ p ++ replicate (size - length p) 0
+  built_area size h l =
       let e : size ≡ length p + (size - length p) = omega arith in
       let n = size - length p in
-      let k = longestRow - length p in
+      let k = longest_row - length p in
       ap₂ take e b.bytes
       ∙ take-append-add p (replicate k 0) n
-      ∙ ap (λ (x : List ℕ). p ++ x) (ap (take n) (zeros-split n k (omega arith))
+      ∙ ap (λ (x : List ℕ). p ++ x) (ap (take n) (zeros_split n k (omega arith))
       ∙ take_at (replicate n 0) (replicate (k - n) 0) n (length-replicate {A = ℕ} n 0))
 
 -- the map byte of a row
-pub built-map : (room : List ℕ) → room ≡ replicate longestRow 0 → Built (15 ∷ []) (set room 0 15)
-built-map room e = rw e (built-byte [] (replicate longestRow 0) built-none 15 (omega arith))
+pub built_map : (room : List ℕ) → room ≡ replicate longest_row 0 → Built (15 ∷ []) (set room 0 15)
+built_map room e = rw e (built_byte [] (replicate longest_row 0) built_none 15 (omega arith))
 
 -- ---- values of one length, one after the other
 
 module _ {A : Type 0} (w : A → List ℕ) where
-  pub many-none : (a : A) → writeMany w (replicate 0 a) ≡ []
-  unfolding writeMany
+  pub many-none : (a : A) → write_many w (replicate 0 a) ≡ []
+  unfolding write_many
   many-none a = refl
 
-  pub many-first : (a : A) (i : ℕ) → writeMany w (replicate (suc i) a) ≡ w a ++ writeMany w (replicate i a)
-  unfolding writeMany
+  pub many-first : (a : A) (i : ℕ) → write_many w (replicate (suc i) a) ≡ w a ++ write_many w (replicate i a)
+  unfolding write_many
   many-first a i = refl
 
-  pub many-replicated : (a : A) (k i : ℕ) → length (w a) ≡ k → length (writeMany w (replicate i a)) ≡ i * k
-  unfolding writeMany
-  many-replicated a k zero h = omega arith
-  many-replicated a k (suc i) h = length-append (w a) (writeMany w (replicate i a)) ∙ omega (arith, many-replicated a k i h, suc-mul i k)
+  pub many_replicated : (a : A) (k i : ℕ) → length (w a) ≡ k → length (write_many w (replicate i a)) ≡ i * k
+  unfolding write_many
+  many_replicated a k zero h = omega arith
+  many_replicated a k (suc i) h = length-append (w a) (write_many w (replicate i a)) ∙ omega (arith, many_replicated a k i h, suc-mul i k)
 
-  pub many-last : (a : A) (i : ℕ) → writeMany w (replicate i a) ++ w a ≡ writeMany w (replicate (suc i) a)
-  unfolding writeMany
+  pub many-last : (a : A) (i : ℕ) → write_many w (replicate i a) ++ w a ≡ write_many w (replicate (suc i) a)
+  unfolding write_many
   many-last a zero = sym (append-nil (w a))
-  many-last a (suc i) = append_assoc (w a) (writeMany w (replicate i a)) (w a) ∙ ap (λ (x : List ℕ). w a ++ x) (many-last a i)
+  many-last a (suc i) = append_assoc (w a) (write_many w (replicate i a)) (w a) ∙ ap (λ (x : List ℕ). w a ++ x) (many-last a i)
 
   -- one more of them over the front of what is left
-  pub many-pasted : (a : A) (k i : ℕ) (t u s : List ℕ) → length (w a) ≡ k → take k s ≡ w a → u ≡ writeMany w (replicate i a) ++ drop (i * k) t
-      → paste u (i * k) s k ≡ writeMany w (replicate (i + 1) a) ++ drop (i * k + k) t
-  many-pasted a k i t u s h d e =
-      let p = writeMany w (replicate i a) in
-      let l : length p ≡ i * k = many-replicated a k i h in
+  pub many_pasted : (a : A) (k i : ℕ) (t u s : List ℕ) → length (w a) ≡ k → take k s ≡ w a → u ≡ write_many w (replicate i a) ++ drop (i * k) t
+      → paste u (i * k) s k ≡ write_many w (replicate (i + 1) a) ++ drop (i * k + k) t
+  many_pasted a k i t u s h d e =
+      let p = write_many w (replicate i a) in
+      let l : length p ≡ i * k = many_replicated a k i h in
       ap₂ (λ (x y : List ℕ). x ++ y)
       (ap₂ (λ (x y : List ℕ). x ++ y) (ap (take (i * k)) e ∙ take_at p (drop (i * k) t) (i * k) l) d ∙ many-last a i
-      ∙ ap (λ (x : ℕ). writeMany w (replicate x a)) (sym (add-one i)))
+      ∙ ap (λ (x : ℕ). write_many w (replicate x a)) (sym (add-one i)))
       (ap (drop (i * k + k)) e ∙ ap (λ (x : ℕ). drop (x + k) (p ++ drop (i * k) t)) (sym l) ∙ drop-append-add p (drop (i * k) t) k ∙ drop-drop k (i * k) t)

@@ -11,22 +11,22 @@ use Rattle.coding.specs.Bytes.{Bytes}
 use Rattle.coding.proofs.BytesLaws.{stride}
 use Rattle.parties.specs.declared.Measures.{Measures}
 use Rattle.parties.specs.declared.Version.{Version}
-use Rattle.parties.specs.protocol.Format.{writeMany}
-use Rattle.parties.specs.protocol.Measures.{placeSize}
+use Rattle.parties.specs.protocol.Format.{write_many}
+use Rattle.parties.specs.protocol.Measures.{place_size}
 use Rattle.parties.specs.protocol.Version.{ascending}
-use Rattle.parties.specs.protocol.NodeTable.{Held, inOrder}
+use Rattle.parties.specs.protocol.NodeTable.{Held, in_order}
 use Rattle.parties.specs.protocol.Node.{release}
-use Rattle.parties.specs.records.Places.{versionAt, held_at, heldFrom, soundAt, every, splice, place_of}
-use Rattle.parties.specs.node.ToNode.{versionsFrom}
-use Rattle.parties.specs.node.NodeCode.{listBehind, listNames, Listed, Released}
+use Rattle.parties.specs.records.Places.{version_at, held_at, held_from, sound_at, every, splice, place_of}
+use Rattle.parties.specs.node.ToNode.{versions_from}
+use Rattle.parties.specs.node.NodeCode.{list_behind, list_names, Listed, Released}
 use Rattle.parties.proofs.records.PositionLaws.{from-none, every_first, one_less}
 use Rattle.parties.proofs.records.SpliceLaws.{length-splice}
-use Rattle.parties.proofs.node.ShownLaws.{place-bytes, place-fits, place-size}
-use Rattle.parties.proofs.node.DropLaws.{next-order, next-ascends, walk-behind, walk-named, walk_kept}
+use Rattle.parties.proofs.node.ShownLaws.{place_bytes, place_fits, place_size_lem}
+use Rattle.parties.proofs.node.DropLaws.{next-order, next-ascends, walk_behind, walk_named, walk_kept}
 
 -- what is read from a position on depends on the bytes there
-version-same : (t u : List ℕ) (at : ℕ) → drop at t ≡ drop at u → versionAt t at ≡ versionAt u at
-unfolding versionAt
+version-same : (t u : List ℕ) (at : ℕ) → drop at t ≡ drop at u → version_at t at ≡ version_at u at
+unfolding version_at
 version-same t u at e =
     λ i. record {
       sequence = record { 0 = ((first i * 256 + byte 1 i) * 256 + byte 2 i) * 256 + byte 3 i };
@@ -63,25 +63,25 @@ module _ (t : List ℕ) (at : ℕ) (x : List ℕ) (h : at ≤ length t) where
 -- the kept places so far and those still to be kept are all that are kept
 pub record Freeing (s : Measures) (t₀ b : List ℕ) (n m : ℕ) (t : List ℕ) (from left at more to kept : ℕ) : Type 0 where
   pub same : length t ≡ length t₀
-  pub place : to ≡ 2 + kept * placeSize s
+  pub place : to ≡ 2 + kept * place_size s
   pub lower : to ≤ from
   pub fewer : kept + left ≤ n
-  pub stop : from + left * placeSize s ≡ 2 + n * placeSize s
-  pub inside : 2 + n * placeSize s ≤ length t₀
+  pub stop : from + left * place_size s ≡ 2 + n * place_size s
+  pub inside : 2 + n * place_size s ≤ length t₀
   pub listed : at + more * 5 ≤ length b
   pub rest : drop from t ≡ drop from t₀
-  pub front : take to t ++ writeMany (place_of s) (release (versionsFrom b at more) (heldFrom (placeSize s) t₀ from left))
-      ≡ take 2 t₀ ++ writeMany (place_of s) (release (versionsFrom b 1 m) (heldFrom (placeSize s) t₀ 2 n))
-  pub many : kept + length (release (versionsFrom b at more) (heldFrom (placeSize s) t₀ from left)) ≡ length (release (versionsFrom b 1 m) (heldFrom (placeSize s) t₀ 2 n))
-  pub each : every (soundAt s t₀) (placeSize s) from left ≡ true
-  pub order : inOrder (heldFrom (placeSize s) t₀ from left) ≡ true
-  pub ascends : ascending (versionsFrom b at more) ≡ true
+  pub front : take to t ++ write_many (place_of s) (release (versions_from b at more) (held_from (place_size s) t₀ from left))
+      ≡ take 2 t₀ ++ write_many (place_of s) (release (versions_from b 1 m) (held_from (place_size s) t₀ 2 n))
+  pub many : kept + length (release (versions_from b at more) (held_from (place_size s) t₀ from left)) ≡ length (release (versions_from b 1 m) (held_from (place_size s) t₀ 2 n))
+  pub each : every (sound_at s t₀) (place_size s) from left ≡ true
+  pub order : in_order (held_from (place_size s) t₀ from left) ≡ true
+  pub ascends : ascending (versions_from b at more) ≡ true
 
-pub freeing-start : (s : Measures) (t b : List ℕ) (n m : ℕ) → Listed s t b n m → Freeing s t b n m t 2 n 1 m 2 0
-freeing-start s t b n m l =
+pub freeing_start : (s : Measures) (t b : List ℕ) (n m : ℕ) → Listed s t b n m → Freeing s t b n m t 2 n 1 m 2 0
+freeing_start s t b n m l =
     record {
       same = refl;
-      place = omega (arith, zero-mul (placeSize s));
+      place = omega (arith, zero-mul (place_size s));
       lower = omega arith;
       fewer = omega arith;
       stop = refl;
@@ -89,26 +89,26 @@ freeing-start s t b n m l =
       listed = l.list;
       rest = refl;
       front = refl;
-      many = zero-add (length (release (versionsFrom b 1 m) (heldFrom (placeSize s) t 2 n)));
+      many = zero-add (length (release (versions_from b 1 m) (held_from (place_size s) t 2 n)));
       each = l.each;
       order = l.order;
       ascends = l.ascends;
     }
 
 module _ (s : Measures) (t₀ b : List ℕ) (n m : ℕ) (t : List ℕ) (from left at more to kept : ℕ) (i : Freeing s t₀ b n m t from left at more to kept) where
-  pub freeing-end : left ≤ 0 → Released s t₀ b n m t kept
-  unfolding release writeMany
-  freeing-end h =
-      let z = placeSize s in
-      let e : heldFrom z t₀ from left ≡ [] = from-none (held_at t₀) z from left h in
+  pub freeing_end : left ≤ 0 → Released s t₀ b n m t kept
+  unfolding release write_many
+  freeing_end h =
+      let z = place_size s in
+      let e : held_from z t₀ from left ≡ [] = from-none (held_at t₀) z from left h in
       let k : left ≡ 0 = omega arith in
       let j : from ≡ 2 + n * z = omega (arith, i.stop, zero-mul z, ap (λ (x : ℕ). x * z) k) in
       record {
-        many = sym (omega (arith, ap (λ (l : List Held). length (release (versionsFrom b at more) l)) e)) ∙ i.many;
+        many = sym (omega (arith, ap (λ (l : List Held). length (release (versions_from b at more) l)) e)) ∙ i.many;
         front =
             ap (λ (x : ℕ). take x t) (sym i.place)
             ∙ sym (append-nil (take to t))
-            ∙ ap (λ (l : List Held). take to t ++ writeMany (place_of s) (release (versionsFrom b at more) l)) (sym e)
+            ∙ ap (λ (l : List Held). take to t ++ write_many (place_of s) (release (versions_from b at more) l)) (sym e)
             ∙ i.front;
         rest = rw (← j) i.rest;
         same = i.same;
@@ -116,19 +116,19 @@ module _ (s : Measures) (t₀ b : List ℕ) (n m : ℕ) (t : List ℕ) (from lef
       }
 
   module _ (h : 0 < left) where
-    next-stop : from + placeSize s + (left - 1) * placeSize s ≡ 2 + n * placeSize s
-    next-stop = omega (arith, i.stop, one_less left (placeSize s) h)
+    next_stop : from + place_size s + (left - 1) * place_size s ≡ 2 + n * place_size s
+    next_stop = omega (arith, i.stop, one_less left (place_size s) h)
 
-    pub place_inside : from + placeSize s ≤ length t₀
-    place_inside = omega (arith, next-stop, i.inside)
+    pub place_inside : from + place_size s ≤ length t₀
+    place_inside = omega (arith, next_stop, i.inside)
 
     -- the code reads the table as it is now
-    now-there : versionAt t from ≡ versionAt t₀ from
-    now-there = version-same t t₀ from i.rest
+    now_there : version_at t from ≡ version_at t₀ from
+    now_there = version-same t t₀ from i.rest
 
-    pub freeing-behind : listBehind (versionAt t from) b at more ≡ true → (0 < more) × Freeing s t₀ b n m t from left (at + 5) (more - 1) to kept
-    freeing-behind q =
-        let w = walk-behind (placeSize s) t₀ b from left at more h i.order (sym (ap (λ (v : Version). listBehind v b at more) now-there) ∙ q) in
+    pub freeing_behind : list_behind (version_at t from) b at more ≡ true → (0 < more) × Freeing s t₀ b n m t from left (at + 5) (more - 1) to kept
+    freeing_behind q =
+        let w = walk_behind (place_size s) t₀ b from left at more h i.order (sym (ap (λ (v : Version). list_behind v b at more) now_there) ∙ q) in
         let k : 0 < more = w.0 in (
           k,
           record {
@@ -140,53 +140,53 @@ module _ (s : Measures) (t₀ b : List ℕ) (n m : ℕ) (t : List ℕ) (from lef
             inside = i.inside;
             listed = omega (arith, i.listed);
             rest = i.rest;
-            front = ap (λ (l : List Held). take to t ++ writeMany (place_of s) l) (sym w.1) ∙ i.front;
+            front = ap (λ (l : List Held). take to t ++ write_many (place_of s) l) (sym w.1) ∙ i.front;
             many = ap (λ (l : List Held). kept + length l) (sym w.1) ∙ i.many;
             each = i.each;
             order = i.order;
-            ascends = next-ascends (placeSize s) t₀ b from left at more k i.ascends;
+            ascends = next-ascends (place_size s) t₀ b from left at more k i.ascends;
           },
         )
 
     -- the place after this one
-    next-rest : drop (from + placeSize s) t ≡ drop (from + placeSize s) t₀
-    next-rest = sym (drop-drop (placeSize s) from t) ∙ ap (drop (placeSize s)) i.rest ∙ drop-drop (placeSize s) from t₀
+    next-rest : drop (from + place_size s) t ≡ drop (from + place_size s) t₀
+    next-rest = sym (drop-drop (place_size s) from t) ∙ ap (drop (place_size s)) i.rest ∙ drop-drop (place_size s) from t₀
 
-    next-each : every (soundAt s t₀) (placeSize s) (from + placeSize s) (left - 1) ≡ true
-    next-each = (every_first (soundAt s t₀) (placeSize s) from left h i.each).1
+    next-each : every (sound_at s t₀) (place_size s) (from + place_size s) (left - 1) ≡ true
+    next-each = (every_first (sound_at s t₀) (place_size s) from left h i.each).1
 
-    pub freeing-named : listNames (versionAt t from) b at more ≡ true → Freeing s t₀ b n m t (from + placeSize s) (left - 1) at more to kept
-    freeing-named q =
-        let w = walk-named (placeSize s) t₀ b from left at more h (sym (ap (λ (v : Version). listNames v b at more) now-there) ∙ q) in
+    pub freeing_named : list_names (version_at t from) b at more ≡ true → Freeing s t₀ b n m t (from + place_size s) (left - 1) at more to kept
+    freeing_named q =
+        let w = walk_named (place_size s) t₀ b from left at more h (sym (ap (λ (v : Version). list_names v b at more) now_there) ∙ q) in
         record {
           same = i.same;
           place = i.place;
           lower = omega (arith, i.lower);
           fewer = omega (arith, i.fewer);
-          stop = next-stop;
+          stop = next_stop;
           inside = i.inside;
           listed = i.listed;
           rest = next-rest;
-          front = ap (λ (l : List Held). take to t ++ writeMany (place_of s) l) (sym w) ∙ i.front;
+          front = ap (λ (l : List Held). take to t ++ write_many (place_of s) l) (sym w) ∙ i.front;
           many = ap (λ (l : List Held). kept + length l) (sym w) ∙ i.many;
           each = next-each;
-          order = next-order (placeSize s) t₀ b from left at more h i.order;
+          order = next-order (place_size s) t₀ b from left at more h i.order;
           ascends = i.ascends;
         }
 
-    pub freeing-kept : Bytes t₀ → listBehind (versionAt t from) b at more ≡ false → listNames (versionAt t from) b at more ≡ false → (u : List ℕ)
-        → u ≡ splice t to (take (placeSize s) (drop from t)) → Freeing s t₀ b n m u (from + placeSize s) (left - 1) at more (to + placeSize s) (kept + 1)
-    unfolding writeMany
-    freeing-kept bs p q u e =
-        let z = placeSize s in
+    pub freeing_kept : Bytes t₀ → list_behind (version_at t from) b at more ≡ false → list_names (version_at t from) b at more ≡ false → (u : List ℕ)
+        → u ≡ splice t to (take (place_size s) (drop from t)) → Freeing s t₀ b n m u (from + place_size s) (left - 1) at more (to + place_size s) (kept + 1)
+    unfolding write_many
+    freeing_kept bs p q u e =
+        let z = place_size s in
         let x = held_at t₀ from in
-        let w = walk_kept z t₀ b from left at more h i.ascends (sym (ap (λ (v : Version). listBehind v b at more) now-there) ∙ p) (sym (ap (λ (v : Version). listNames v b at more) now-there) ∙ q) in
-        let sound : soundAt s t₀ from ≡ true = (every_first (soundAt s t₀) z from left h i.each).0 in
-        let piece : take z (drop from t) ≡ place_of s x = ap (take z) i.rest ∙ place-bytes s t₀ from bs place_inside sound in
-        let size : length (place_of s x) ≡ z = place-size s x (place-fits s t₀ from bs place_inside sound) in
+        let w = walk_kept z t₀ b from left at more h i.ascends (sym (ap (λ (v : Version). list_behind v b at more) now_there) ∙ p) (sym (ap (λ (v : Version). list_names v b at more) now_there) ∙ q) in
+        let sound : sound_at s t₀ from ≡ true = (every_first (sound_at s t₀) z from left h i.each).0 in
+        let piece : take z (drop from t) ≡ place_of s x = ap (take z) i.rest ∙ place_bytes s t₀ from bs place_inside sound in
+        let size : length (place_of s x) ≡ z = place_size_lem s x (place_fits s t₀ from bs place_inside sound) in
         let eu : u ≡ splice t to (place_of s x) = e ∙ ap (splice t to) piece in
         let fits : to + length (place_of s x) ≤ length t = omega (arith, size, i.lower, i.same, place_inside) in
-        let r = release (versionsFrom b at more) (heldFrom z t₀ (from + z) (left - 1)) in
+        let r = release (versions_from b at more) (held_from z t₀ (from + z) (left - 1)) in
         let front : take (to + z) u ≡ take to t ++ place_of s x =
         ap (λ (k : ℕ). take (to + k) u) (sym size) ∙ ap (take (to + length (place_of s x))) eu ∙ take-splice t to (place_of s x) (omega arith) in
         record {
@@ -194,14 +194,14 @@ module _ (s : Measures) (t₀ b : List ℕ) (n m : ℕ) (t : List ℕ) (from lef
           place = omega (arith, i.place, stride kept z);
           lower = omega (arith, i.lower);
           fewer = omega (arith, i.fewer);
-          stop = next-stop;
+          stop = next_stop;
           inside = i.inside;
           listed = i.listed;
           rest = ap (drop (from + z)) eu ∙ drop-splice t to (place_of s x) (omega arith) (from + z) (omega (arith, size, i.lower)) ∙ next-rest;
           front =
-              ap (λ (l : List ℕ). l ++ writeMany (place_of s) r) front
-              ∙ append_assoc (take to t) (place_of s x) (writeMany (place_of s) r)
-              ∙ ap (λ (l : List Held). take to t ++ writeMany (place_of s) l) (sym w)
+              ap (λ (l : List ℕ). l ++ write_many (place_of s) r) front
+              ∙ append_assoc (take to t) (place_of s x) (write_many (place_of s) r)
+              ∙ ap (λ (l : List Held). take to t ++ write_many (place_of s) l) (sym w)
               ∙ i.front;
           many =
               (let d : kept + 1 + length r ≡ kept + suc (length r) = omega arith in d) ∙ ap (λ (l : List Held). kept + length l) (sym w) ∙ i.many;

@@ -13,10 +13,10 @@ use Rattle.coding.proofs.Cases.{and-true}
 use Rattle.parties.specs.declared.Version.{Version}
 use Rattle.parties.specs.protocol.Version.{below}
 use Rattle.parties.specs.protocol.NodeTable.{Held}
-use Rattle.parties.specs.protocol.Node.{keep, handBack}
+use Rattle.parties.specs.protocol.Node.{keep, hand_back}
 use Rattle.parties.proofs.protocol.formats.FormatLaws.{Each}
-use Rattle.parties.proofs.protocol.events.NodeLaws.{not-below-back, hand-more, hand-same}
-use Rattle.parties.specs.records.Places.{versionAt, piece_at, held_at, from, heldFrom, rank, standsAt}
+use Rattle.parties.proofs.protocol.events.NodeLaws.{not_below_back, hand-more, hand-same}
+use Rattle.parties.specs.records.Places.{version_at, piece_at, held_at, from, held_from, rank, stands_at}
 use Rattle.parties.proofs.records.PositionLaws.{next_place, from-split, from_first, from-none}
 
 module _ (z : ℕ) (t : List ℕ) where
@@ -24,66 +24,66 @@ module _ (z : ℕ) (t : List ℕ) where
     pub rank-within : (at n : ℕ) → rank z t v at n ≤ n
     unfolding rank
     rank-within at zero = omega arith
-    rank-within at (suc n) = go (rank-within (at + z) n) (below (versionAt t at) v)
+    rank-within at (suc n) = go (rank-within (at + z) n) (below (version_at t at) v)
       where
         go : rank z t v (at + z) n ≤ n → (b : Bool) → cond b (rank z t v (at + z) n + 1) 0 ≤ suc n
         go ih true = omega arith
         go ih false = omega arith
 
     -- each place before it is below the version
-    pub rank-passed : (at n : ℕ) → Each (λ x. below x.version v ≡ true) (heldFrom z t at (rank z t v at n))
+    pub rank_passed : (at n : ℕ) → Each (λ x. below x.version v ≡ true) (held_from z t at (rank z t v at n))
     unfolding rank from
-    rank-passed at zero = tt
-    rank-passed at (suc n) = go (rank-passed (at + z) n) (below (versionAt t at) v) refl
+    rank_passed at zero = tt
+    rank_passed at (suc n) = go (rank_passed (at + z) n) (below (version_at t at) v) refl
       where
-        go : Each (λ x. below x.version v ≡ true) (heldFrom z t (at + z) (rank z t v (at + z) n)) → (b : Bool) → below (versionAt t at) v ≡ b
-            → Each (λ x. below x.version v ≡ true) (heldFrom z t at (cond b (rank z t v (at + z) n + 1) 0))
+        go : Each (λ x. below x.version v ≡ true) (held_from z t (at + z) (rank z t v (at + z) n)) → (b : Bool) → below (version_at t at) v ≡ b
+            → Each (λ x. below x.version v ≡ true) (held_from z t at (cond b (rank z t v (at + z) n + 1) 0))
         go ih true e =
             let q : rank z t v (at + z) n + 1 ≡ suc (rank z t v (at + z) n) = omega arith in rw q (e, ih)
         go ih false e = tt
 
     -- and the place itself is not
-    pub rank-stop : (at n : ℕ) → rank z t v at n < n → below (versionAt t (at + rank z t v at n * z)) v ≡ false
+    pub rank_stop : (at n : ℕ) → rank z t v at n < n → below (version_at t (at + rank z t v at n * z)) v ≡ false
     unfolding rank
-    rank-stop at zero h = absurd (omega arith)
-    rank-stop at (suc n) h = go (rank-stop (at + z) n) (below (versionAt t at) v) refl h
+    rank_stop at zero h = absurd (omega arith)
+    rank_stop at (suc n) h = go (rank_stop (at + z) n) (below (version_at t at) v) refl h
       where
-        go : (rank z t v (at + z) n < n → below (versionAt t (at + z + rank z t v (at + z) n * z)) v ≡ false) → (b : Bool) → below (versionAt t at) v ≡ b
-            → cond b (rank z t v (at + z) n + 1) 0 < suc n → below (versionAt t (at + cond b (rank z t v (at + z) n + 1) 0 * z)) v ≡ false
+        go : (rank z t v (at + z) n < n → below (version_at t (at + z + rank z t v (at + z) n * z)) v ≡ false) → (b : Bool) → below (version_at t at) v ≡ b
+            → cond b (rank z t v (at + z) n + 1) 0 < suc n → below (version_at t (at + cond b (rank z t v (at + z) n + 1) 0 * z)) v ≡ false
         go ih true e h =
             let q : rank z t v (at + z) n + 1 ≡ suc (rank z t v (at + z) n) = omega arith in
             rw (q, next_place at (rank z t v (at + z) n) z) (ih (omega arith))
         go ih false e h = let q : at + 0 * z ≡ at = omega (arith, zero-mul z) in rw q e
 
 -- a step passes what is below its version
-pub keep-past : (h : Held) (a b : List Held) → Each (λ x. below x.version h.version ≡ true) a → keep h (a ++ b) ≡ a ++ keep h b
+pub keep_past : (h : Held) (a b : List Held) → Each (λ x. below x.version h.version ≡ true) a → keep h (a ++ b) ≡ a ++ keep h b
 unfolding keep
-keep-past h [] b e = refl
-keep-past h (x ∷ a) b e =
-    simp (not-below-back x.version h.version e.0, e.0) (ap (λ (l : List Held). x ∷ l) (keep-past h a b e.1))
+keep_past h [] b e = refl
+keep_past h (x ∷ a) b e =
+    simp (not_below_back x.version h.version e.0, e.0) (ap (λ (l : List Held). x ∷ l) (keep_past h a b e.1))
 
-pub hand-past : (v : Version) (a b : List Held) → Each (λ x. below x.version v ≡ true) a → handBack v (a ++ b) ≡ handBack v b
-hand-past v [] b e = refl
-hand-past v (x ∷ a) b e = hand-more v x (a ++ b) (not-below-back x.version v e.0) e.0 ∙ hand-past v a b e.1
+pub hand_past : (v : Version) (a b : List Held) → Each (λ x. below x.version v ≡ true) a → hand_back v (a ++ b) ≡ hand_back v b
+hand_past v [] b e = refl
+hand_past v (x ∷ a) b e = hand-more v x (a ++ b) (not_below_back x.version v e.0) e.0 ∙ hand_past v a b e.1
 
 -- ---- what the code finds
 
 -- the count of the places passed, and the rank from here
 module _ (z : ℕ) (t : List ℕ) (v : Version) (at n : ℕ) where
-  pub rank-end : n ≤ 0 → rank z t v at n ≡ 0
+  pub rank_end : n ≤ 0 → rank z t v at n ≡ 0
   unfolding rank
-  rank-end h = let e : n ≡ 0 = omega arith in rw e refl
+  rank_end h = let e : n ≡ 0 = omega arith in rw e refl
 
-  rank-first : 0 < n → rank z t v at n ≡ cond (below (versionAt t at) v) (rank z t v (at + z) (n - 1) + 1) 0
+  rank-first : 0 < n → rank z t v at n ≡ cond (below (version_at t at) v) (rank z t v (at + z) (n - 1) + 1) 0
   unfolding rank
   rank-first h = let e : n ≡ suc (n - 1) = omega arith in ap (rank z t v at) e
 
-  module _ (w : Version) (e : w ≡ versionAt t at) (h : 0 < n) where
+  module _ (w : Version) (e : w ≡ version_at t at) (h : 0 < n) where
     pub rank-found : below w v ≡ false → rank z t v at n ≡ 0
     rank-found b = rank-first h ∙ rw (← e) (simp b)
 
-    pub rank-on : below w v ≡ true → rank z t v at n ≡ rank z t v (at + z) (n - 1) + 1
-    rank-on b = rank-first h ∙ rw (← e) (simp b)
+    pub rank_on : below w v ≡ true → rank z t v at n ≡ rank z t v (at + z) (n - 1) + 1
+    rank_on b = rank-first h ∙ rw (← e) (simp b)
 
 -- ---- the place of a version
 
@@ -91,69 +91,69 @@ module _ (z : ℕ) (t : List ℕ) (n : ℕ) (h : Held) (j : ℕ) (e : j ≡ rank
   within : j ≤ n
   within = rw e (rank-within z t h.version 2 n)
 
-  pub seek-split : heldFrom z t 2 n ≡ heldFrom z t 2 j ++ heldFrom z t (2 + j * z) (n - j)
-  seek-split = let k : n ≡ j + (n - j) = omega (arith, within) in ap (heldFrom z t 2) k ∙ from-split (held_at t) z 2 j (n - j)
+  pub seek_split : held_from z t 2 n ≡ held_from z t 2 j ++ held_from z t (2 + j * z) (n - j)
+  seek_split = let k : n ≡ j + (n - j) = omega (arith, within) in ap (held_from z t 2) k ∙ from-split (held_at t) z 2 j (n - j)
 
-  passed : Each (λ x. below x.version h.version ≡ true) (heldFrom z t 2 j)
-  passed = rw e (rank-passed z t h.version 2 n)
+  passed : Each (λ x. below x.version h.version ≡ true) (held_from z t 2 j)
+  passed = rw e (rank_passed z t h.version 2 n)
 
-  stop : j < n → below (versionAt t (2 + j * z)) h.version ≡ false
-  stop k = rw e (rank-stop z t h.version 2 n (rw e at k))
+  stop : j < n → below (version_at t (2 + j * z)) h.version ≡ false
+  stop k = rw e (rank_stop z t h.version 2 n (rw e at k))
 
   -- the version stands there
-  module _ (s : standsAt z t n j h.version ≡ true) where
+  module _ (s : stands_at z t n j h.version ≡ true) where
     pub stands-within : j < n
-    stands-within = ltb-true j n (and-true (ltb j n) (not (below h.version (versionAt t (2 + j * z)))) s).0
+    stands-within = ltb-true j n (and-true (ltb j n) (not (below h.version (version_at t (2 + j * z)))) s).0
 
-    same : below h.version (versionAt t (2 + j * z)) ≡ false
-    same = not-true (below h.version (versionAt t (2 + j * z))) (and-true (ltb j n) (not (below h.version (versionAt t (2 + j * z)))) s).1
+    same : below h.version (version_at t (2 + j * z)) ≡ false
+    same = not-true (below h.version (version_at t (2 + j * z))) (and-true (ltb j n) (not (below h.version (version_at t (2 + j * z)))) s).1
 
-    pub stands-split : heldFrom z t 2 n ≡ heldFrom z t 2 j ++ (held_at t (2 + j * z) ∷ heldFrom z t (2 + j * z + z) (n - j - 1))
+    pub stands-split : held_from z t 2 n ≡ held_from z t 2 j ++ (held_at t (2 + j * z) ∷ held_from z t (2 + j * z + z) (n - j - 1))
     stands-split =
-        seek-split ∙ ap (λ (l : List Held). heldFrom z t 2 j ++ l) (from_first (held_at t) z (2 + j * z) (n - j) (omega (arith, stands-within)))
+        seek_split ∙ ap (λ (l : List Held). held_from z t 2 j ++ l) (from_first (held_at t) z (2 + j * z) (n - j) (omega (arith, stands-within)))
 
-    pub stands-hand : handBack h.version (heldFrom z t 2 n) ≡ some (piece_at t (2 + j * z))
+    pub stands-hand : hand_back h.version (held_from z t 2 n) ≡ some (piece_at t (2 + j * z))
     stands-hand =
-        ap (handBack h.version) stands-split
-        ∙ hand-past h.version (heldFrom z t 2 j) (held_at t (2 + j * z) ∷ heldFrom z t (2 + j * z + z) (n - j - 1)) passed
-        ∙ hand-same h.version (held_at t (2 + j * z)) (heldFrom z t (2 + j * z + z) (n - j - 1)) same (stop stands-within)
+        ap (hand_back h.version) stands-split
+        ∙ hand_past h.version (held_from z t 2 j) (held_at t (2 + j * z) ∷ held_from z t (2 + j * z + z) (n - j - 1)) passed
+        ∙ hand-same h.version (held_at t (2 + j * z)) (held_from z t (2 + j * z + z) (n - j - 1)) same (stop stands-within)
 
-    pub stands-keep : keep h (heldFrom z t 2 n) ≡ heldFrom z t 2 j ++ (h ∷ heldFrom z t (2 + j * z + z) (n - j - 1))
+    pub stands-keep : keep h (held_from z t 2 n) ≡ held_from z t 2 j ++ (h ∷ held_from z t (2 + j * z + z) (n - j - 1))
     unfolding keep
     stands-keep =
         ap (keep h) stands-split
-        ∙ keep-past h (heldFrom z t 2 j) (held_at t (2 + j * z) ∷ heldFrom z t (2 + j * z + z) (n - j - 1)) passed
+        ∙ keep_past h (held_from z t 2 j) (held_at t (2 + j * z) ∷ held_from z t (2 + j * z + z) (n - j - 1)) passed
         ∙ simp (same, stop stands-within)
 
   -- it does not
-  module _ (s : standsAt z t n j h.version ≡ false) where
+  module _ (s : stands_at z t n j h.version ≡ false) where
     -- the places after it are none, or begin above
-    absent : (P : List Held → Type 0) → P [] → ((x : Held) (l : List Held) → below h.version x.version ≡ true → P (x ∷ l)) → P (heldFrom z t (2 + j * z) (n - j))
-    absent P a b = go (dec_lt j n) (below h.version (versionAt t (2 + j * z))) refl
+    absent : (P : List Held → Type 0) → P [] → ((x : Held) (l : List Held) → below h.version x.version ≡ true → P (x ∷ l)) → P (held_from z t (2 + j * z) (n - j))
+    absent P a b = go (dec_lt j n) (below h.version (version_at t (2 + j * z))) refl
       where
-        go : Dec (j < n) → (c : Bool) → below h.version (versionAt t (2 + j * z)) ≡ c → P (heldFrom z t (2 + j * z) (n - j))
+        go : Dec (j < n) → (c : Bool) → below h.version (version_at t (2 + j * z)) ≡ c → P (held_from z t (2 + j * z) (n - j))
         go (no q) c r = rw (from-none (held_at t) z (2 + j * z) (n - j) (omega arith)) a
-        go (yes q) true r = rw (from_first (held_at t) z (2 + j * z) (n - j) (omega arith)) (b (held_at t (2 + j * z)) (heldFrom z t (2 + j * z + z) (n - j - 1)) r)
+        go (yes q) true r = rw (from_first (held_at t) z (2 + j * z) (n - j) (omega arith)) (b (held_at t (2 + j * z)) (held_from z t (2 + j * z + z) (n - j - 1)) r)
         go (yes q) false r = absurd (true≢false (sym (simp (lt-ltb j n q, r)) ∙ s))
 
-    pub absent-hand : handBack h.version (heldFrom z t 2 n) ≡ none
-    unfolding handBack
-    absent-hand =
-        ap (handBack h.version) seek-split
-        ∙ hand-past h.version (heldFrom z t 2 j) (heldFrom z t (2 + j * z) (n - j)) passed
-        ∙ absent (λ l. handBack h.version l ≡ none) refl (λ x l q. simp q)
+    pub absent_hand : hand_back h.version (held_from z t 2 n) ≡ none
+    unfolding hand_back
+    absent_hand =
+        ap (hand_back h.version) seek_split
+        ∙ hand_past h.version (held_from z t 2 j) (held_from z t (2 + j * z) (n - j)) passed
+        ∙ absent (λ l. hand_back h.version l ≡ none) refl (λ x l q. simp q)
 
-    pub absent-keep : keep h (heldFrom z t 2 n) ≡ heldFrom z t 2 j ++ (h ∷ heldFrom z t (2 + j * z) (n - j))
+    pub absent_keep : keep h (held_from z t 2 n) ≡ held_from z t 2 j ++ (h ∷ held_from z t (2 + j * z) (n - j))
     unfolding keep
-    absent-keep =
-        ap (keep h) seek-split
-        ∙ keep-past h (heldFrom z t 2 j) (heldFrom z t (2 + j * z) (n - j)) passed
-        ∙ ap (λ (l : List Held). heldFrom z t 2 j ++ l) (absent (λ l. keep h l ≡ h ∷ l) refl (λ x l q. simp q))
+    absent_keep =
+        ap (keep h) seek_split
+        ∙ keep_past h (held_from z t 2 j) (held_from z t (2 + j * z) (n - j)) passed
+        ∙ ap (λ (l : List Held). held_from z t 2 j ++ l) (absent (λ l. keep h l ≡ h ∷ l) refl (λ x l q. simp q))
 
 -- the tests of a place
 module _ (z : ℕ) (t : List ℕ) (n j : ℕ) (v : Version) where
-  pub stands-none : n ≤ j → false ≡ standsAt z t n j v
+  pub stands-none : n ≤ j → false ≡ stands_at z t n j v
   stands-none h = sym (simp (le-ltb j n h))
 
-  pub stands_here : j < n → (w : Version) → w ≡ versionAt t (2 + j * z) → not (below v w) ≡ standsAt z t n j v
+  pub stands_here : j < n → (w : Version) → w ≡ version_at t (2 + j * z) → not (below v w) ≡ stands_at z t n j v
   stands_here h w e = rw e (sym (simp (lt-ltb j n h)))

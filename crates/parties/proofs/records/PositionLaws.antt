@@ -10,7 +10,7 @@ use lib.ListN.{length, drop}
 use Rattle.coding.proofs.BytesLaws.{stride}
 use Rattle.coding.proofs.Cases.{and-true}
 use Rattle.parties.specs.declared.Version.{Version}
-use Rattle.parties.specs.protocol.Format.{Reader, bind, check, given, readMany}
+use Rattle.parties.specs.protocol.Format.{Reader, bind, check, given, read_many}
 use Rattle.parties.specs.protocol.Version.{below, ascending}
 use Rattle.parties.specs.protocol.Version as version
 use Rattle.parties.proofs.protocol.formats.VersionLaws.{none_below}
@@ -50,13 +50,13 @@ module _ {A : Type 0} (f : ℕ → A) (z : ℕ) where
   from-none at n h = let e : n ≡ 0 = omega arith in ap (from f z at) e
 
 -- a test that holds at each holds at one, and after the first
-pub every-at : (test : ℕ → Bool) (z at n : ℕ) → every test z at n ≡ true → (j : ℕ) → j < n → test (at + j * z) ≡ true
+pub every_at : (test : ℕ → Bool) (z at n : ℕ) → every test z at n ≡ true → (j : ℕ) → j < n → test (at + j * z) ≡ true
 unfolding every
-every-at test z at zero e j h = absurd (omega arith)
-every-at test z at (suc n) e zero h =
+every_at test z at zero e j h = absurd (omega arith)
+every_at test z at (suc n) e zero h =
     let k : at + 0 * z ≡ at = omega (arith, zero-mul z) in rw k (and-true (test at) (every test z (at + z) n) e).0
-every-at test z at (suc n) e (suc j) h =
-    rw (next_place at j z) (every-at test z (at + z) n (and-true (test at) (every test z (at + z) n) e).1 j (omega arith))
+every_at test z at (suc n) e (suc j) h =
+    rw (next_place at j z) (every_at test z (at + z) n (and-true (test at) (every test z (at + z) n) e).1 j (omega arith))
 
 pub every_first : (test : ℕ → Bool) (z at n : ℕ) → 0 < n → every test z at n ≡ true → (test at ≡ true) × (every test z (at + z) (n - 1) ≡ true)
 unfolding every
@@ -71,8 +71,8 @@ from-map g f z at (suc n) = ap (λ (l : List _). g (f at) ∷ l) (from-map g f z
 module _ {A : Type 0} (r : Reader A) (t : List ℕ) (z : ℕ) (test : ℕ → Bool) (f : ℕ → A)
     (one : (at : ℕ) → at + z ≤ length t → r (drop at t) ≡ cond (test at) (some (record { value = f at; rest = drop (at + z) t })) none) where
   pub many_read : (at n : ℕ) → at + n * z ≤ length t
-      → readMany r n (drop at t) ≡ cond (every test z at n) (some (record { value = from f z at n; rest = drop (at + n * z) t })) none
-  unfolding readMany every from
+      → read_many r n (drop at t) ≡ cond (every test z at n) (some (record { value = from f z at n; rest = drop (at + n * z) t })) none
+  unfolding read_many every from
   many_read at zero h =
       let e : at ≡ at + 0 * z = omega (arith, zero-mul z) in ap (λ (k : ℕ). some (record { value = []; rest = drop k t })) e
   many_read at (suc n) h =
@@ -86,17 +86,17 @@ module _ {A : Type 0} (r : Reader A) (t : List ℕ) (z : ℕ) (test : ℕ → Bo
       more e true = ap (λ (k : ℕ). some (record { value = f at ∷ from f z (at + z) n; rest = drop k t })) (sym e)
 
       first : at + suc n * z ≡ at + z + n * z
-          → readMany r n (drop (at + z) t) ≡ cond (every test z (at + z) n) (some (record { value = from f z (at + z) n; rest = drop (at + z + n * z) t })) none
+          → read_many r n (drop (at + z) t) ≡ cond (every test z (at + z) n) (some (record { value = from f z (at + z) n; rest = drop (at + z + n * z) t })) none
           → (b : Bool)
           → bind (cond b (some (record { value = f at; rest = drop (at + z) t })) none)
-          (λ a u. bind (readMany r n u) (λ l v. some (record { value = a ∷ l; rest = v })))
+          (λ a u. bind (read_many r n u) (λ l v. some (record { value = a ∷ l; rest = v })))
           ≡ cond (b && every test z (at + z) n) (some (record { value = f at ∷ from f z (at + z) n; rest = drop (at + suc n * z) t })) none
       first e ih false = refl
       first e ih true = rw ih (more e (every test z (at + z) n))
 
   -- and their order
   pub given-read : (order : List A → Bool) (at n : ℕ) → at + n * z ≤ length t → (b : Bool) → b ≡ (every test z at n && order (from f z at n))
-      → given order (readMany r n) (drop at t) ≡ cond b (some (record { value = from f z at n; rest = drop (at + n * z) t })) none
+      → given order (read_many r n) (drop at t) ≡ cond b (some (record { value = from f z at n; rest = drop (at + n * z) t })) none
   given-read order at n h b e = rw (many_read at n h, e) (go (every test z at n))
     where
       last : (b : Bool) → check b (from f z at n) (drop (at + n * z) t) ≡ cond b (some (record { value = from f z at n; rest = drop (at + n * z) t })) none
@@ -109,25 +109,25 @@ module _ {A : Type 0} (r : Reader A) (t : List ℕ) (z : ℕ) (test : ℕ → Bo
       go true = last (order (from f z at n))
 
 -- form and order in one pass
-and-swap : (a b c d : Bool) → (a && (b && (c && d))) ≡ ((a && c) && (b && d))
-and-swap false b c d = refl
-and-swap true true c d = refl
-and-swap true false true d = refl
-and-swap true false false d = refl
+and_swap : (a b c d : Bool) → (a && (b && (c && d))) ≡ ((a && c) && (b && d))
+and_swap false b c d = refl
+and_swap true true c d = refl
+and_swap true false true d = refl
+and_swap true false false d = refl
 
 module _ (test : ℕ → Bool) (v : ℕ → Version) (z : ℕ) where
   ordered-passes : (p : Version) (at n : ℕ) → ordered test v z p at n ≡ (every test z at n && ascending (p ∷ from v z at n))
   unfolding ordered every from ascending
   ordered-passes p at zero = refl
   ordered-passes p at (suc n) =
-      rw (ordered-passes (v at) (at + z) n) (and-swap (test at) (below p (v at)) (every test z (at + z) n) (ascending (v at ∷ from v z (at + z) n)))
+      rw (ordered-passes (v at) (at + z) n) (and_swap (test at) (below p (v at)) (every test z (at + z) n) (ascending (v at ∷ from v z (at + z) n)))
 
   -- below the first stands none
   pub ordered-all : ((at : ℕ) → test at ≡ true → 1 ≤ (v at).sequence.0) → (at n : ℕ)
-      → ordered test v z version.noVersion at n ≡ (every test z at n && ascending (from v z at n))
+      → ordered test v z version.no_version at n ≡ (every test z at n && ascending (from v z at n))
   unfolding every from ascending
-  ordered-all h at zero = ordered-passes version.noVersion at zero
-  ordered-all h at (suc n) = ordered-passes version.noVersion at (suc n) ∙ go (test at) refl
+  ordered-all h at zero = ordered-passes version.no_version at zero
+  ordered-all h at (suc n) = ordered-passes version.no_version at (suc n) ∙ go (test at) refl
     where
       rest : Bool
       rest = every test z (at + z) n
@@ -135,7 +135,7 @@ module _ (test : ℕ → Bool) (v : ℕ → Version) (z : ℕ) where
       order : Bool
       order = ascending (v at ∷ from v z (at + z) n)
 
-      go : (b : Bool) → test at ≡ b → ((b && rest) && (below version.noVersion (v at) && order)) ≡ ((b && rest) && order)
+      go : (b : Bool) → test at ≡ b → ((b && rest) && (below version.no_version (v at) && order)) ≡ ((b && rest) && order)
       go false e = refl
       go true e = ap (λ (b : Bool). rest && (b && order)) (none_below (v at) (h at e))
 
@@ -153,8 +153,8 @@ module _ (test : ℕ → Bool) (v : ℕ → Version) (z : ℕ) where
     ordered-broken h e = ordered-first h ∙ simp e
 
     module _ (w : Version) (e : w ≡ v at) (h : 0 < n) (a : test at ≡ true) where
-      pub ordered-not : below p w ≡ false → ordered test v z p at n ≡ false
-      ordered-not b = ordered-first h ∙ rw (← e) (simp (a, b))
+      pub ordered_not : below p w ≡ false → ordered test v z p at n ≡ false
+      ordered_not b = ordered-first h ∙ rw (← e) (simp (a, b))
 
       pub ordered-next : below p w ≡ true → ordered test v z p at n ≡ ordered test v z w (at + z) (n - 1)
       ordered-next b = ordered-first h ∙ rw (← e) (simp (a, b))

@@ -2,16 +2,16 @@
 use Rattle.std.specs.Prelude.{List, [], ◌++◌, ℕ, ◌+◌, ◌-◌, ◌*◌, take, drop, replicate}
 use Rattle.std.proofs.Math.Option.{Option, some, none}
 use Rattle.coding.specs.Bytes.{tabulate}
-use Rattle.coding.specs.Placed.{pieceDigest}
+use Rattle.coding.specs.Placed.{piece_digest}
 use Rattle.parties.specs.declared.Measures.{Measures}
 use Rattle.parties.specs.declared.Sequence.{Sequence}
 use Rattle.parties.specs.declared.Version.{Version}
 use Rattle.parties.specs.declared.NextSequence.{NextSequence}
-use Rattle.parties.specs.protocol.Format.{Read, writeNumber, writeMany}
-use Rattle.parties.specs.protocol.Pointer.{writeVersion}
+use Rattle.parties.specs.protocol.Format.{Read, write_number, write_many}
+use Rattle.parties.specs.protocol.Pointer.{write_version}
 use Rattle.parties.specs.protocol.Directory.{Row}
-use Rattle.parties.specs.protocol.Client.{Phase as Work, workSize, readClient}
-use Rattle.parties.specs.protocol.ClientEvents.{ClientEnd, onClient, draw}
+use Rattle.parties.specs.protocol.Client.{Phase as Work, work_size, read_client}
+use Rattle.parties.specs.protocol.ClientEvents.{ClientEnd, on_client, draw}
 
 -- the rows of a directory table that reads
 abbrev pub rows_of : Option (Read (List Row)) → List Row
@@ -19,16 +19,16 @@ rows_of none = []
 rows_of (some r) = r.value
 
 -- the digest of node j + 1's piece, of len bytes in its area of f bytes behind the messages' front
-abbrev pub roomDigest : ℕ → Version → ℕ → List ℕ → ℕ → List ℕ
-roomDigest f v len room j = pieceDigest (writeVersion v) (j + 1) (take len (drop (6 + j * f) room))
+abbrev pub room_digest : ℕ → Version → ℕ → List ℕ → ℕ → List ℕ
+room_digest f v len room j = piece_digest (write_version v) (j + 1) (take len (drop (6 + j * f) room))
 
 -- of all n nodes, as they are written
-abbrev pub roomDigests : ℕ → ℕ → Version → ℕ → List ℕ → List ℕ
-roomDigests n f v len room = writeMany (λ d. d) (tabulate n (roomDigest f v len room))
+abbrev pub room_digests : ℕ → ℕ → Version → ℕ → List ℕ → List ℕ
+room_digests n f v len room = write_many (λ d. d) (tabulate n (room_digest f v len room))
 
 -- the work of a deposit whose pieces are sent: version, no node that acknowledged it, digests, spare bytes
-abbrev pub storesWork : Measures → Version → List ℕ → List ℕ
-storesWork s v digests = (writeVersion v ++ (writeNumber 2 0 ++ digests)) ++ replicate (workSize s - (7 + 32 * s.n)) 0
+abbrev pub stores_work : Measures → Version → List ℕ → List ℕ
+stores_work s v digests = (write_version v ++ (write_number 2 0 ++ digests)) ++ replicate (work_size s - (7 + 32 * s.n)) 0
 
 -- the page of a deposit's first scan
 abbrev pub page_of : Work → List ℕ
@@ -42,6 +42,6 @@ page_of Work.picking = []
 page_of (Work.fetching p c m ps) = []
 
 -- what drawing sequence q does to a client's record and room
-unfoldable pub drawEnd : Measures → ℕ → Sequence → List ℕ → List ℕ → ClientEnd
-drawEnd s own q client room =
-    onClient s client room [] (readClient s client) (λ c. draw s own c room (page_of c.phase) (NextSequence.Drawn q))
+unfoldable pub draw_end : Measures → ℕ → Sequence → List ℕ → List ℕ → ClientEnd
+draw_end s own q client room =
+    on_client s client room [] (read_client s client) (λ c. draw s own c room (page_of c.phase) (NextSequence.Drawn q))

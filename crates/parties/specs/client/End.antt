@@ -4,8 +4,8 @@ use Rattle.parties.specs.protocol.ClientEvents.{ClientEnd}
 use Rattle.parties.specs.declared.ClientAnswer.{ClientAnswer}
 use Rattle.parties.specs.declared.Phase.{Phase}
 use Rattle.parties.specs.client.Answer.{answered}
-use Rattle.parties.specs.client.Record.{recordOf}
-use Rattle.parties.specs.client.Step.{phaseAfter}
+use Rattle.parties.specs.client.Record.{record_of}
+use Rattle.parties.specs.client.Step.{phase_after}
 
-abbrev pub stepEnd : Phase → ClientAnswer → List ℕ → List ℕ → List ℕ → ClientEnd
-stepEnd p a area room out = record { answer = answered a; client = recordOf (phaseAfter p a) area; room = room; out = out }
+abbrev pub step_end : Phase → ClientAnswer → List ℕ → List ℕ → List ℕ → ClientEnd
+step_end p a area room out = record { answer = answered a; client = record_of (phase_after p a) area; room = room; out = out }

@@ -3,20 +3,20 @@ use Rattle.std.specs.Prelude.{List, [], ℕ, drop}
 use Rattle.std.proofs.Math.Option.{Option, some, none}
 use Rattle.parties.specs.declared.Measures.{Measures}
 use Rattle.parties.specs.protocol.Format.{Read}
-use Rattle.parties.specs.protocol.Pointer.{Pointer, nonePointer, readPointer}
-use Rattle.parties.specs.protocol.Client.{Retained, readRetained}
-use Rattle.parties.specs.client.Record.{workAt}
+use Rattle.parties.specs.protocol.Pointer.{Pointer, none_pointer, read_pointer}
+use Rattle.parties.specs.protocol.Client.{Retained, read_retained}
+use Rattle.parties.specs.client.Record.{work_at}
 
-abbrev pub retainedOf : Option (Read Retained) → Retained
-retainedOf none = record { written = nonePointer; frozen = []; reserved = []; frozenIndices = [] }
-retainedOf (some r) = r.value
+abbrev pub retained_of : Option (Read Retained) → Retained
+retained_of none = record { written = none_pointer; frozen = []; reserved = []; frozen_indices = [] }
+retained_of (some r) = r.value
 
-unfoldable pub retainedIn : Measures → List ℕ → Retained
-retainedIn s area = retainedOf (readRetained s area)
+unfoldable pub retained_in : Measures → List ℕ → Retained
+retained_in s area = retained_of (read_retained s area)
 
-abbrev pub pointerOf : Option (Read Pointer) → Pointer
-pointerOf none = nonePointer
-pointerOf (some r) = r.value
+abbrev pub pointer_of : Option (Read Pointer) → Pointer
+pointer_of none = none_pointer
+pointer_of (some r) = r.value
 
-unfoldable pub pointerIn : Measures → List ℕ → Pointer
-pointerIn s area = pointerOf (readPointer s (drop (workAt s) area))
+unfoldable pub pointer_in : Measures → List ℕ → Pointer
+pointer_in s area = pointer_of (read_pointer s (drop (work_at s) area))

@@ -5,9 +5,9 @@ use Rattle.parties.specs.protocol.Message.{ToClient}
 use Rattle.parties.specs.declared.client.tell.Told.{Told}
 
 -- a reply's piece is the rest of the message, after tag, version and the byte that says it is held
-abbrev pub toldBy : List ℕ → Told → Option ToClient
-toldBy b (Told.Stored v) = some (ToClient.stored v)
-toldBy b Told.Freed = some ToClient.freed
-toldBy b (Told.Reply v) = some (ToClient.reply v (drop 7 b))
-toldBy b (Told.Missing v) = some (ToClient.missing v)
-toldBy b Told.Broken = none
+abbrev pub told_by : List ℕ → Told → Option ToClient
+told_by b (Told.Stored v) = some (ToClient.stored v)
+told_by b Told.Freed = some ToClient.freed
+told_by b (Told.Reply v) = some (ToClient.reply v (drop 7 b))
+told_by b (Told.Missing v) = some (ToClient.missing v)
+told_by b Told.Broken = none

@@ -3,18 +3,18 @@ use Rattle.std.specs.Prelude.{◌≡◌, Bool, cond, List, ◌∷◌, ◌++◌, 
 use Rattle.std.proofs.Math.Option.{Option, some}
 use Rattle.std.proofs.Math.Seq.{paste}
 use Rattle.parties.specs.declared.Measures.{Measures}
-use Rattle.parties.specs.protocol.Format.{whole, writeArea}
-use Rattle.parties.specs.protocol.Measures.{rowSize}
-use Rattle.parties.specs.protocol.Directory.{Content, Row, rowMap, readRecord, readRow, writeRow, updateRow}
+use Rattle.parties.specs.protocol.Format.{whole, write_area}
+use Rattle.parties.specs.protocol.Measures.{row_size}
+use Rattle.parties.specs.protocol.Directory.{Content, Row, row_map, read_record, read_row, write_row, update_row}
 use Rattle.parties.specs.declared.records.form.Ends.{Ends}
 
 -- the bytes of the longest row: of 8 clients, and 16 digests a pointer
-abbrev pub longestRow : ℕ
-longestRow = 4708
+abbrev pub longest_row : ℕ
+longest_row = 4708
 
 pub record Built (p room : List ℕ) : Type 0 where
-  pub fits : length p ≤ longestRow
-  pub bytes : room ≡ p ++ replicate (longestRow - length p) 0
+  pub fits : length p ≤ longest_row
+  pub bytes : room ≡ p ++ replicate (longest_row - length p) 0
 
 -- the bytes from a place to another
 abbrev pub range : ℕ → ℕ → List ℕ → List ℕ
@@ -22,12 +22,12 @@ range a b t = take (b - a) (drop a t)
 
 -- a field's bytes: from the record, if its bit stands, otherwise from the row
 abbrev pub part : Bool → ℕ → ℕ → List ℕ → ℕ → ℕ → List ℕ → List ℕ
-part stands a b record-bytes c d row-bytes = cond stands (range a b record-bytes) (range c d row-bytes)
+part stands a b record-bytes c d row_bytes = cond stands (range a b record-bytes) (range c d row_bytes)
 
 -- the row at a place of the table, with the fields of a record in their stead
 unfoldable pub renewed : ℕ → List ℕ → Ends → List ℕ → ℕ → Ends → List ℕ
 renewed map fields e table at f =
-    rowMap ∷ (part (eqb (map % 2) 1) 1 e.written fields (at + 1) f.written table
+    row_map ∷ (part (eqb (map % 2) 1) 1 e.written fields (at + 1) f.written table
     ++ (part (eqb (map / 2 % 2) 1) e.written e.frozen fields f.written f.frozen table
     ++ (part (eqb (map / 2 / 2 % 2) 1) e.frozen e.indices fields f.frozen f.indices table
     ++ part (eqb (map / 2 / 2 / 2 % 2) 1) e.indices e.index fields f.indices f.index table)))
@@ -39,6 +39,6 @@ Ordered at e n = (at ≤ e.written) × (e.written ≤ e.frozen) × (e.frozen ≤
 -- the row at a place, updated by a record
 abbrev pub Renewed : Measures → ℕ → List ℕ → List ℕ → List ℕ → Type 0
 Renewed s at fields table end =
-    (u : List (Option Content)) (r : Row) → whole (readRecord s) fields ≡ some u
-    → readRow s (drop at table) ≡ some (record { value = r; rest = drop (at + rowSize s) table })
-    → end ≡ paste table at (writeArea (rowSize s) writeRow (updateRow u r)) (rowSize s)
+    (u : List (Option Content)) (r : Row) → whole (read_record s) fields ≡ some u
+    → read_row s (drop at table) ≡ some (record { value = r; rest = drop (at + row_size s) table })
+    → end ≡ paste table at (write_area (row_size s) write_row (update_row u r)) (row_size s)

@@ -3,19 +3,19 @@ use Rattle.std.specs.Prelude.{◌≡◌, Bool, true, false, cond, ◌⊎◌, ◌
 use Rattle.std.proofs.Math.Option.{Option, some, none}
 use Rattle.coding.specs.Bytes.{Bytes}
 use Rattle.coding.specs.Pieces.{piece}
-use Rattle.coding.specs.Placed.{digestInput}
+use Rattle.coding.specs.Placed.{digest_input}
 use Rattle.coding.specs.Sha256.{sha256}
 use Rattle.parties.specs.declared.Measures.{Measures}
 use Rattle.parties.specs.declared.Version.{Version}
 use Rattle.parties.specs.protocol.Version.{below}
 use Rattle.parties.specs.protocol.Format.{Read}
 use Rattle.parties.specs.protocol.Nodes.{stands}
-use Rattle.parties.specs.protocol.Pointer.{Pointer, nonePointer, writeVersion}
-use Rattle.parties.specs.protocol.NodeTable.{Held, readTable}
-use Rattle.parties.specs.protocol.Node.{handBack}
+use Rattle.parties.specs.protocol.Pointer.{Pointer, none_pointer, write_version}
+use Rattle.parties.specs.protocol.NodeTable.{Held, read_table}
+use Rattle.parties.specs.protocol.Node.{hand_back}
 use Rattle.parties.specs.protocol.Reading.{matches}
 use Rattle.parties.specs.protocol.Answer.{Served, refuses, serves, number}
-use Rattle.parties.specs.protocol.Run.{Put, Reply, History, State, Event, deposit, reading, carry, hand, bring, deliver, lie, Answered, nothing, byClient, byServer, carryOut}
+use Rattle.parties.specs.protocol.Run.{Put, Reply, History, State, Event, deposit, reading, carry, hand, bring, deliver, lie, Answered, nothing, by_client, by_server, carry_out}
 
 -- ---- operations
 
@@ -45,11 +45,11 @@ FirstPut p d (x ∷ l) = ((x.pointer ≡ p) × (x.operation ≡ d)) ⊎ ((x.poin
 -- a deposit concerns itself; a reading whose pointer is not none concerns the deposit whose update first put that pointer in as written
 pub data Concerns (h : History) (o d : ℕ) : Type 0 where
   itself : (bytes : List ℕ) → IsDeposit h o bytes → o ≡ d → Concerns h o d
-  shows : (p : Pointer) → IsReading h o → (h.operation o).pointer ≡ some p → (p ≡ nonePointer → ⊥) → FirstPut p d h.puts → Concerns h o d
+  shows : (p : Pointer) → IsReading h o → (h.operation o).pointer ≡ some p → (p ≡ none_pointer → ⊥) → FirstPut p d h.puts → Concerns h o d
 
 -- a reading that found nothing
 abbrev pub FoundNothing : History → ℕ → Type 0
-FoundNothing h o = IsReading h o × ((h.operation o).pointer ≡ some nonePointer)
+FoundNothing h o = IsReading h o × ((h.operation o).pointer ≡ some none_pointer)
 
 -- the operations concern the same deposit, or both are readings that found nothing
 abbrev pub Alike : History → ℕ → ℕ → Type 0
@@ -76,7 +76,7 @@ shown none = []
 shown (some r) = r.value
 
 abbrev pub places : Measures → State → ℕ → List Held
-places s st i = shown (readTable s (st.nodes i))
+places s st i = shown (read_table s (st.nodes i))
 
 -- a piece's writer is the client in its version
 abbrev pub pieces_of : ℕ → List Held → ℕ
@@ -97,15 +97,15 @@ pub record Claim (s : Measures) (honest : ℕ → Bool) (st : State) : Type 0 wh
   pub exact : (o : ℕ) (given : List ℕ) → o < st.history.begun → (st.history.operation o).given ≡ some given
       → (d : ℕ) × Concerns st.history o d × IsDeposit st.history d given
   -- every honest node's table reads whole: what it holds is never empty for want of form
-  pub reads : (i : ℕ) → honest i ≡ true → 1 ≤ i → i ≤ s.n → readTable s (st.nodes i) ≡ some (record { value = places s st i; rest = [] })
+  pub reads : (i : ℕ) → honest i ≡ true → 1 ≤ i → i ≤ s.n → read_table s (st.nodes i) ≡ some (record { value = places s st i; rest = [] })
   -- every honest node named by an open reading's pointer holds its piece of that reading's deposit
   pub held : (o : ℕ) (p : Pointer) → Open st.history o → IsReading st.history o → (st.history.operation o).pointer ≡ some p
       → (d : ℕ) × (bytes : List ℕ) × Concerns st.history o d × IsDeposit st.history d bytes
       × ((i : ℕ) → honest i ≡ true → 1 ≤ i → i ≤ s.n → stands p.named.nodes i ≡ true
-      → handBack p.version (places s st i) ≡ some (piece s.k bytes i))
+      → hand_back p.version (places s st i) ≡ some (piece s.k bytes i))
   -- a named node's piece that comes with a reading's version matches exactly when it is that deposit's piece at that node (document 02, i)
   pub matched : (o : ℕ) (p : Pointer) → o < st.history.begun → IsReading st.history o → (st.history.operation o).pointer ≡ some p
-      → (p ≡ nonePointer → ⊥)
+      → (p ≡ none_pointer → ⊥)
       → (d : ℕ) × (bytes : List ℕ) × Concerns st.history o d × IsDeposit st.history d bytes × MatchesOwn s st.history p bytes
   -- no honest node holds over 2m pieces of one writer among m clients
   pub few : (i w : ℕ) → honest i ≡ true → 1 ≤ i → i ≤ s.n → w < s.m → pieces_of w (places s st i) ≤ 2 * s.m
@@ -135,14 +135,14 @@ AllLent (e ∷ es) = Lent e × AllLent es
 -- in its replies, a reply's piece being taken with its version and sender
 pub data StringOf (s : Measures) (h : History) (x : List ℕ) : Type 0 where
   cut : (o i : ℕ) (v : Version) (bytes : List ℕ) → Bears h o v → IsDeposit h o bytes → 1 ≤ i → i ≤ s.n
-      → x ≡ digestInput (writeVersion v) i (piece s.k bytes i) → StringOf s h x
+      → x ≡ digest_input (write_version v) i (piece s.k bytes i) → StringOf s h x
   came : (r : Reply) → Member r h.replied → 1 ≤ r.node → r.node ≤ s.n
-      → x ≡ digestInput (writeVersion r.version) r.node r.piece → StringOf s h x
+      → x ≡ digest_input (write_version r.version) r.node r.piece → StringOf s h x
 
 -- a string of the history at the beginning, at the end, or at some event between
 abbrev pub RunString : Measures → (ℕ → Bool) → List Event → State → List ℕ → Type 0
 RunString s honest [] st x = StringOf s st.history x
-RunString s honest (e ∷ es) st x = StringOf s st.history x ⊎ RunString s honest es (carryOut s honest e st).state x
+RunString s honest (e ∷ es) st x = StringOf s st.history x ⊎ RunString s honest es (carry_out s honest e st).state x
 
 -- no two different ones share a digest
 abbrev pub Differ : (List ℕ → Type 0) → Type 0
@@ -151,14 +151,14 @@ Differ strings = (x y : List ℕ) → strings x → strings y → sha256 x ≡ s
 -- ---- what keeps the claim from being empty
 
 -- the papers' number of what an event answered
-abbrev pub servedNumber : Served → Option ℕ
-servedNumber (refuses n) = some n
-servedNumber (serves len) = none
+abbrev pub served_number : Served → Option ℕ
+served_number (refuses n) = some n
+served_number (serves len) = none
 
 abbrev pub number_of : Answered → Option ℕ
 number_of nothing = none
-number_of (byClient a) = number a
-number_of (byServer a) = servedNumber a
+number_of (by_client a) = number a
+number_of (by_server a) = served_number a
 
 abbrev pub IsLie : Event → Type 0
 IsLie (deposit c bytes) = ⊥

@@ -29,57 +29,57 @@ both ra rb make s = bind (ra s) (λ a t. bind (rb a t) (λ b u. some (record { v
 abbrev pub mapped : {A B : Type 0} → (A → B) → Reader A → Reader B
 mapped f r s = bind (r s) (λ a t. some (record { value = f a; rest = t }))
 
-abbrev pub readNothing : Reader (Unit {0})
-readNothing s = some (record { value = tt; rest = s })
+abbrev pub read_nothing : Reader (Unit {0})
+read_nothing s = some (record { value = tt; rest = s })
 
-abbrev pub readNone : {A : Type 0} → Reader A
-readNone s = none
+abbrev pub read_none : {A : Type 0} → Reader A
+read_none s = none
 
 -- only values that pass a test
 abbrev pub given : {A : Type 0} → (A → Bool) → Reader A → Reader A
 given test r s = bind (r s) (λ a t. check (test a) a t)
 
-abbrev pub readByte : Reader ℕ
-readByte [] = none
-readByte (b ∷ s) = some (record { value = b; rest = s })
+abbrev pub read_byte : Reader ℕ
+read_byte [] = none
+read_byte (b ∷ s) = some (record { value = b; rest = s })
 
 -- a number of w bytes, high byte first
-unfoldable pub readNumber : ℕ → Reader ℕ
-readNumber zero s = some (record { value = 0; rest = s })
-readNumber (suc w) s = both (readNumber w) (λ n. readByte) (λ n b. n * 256 + b) s
+unfoldable pub read_number : ℕ → Reader ℕ
+read_number zero s = some (record { value = 0; rest = s })
+read_number (suc w) s = both (read_number w) (λ n. read_byte) (λ n b. n * 256 + b) s
 
-unfoldable pub writeNumber : ℕ → ℕ → List ℕ
-writeNumber zero n = []
-writeNumber (suc w) n = writeNumber w (n / 256) ++ (n % 256 ∷ [])
+unfoldable pub write_number : ℕ → ℕ → List ℕ
+write_number zero n = []
+write_number (suc w) n = write_number w (n / 256) ++ (n % 256 ∷ [])
 
 -- n values, one after the other
-unfoldable pub readMany : {A : Type 0} → Reader A → ℕ → Reader (List A)
-readMany r zero s = some (record { value = []; rest = s })
-readMany r (suc n) s = both r (λ a. readMany r n) (λ a l. a ∷ l) s
+unfoldable pub read_many : {A : Type 0} → Reader A → ℕ → Reader (List A)
+read_many r zero s = some (record { value = []; rest = s })
+read_many r (suc n) s = both r (λ a. read_many r n) (λ a l. a ∷ l) s
 
-unfoldable pub writeMany : {A : Type 0} → (A → List ℕ) → List A → List ℕ
-writeMany w [] = []
-writeMany w (a ∷ l) = w a ++ writeMany w l
+unfoldable pub write_many : {A : Type 0} → (A → List ℕ) → List A → List ℕ
+write_many w [] = []
+write_many w (a ∷ l) = w a ++ write_many w l
 
 -- one value for each number of a list
-unfoldable pub readEach : {A : Type 0} → (ℕ → Reader A) → List ℕ → Reader (List A)
-readEach r [] s = some (record { value = []; rest = s })
-readEach r (x ∷ xs) s = both (r x) (λ a. readEach r xs) (λ a l. a ∷ l) s
+unfoldable pub read_each : {A : Type 0} → (ℕ → Reader A) → List ℕ → Reader (List A)
+read_each r [] s = some (record { value = []; rest = s })
+read_each r (x ∷ xs) s = both (r x) (λ a. read_each r xs) (λ a l. a ∷ l) s
 
 -- the next n bytes as they are
-unfoldable pub readBytes : ℕ → Reader (List ℕ)
-readBytes n s = cond (leb n (length s)) (some (record { value = take n s; rest = drop n s })) none
+unfoldable pub read_bytes : ℕ → Reader (List ℕ)
+read_bytes n s = cond (leb n (length s)) (some (record { value = take n s; rest = drop n s })) none
 
 -- n zero bytes
-unfoldable pub readZeros : ℕ → Reader (Unit {0})
-readZeros n = mapped (λ z. tt) (given (all (λ b. eqb b 0)) (readBytes n))
+unfoldable pub read_zeros : ℕ → Reader (Unit {0})
+read_zeros n = mapped (λ z. tt) (given (all (λ b. eqb b 0)) (read_bytes n))
 
 -- a value at the front of an area of n bytes, the spare bytes zero
-unfoldable pub readArea : {A : Type 0} → ℕ → Reader A → (A → List ℕ) → Reader A
-readArea n r w = given (λ a. leb (length (w a)) n) (both r (λ a. readZeros (n - length (w a))) (λ a z. a))
+unfoldable pub read_area : {A : Type 0} → ℕ → Reader A → (A → List ℕ) → Reader A
+read_area n r w = given (λ a. leb (length (w a)) n) (both r (λ a. read_zeros (n - length (w a))) (λ a z. a))
 
-unfoldable pub writeArea : {A : Type 0} → ℕ → (A → List ℕ) → A → List ℕ
-writeArea n w a = w a ++ replicate (n - length (w a)) 0
+unfoldable pub write_area : {A : Type 0} → ℕ → (A → List ℕ) → A → List ℕ
+write_area n w a = w a ++ replicate (n - length (w a)) 0
 
 -- what follows a reading of all bytes
 abbrev pub chain : {A B : Type 0} → Option A → (A → Option B) → Option B
@@ -91,5 +91,5 @@ abbrev pub whole : {A : Type 0} → Reader A → List ℕ → Option A
 whole r s = chain (r s) (λ x. cond (eqb (length x.rest) 0) (some x.value) none)
 
 -- a value at the front, and one of all bytes after it
-abbrev pub endWith : {A B C : Type 0} → Reader A → (A → List ℕ → Option B) → (A → B → C) → List ℕ → Option C
-endWith ra rb make s = chain (ra s) (λ x. chain (rb x.value x.rest) (λ b. some (make x.value b)))
+abbrev pub end_with : {A B C : Type 0} → Reader A → (A → List ℕ → Option B) → (A → B → C) → List ℕ → Option C
+end_with ra rb make s = chain (ra s) (λ x. chain (rb x.value x.rest) (λ b. some (make x.value b)))

@@ -9,16 +9,16 @@ passes s =
     && (leb 1 s.f && (leb s.f 4096 && leb 4 (s.k * s.f))))))))
 
 -- the longest pointer: version, bit map and t + k digests
-abbrev pub pointerSize : Measures → ℕ
-pointerSize s = 7 + 32 * (s.t + s.k)
+abbrev pub pointer_size : Measures → ℕ
+pointer_size s = 7 + 32 * (s.t + s.k)
 
 -- a directory row's area
-abbrev pub rowSize : Measures → ℕ
-rowSize s = 1 + (s.m + 1) * pointerSize s + 4 * s.m + 4
+abbrev pub row_size : Measures → ℕ
+row_size s = 1 + (s.m + 1) * pointer_size s + 4 * s.m + 4
 
 -- a node table's places, and the bytes of one
 abbrev pub places : Measures → ℕ
 places s = 2 * (s.m * s.m)
 
-abbrev pub placeSize : Measures → ℕ
-placeSize s = 7 + s.f
+abbrev pub place_size : Measures → ℕ
+place_size s = 7 + s.f

@@ -13,11 +13,11 @@ keep h (x ∷ l) =
     (cond (below x.version h.version) (x ∷ keep h l) (h ∷ l))
 
 -- upon d-Read: the piece of a version, or none if it is not held
-unfoldable pub handBack : Version → List Held → Option (List ℕ)
-handBack v [] = none
-handBack v (x ∷ l) =
+unfoldable pub hand_back : Version → List Held → Option (List ℕ)
+hand_back v [] = none
+hand_back v (x ∷ l) =
     cond (below v x.version) none
-    (cond (below x.version v) (handBack v l) (some x.piece))
+    (cond (below x.version v) (hand_back v l) (some x.piece))
 
 -- one of the listed versions
 unfoldable pub listed : Version → List Version → Bool

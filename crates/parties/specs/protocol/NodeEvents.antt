@@ -3,10 +3,10 @@ use Rattle.std.specs.Prelude.{Bool, true, false, cond, ◌&&◌, ◌||◌, List,
 use Rattle.std.proofs.Math.Option.{Option, some, none}
 use Rattle.parties.specs.declared.Measures.{Measures}
 use Rattle.parties.specs.protocol.Format.{Read}
-use Rattle.parties.specs.protocol.Measures.{passes, places, placeSize}
-use Rattle.parties.specs.protocol.NodeTable.{Held, readTable, writeTable}
-use Rattle.parties.specs.protocol.Node.{keep, handBack, release}
-use Rattle.parties.specs.protocol.Message.{ToNode, store, request, free, ToClient, stored, freed, answer, readToNode, writeToClient}
+use Rattle.parties.specs.protocol.Measures.{passes, places, place_size}
+use Rattle.parties.specs.protocol.NodeTable.{Held, read_table, write_table}
+use Rattle.parties.specs.protocol.Node.{keep, hand_back, release}
+use Rattle.parties.specs.protocol.Message.{ToNode, store, request, free, ToClient, stored, freed, answer, read_to_node, write_to_client}
 use Rattle.parties.specs.protocol.Answer.{Served, refuses, serves}
 
 pub record NodeEnd : Type 0 where
@@ -15,18 +15,18 @@ pub record NodeEnd : Type 0 where
   pub room : List ℕ
 
 -- the bytes of a node table, and of the longest answer: a reply with a piece
-abbrev pub tableSize : Measures → ℕ
-tableSize s = 2 + places s * placeSize s
+abbrev pub table_size : Measures → ℕ
+table_size s = 2 + places s * place_size s
 
-abbrev pub answerSize : Measures → ℕ
-answerSize s = 7 + s.f
+abbrev pub answer_size : Measures → ℕ
+answer_size s = 7 + s.f
 
 -- a fresh table is written
-unfoldable pub nodeFresh : Measures → List ℕ → NodeEnd
-nodeFresh s table =
+unfoldable pub node_fresh : Measures → List ℕ → NodeEnd
+node_fresh s table =
     cond (passes s)
-    (cond (leb (tableSize s) (length table))
-    (record { answer = serves 0; table = writeTable s [] ++ drop (tableSize s) table; room = [] })
+    (cond (leb (table_size s) (length table))
+    (record { answer = serves 0; table = write_table s [] ++ drop (table_size s) table; room = [] })
     (record { answer = refuses 2; table = table; room = [] }))
     (record { answer = refuses 1; table = table; room = [] })
 
@@ -35,34 +35,34 @@ is_held none = false
 is_held (some p) = true
 
 -- the held pieces after a message; 8 for a new version at a full table
-abbrev pub heldAfter : Measures → List Held → ToNode → Option (List Held)
-heldAfter s l (store v p) =
-    cond (is_held (handBack v l) || ltb (length l) (places s)) (some (keep (record { version = v; piece = p }) l)) none
-heldAfter s l (request v) = some l
-heldAfter s l (free vs) = some (release vs l)
+abbrev pub held_after : Measures → List Held → ToNode → Option (List Held)
+held_after s l (store v p) =
+    cond (is_held (hand_back v l) || ltb (length l) (places s)) (some (keep (record { version = v; piece = p }) l)) none
+held_after s l (request v) = some l
+held_after s l (free vs) = some (release vs l)
 
 -- storing is acknowledged with its version, dropping without one
-abbrev pub answerTo : List Held → ToNode → ToClient
-answerTo l (store v p) = stored v
-answerTo l (request v) = answer v (handBack v l)
-answerTo l (free vs) = freed
+abbrev pub answer_to : List Held → ToNode → ToClient
+answer_to l (store v p) = stored v
+answer_to l (request v) = answer v (hand_back v l)
+answer_to l (free vs) = freed
 
 abbrev pub kept : Measures → List ℕ → List ℕ → List ℕ → Option (List Held) → List ℕ → NodeEnd
 kept s table room rest none reply = record { answer = refuses 8; table = table; room = room }
 kept s table room rest (some l) reply =
-    record { answer = serves (length reply); table = writeTable s l ++ rest; room = reply ++ drop (length reply) room }
+    record { answer = serves (length reply); table = write_table s l ++ rest; room = reply ++ drop (length reply) room }
 
-abbrev pub onMessage : Measures → List ℕ → List ℕ → Option (Read (List Held)) → Option ToNode → NodeEnd
-onMessage s table room none m = record { answer = refuses 4; table = table; room = room }
-onMessage s table room (some r) none = record { answer = refuses 4; table = table; room = room }
-onMessage s table room (some r) (some m) = kept s table room r.rest (heldAfter s r.value m) (writeToClient (answerTo r.value m))
+abbrev pub on_message : Measures → List ℕ → List ℕ → Option (Read (List Held)) → Option ToNode → NodeEnd
+on_message s table room none m = record { answer = refuses 4; table = table; room = room }
+on_message s table room (some r) none = record { answer = refuses 4; table = table; room = room }
+on_message s table room (some r) (some m) = kept s table room r.rest (held_after s r.value m) (write_to_client (answer_to r.value m))
 
 -- a message handed to node i
-unfoldable pub nodeMessage : Measures → ℕ → List ℕ → List ℕ → List ℕ → NodeEnd
-nodeMessage s i table message room =
+unfoldable pub node_message : Measures → ℕ → List ℕ → List ℕ → List ℕ → NodeEnd
+node_message s i table message room =
     cond (passes s)
-    (cond (leb (tableSize s) (length table) && leb (answerSize s) (length room))
-    (cond (leb 1 i && leb i s.n) (onMessage s table room (readTable s table) (readToNode s message))
+    (cond (leb (table_size s) (length table) && leb (answer_size s) (length room))
+    (cond (leb 1 i && leb i s.n) (on_message s table room (read_table s table) (read_to_node s message))
     (record { answer = refuses 3; table = table; room = room }))
     (record { answer = refuses 2; table = table; room = room }))
     (record { answer = refuses 1; table = table; room = room })

@@ -2,30 +2,30 @@
 use Rattle.std.specs.Prelude.{◌≡◌, ◌⊎◌, Bool, true, false, ◌&&◌, ◌||◌, List, [], ◌∷◌, ℕ, suc, ◌<◌, eqb, length, get_or}
 use Rattle.std.proofs.Math.Option.{Option}
 use Rattle.parties.specs.declared.ReadingIndex.{ReadingIndex}
-use Rattle.parties.specs.protocol.Pointer.{Pointer, nonePointer, is_none, allPointers}
-use Rattle.parties.specs.protocol.Directory.{Content, allFields, Row, no_row}
+use Rattle.parties.specs.protocol.Pointer.{Pointer, none_pointer, is_none, all_pointers}
+use Rattle.parties.specs.protocol.Directory.{Content, all_fields, Row, no_row}
 use Rattle.parties.specs.protocol.Reading.{candidate}
 
-abbrev pub ownPointer : ℕ → Pointer → Bool
-ownPointer p x = is_none x || eqb x.version.client p
+abbrev pub own_pointer : ℕ → Pointer → Bool
+own_pointer p x = is_none x || eqb x.version.client p
 
 -- of an update's record the row is the caller's
-abbrev pub ownFields : ℕ → List (Option Content) → Bool
-ownFields p u = allFields (ownPointer p) u
+abbrev pub own_fields : ℕ → List (Option Content) → Bool
+own_fields p u = all_fields (own_pointer p) u
 
 abbrev pub own_row : ℕ → Row → Bool
-own_row p r = allPointers (ownPointer p) (r.written ∷ r.frozen)
+own_row p r = all_pointers (own_pointer p) (r.written ∷ r.frozen)
 
 -- the rows of the clients from p on
-unfoldable pub ownRows : ℕ → List Row → Bool
-ownRows p [] = true
-ownRows p (r ∷ l) = own_row p r && ownRows (suc p) l
+unfoldable pub own_rows : ℕ → List Row → Bool
+own_rows p [] = true
+own_rows p (r ∷ l) = own_row p r && own_rows (suc p) l
 
 -- ---- what it makes true
 
 -- a row has a pointer, written or frozen
 abbrev pub Has : Row → Pointer → Type 0
-Has r x = (r.written ≡ x) ⊎ ((i : ℕ) × (i < length r.frozen) × (get_or r.frozen i nonePointer ≡ x))
+Has r x = (r.written ≡ x) ⊎ ((i : ℕ) × (i < length r.frozen) × (get_or r.frozen i none_pointer ≡ x))
 
 -- a version stands in one row alone, so that document 01's "on a tie the lowest row's" concerns none alone
 pub record OneRow (l : List Row) : Type 0 where

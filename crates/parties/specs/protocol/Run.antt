@@ -3,17 +3,17 @@ use Rattle.std.specs.Prelude.{Bool, true, false, cond, ◌&&◌, List, [], ◌�
 use Rattle.std.proofs.Math.Option.{Option, some, none}
 use Rattle.parties.specs.declared.Measures.{Measures}
 use Rattle.parties.specs.declared.Version.{Version}
-use Rattle.parties.specs.protocol.Version.{noVersion}
+use Rattle.parties.specs.protocol.Version.{no_version}
 use Rattle.parties.specs.protocol.Format.{Read, whole}
-use Rattle.parties.specs.protocol.Pointer.{Pointer, nonePointer}
-use Rattle.parties.specs.protocol.Directory.{Content, pointersIn, readRecord, writeDirectory, freshDirectory}
-use Rattle.parties.specs.protocol.NodeTable.{writeTable}
-use Rattle.parties.specs.protocol.Message.{ToClient, readToClient}
-use Rattle.parties.specs.protocol.Client.{Phase, idle, scanning, storing, updating, freezing, raising, picking, fetching, Client, readClient, writeClient, freshClient}
+use Rattle.parties.specs.protocol.Pointer.{Pointer, none_pointer}
+use Rattle.parties.specs.protocol.Directory.{Content, pointers_in, read_record, write_directory, fresh_directory}
+use Rattle.parties.specs.protocol.NodeTable.{write_table}
+use Rattle.parties.specs.protocol.Message.{ToClient, read_to_client}
+use Rattle.parties.specs.protocol.Client.{Phase, idle, scanning, storing, updating, freezing, raising, picking, fetching, Client, read_client, write_client, fresh_client}
 use Rattle.parties.specs.protocol.Answer.{ClientAnswer, refused, waits, scan, update, stores, requests, deposited, empty, page, spent, failed, Served, refuses, serves}
-use Rattle.parties.specs.protocol.ClientEvents.{ClientEnd, startDeposit, startReading, updateAnswer, scanAnswer, clientMessage, messageTo}
-use Rattle.parties.specs.protocol.DirectoryEvents.{DirectoryEnd, directoryUpdate, directoryScan}
-use Rattle.parties.specs.protocol.NodeEvents.{NodeEnd, nodeMessage}
+use Rattle.parties.specs.protocol.ClientEvents.{ClientEnd, start_deposit, start_reading, update_answer, scan_answer, client_message, message_to}
+use Rattle.parties.specs.protocol.DirectoryEvents.{DirectoryEnd, directory_update, directory_scan}
+use Rattle.parties.specs.protocol.NodeEvents.{NodeEnd, node_message}
 
 -- ---- the history of operations
 
@@ -60,8 +60,8 @@ pub record History : Type 0 where
 
 -- a directory call
 pub data Call : Type 0 where
-  scanCall : Call
-  updateCall : List ℕ → Call
+  scan_call : Call
+  update_call : List ℕ → Call
 
 -- its answer
 pub data Return : Type 0 where
@@ -75,8 +75,8 @@ pub record State : Type 0 where
   pub clients : ℕ → List ℕ
   pub calls : ℕ → List Call
   pub returns : ℕ → List Return
-  pub toNode : ℕ → ℕ → List (List ℕ)
-  pub toClient : ℕ → ℕ → List (List ℕ)
+  pub to_node : ℕ → ℕ → List (List ℕ)
+  pub to_client : ℕ → ℕ → List (List ℕ)
   pub history : History
 
 abbrev pub upd : {A : Type 0} → (ℕ → A) → ℕ → A → ℕ → A
@@ -105,22 +105,22 @@ pub data Event : Type 0 where
 -- what an event answered: the party's answer, or nothing; nothing where none was under way, at a dishonest node, and at a lie of an honest one
 pub data Answered : Type 0 where
   nothing : Answered
-  byClient : ClientAnswer → Answered
-  byServer : Served → Answered
+  by_client : ClientAnswer → Answered
+  by_server : Served → Answered
 
 -- ---- what a client's event leaves behind it
 
 -- what is sent to a node stands last in its queue
-abbrev pub sentTo : Option (List ℕ) → List (List ℕ) → List (List ℕ)
-sentTo none q = q
-sentTo (some m) q = q ++ (m ∷ [])
+abbrev pub sent_to : Option (List ℕ) → List (List ℕ) → List (List ℕ)
+sent_to none q = q
+sent_to (some m) q = q ++ (m ∷ [])
 
 -- so does a call
 abbrev pub called : ClientAnswer → List ℕ → List Call → List Call
 called (refused n) room q = q
 called waits room q = q
-called scan room q = q ++ (scanCall ∷ [])
-called (update len) room q = q ++ (updateCall (take len room) ∷ [])
+called scan room q = q ++ (scan_call ∷ [])
+called (update len) room q = q ++ (update_call (take len room) ∷ [])
 called (stores v len) room q = q
 called (requests v nodes) room q = q
 called (deposited v len) room q = q
@@ -130,19 +130,19 @@ called spent room q = q
 called failed room q = q
 
 -- the pointer that a reading's record shows
-abbrev pub pointerAt : Phase → Option Pointer
-pointerAt idle = none
-pointerAt (scanning bytes) = none
-pointerAt (storing v a ds) = none
-pointerAt (updating p) = none
-pointerAt (freezing p) = none
-pointerAt raising = none
-pointerAt picking = none
-pointerAt (fetching p n m ps) = some p
+abbrev pub pointer_at : Phase → Option Pointer
+pointer_at idle = none
+pointer_at (scanning bytes) = none
+pointer_at (storing v a ds) = none
+pointer_at (updating p) = none
+pointer_at (freezing p) = none
+pointer_at raising = none
+pointer_at picking = none
+pointer_at (fetching p n m ps) = some p
 
-abbrev pub pointerIn : Option (Read Client) → Option Pointer
-pointerIn none = none
-pointerIn (some r) = pointerAt r.value.phase
+abbrev pub pointer_in : Option (Read Client) → Option Pointer
+pointer_in none = none
+pointer_in (some r) = pointer_at r.value.phase
 
 -- marks of an operation: what it bears, a reading's pointer, its end, and what it gave
 abbrev pub bearing : Version → Operation → Operation
@@ -169,9 +169,9 @@ marked s time waits client out o = o
 marked s time scan client out o = o
 marked s time (update len) client out o = o
 marked s time (stores v len) client out o = bearing v o
-marked s time (requests v nodes) client out o = bearing v (pointing (pointerIn (readClient s client)) o)
+marked s time (requests v nodes) client out o = bearing v (pointing (pointer_in (read_client s client)) o)
 marked s time (deposited v len) client out o = ending time o
-marked s time empty client out o = ending time (bearing noVersion (pointing (some nonePointer) o))
+marked s time empty client out o = ending time (bearing no_version (pointing (some none_pointer) o))
 marked s time (page v len) client out o = ending time (giving (take len out) o)
 marked s time spent client out o = ending time o
 marked s time failed client out o = ending time o
@@ -224,14 +224,14 @@ heard s c i message b h =
       operation = h.operation;
       latest = h.latest;
       puts = h.puts;
-      replied = replying c i h.time b (readToClient s message) h.replied;
+      replied = replying c i h.time b (read_to_client s message) h.replied;
     }
 
 -- the written pointer of an update's record, if its bit stands
-abbrev pub putBy : Option (List (Option Content)) → ℕ → List Put
-putBy none o = []
-putBy (some []) o = []
-putBy (some (f ∷ l)) o = put_all (pointersIn f) o
+abbrev pub put_by : Option (List (Option Content)) → ℕ → List Put
+put_by none o = []
+put_by (some []) o = []
+put_by (some (f ∷ l)) o = put_all (pointers_in f) o
   where
     put_all : List Pointer → ℕ → List Put
     put_all [] o = []
@@ -244,7 +244,7 @@ put_in s c fields h =
       begun = h.begun;
       operation = h.operation;
       latest = h.latest;
-      puts = h.puts ++ putBy (whole (readRecord s) fields) (h.latest c);
+      puts = h.puts ++ put_by (whole (read_record s) fields) (h.latest c);
       replied = h.replied;
     }
 
@@ -266,21 +266,21 @@ stays a h st =
             clients = st.clients;
             calls = st.calls;
             returns = st.returns;
-            toNode = st.toNode;
-            toClient = st.toClient;
+            to_node = st.to_node;
+            to_client = st.to_client;
             history = h;
           };
     }
 
 -- messages go to the nodes 1 to n
 abbrev pub sends : Measures → ClientEnd → ℕ → Option (List ℕ)
-sends s e i = cond (leb 1 i && leb i s.n) (messageTo s e.answer e.room i) none
+sends s e i = cond (leb 1 i && leb i s.n) (message_to s e.answer e.room i) none
 
 -- a client's event, with the answers and messages that are then under way to clients
 abbrev pub goes : Measures → ℕ → ClientEnd → (ℕ → List Return) → (ℕ → ℕ → List (List ℕ)) → History → State → Result
-goes s c e returns toClient h st =
+goes s c e returns to_client h st =
     record {
-      answer = byClient e.answer;
+      answer = by_client e.answer;
       state =
           record {
             directory = st.directory;
@@ -288,8 +288,8 @@ goes s c e returns toClient h st =
             clients = upd st.clients c e.client;
             calls = upd st.calls c (called e.answer e.room (st.calls c));
             returns = returns;
-            toNode = upd st.toNode c (λ i. sentTo (sends s e i) (st.toNode c i));
-            toClient = toClient;
+            to_node = upd st.to_node c (λ i. sent_to (sends s e i) (st.to_node c i));
+            to_client = to_client;
             history = h;
           };
     }
@@ -310,36 +310,36 @@ is_refused failed = false
 -- a start
 abbrev pub starts : Measures → ℕ → Option (List ℕ) → ClientEnd → State → Result
 starts s c bytes e st =
-    cond (is_refused e.answer) (stays (byClient e.answer) (tick st.history) st)
-    (goes s c e st.returns st.toClient (begin c bytes st.history) st)
+    cond (is_refused e.answer) (stays (by_client e.answer) (tick st.history) st)
+    (goes s c e st.returns st.to_client (begin c bytes st.history) st)
 
 -- the answer of a directory call
 abbrev pub returned : Measures → ℕ → List Return → ClientEnd → State → Result
 returned s c q e st =
-    cond (is_refused e.answer) (stays (byClient e.answer) (tick st.history) st)
-    (goes s c e (upd st.returns c q) st.toClient (mark s c e st.history) st)
+    cond (is_refused e.answer) (stays (by_client e.answer) (tick st.history) st)
+    (goes s c e (upd st.returns c q) st.to_client (mark s c e st.history) st)
 
 abbrev pub handed : Measures → ℕ → List ℕ → List Return → State → Result
 handed s c room [] st = stays nothing (tick st.history) st
-handed s c room (updated ∷ q) st = returned s c q (updateAnswer s c (st.clients c) room) st
-handed s c room (rows b ∷ q) st = returned s c q (scanAnswer s c (st.clients c) b room) st
+handed s c room (updated ∷ q) st = returned s c q (update_answer s c (st.clients c) room) st
+handed s c room (rows b ∷ q) st = returned s c q (scan_answer s c (st.clients c) b room) st
 
 -- a message of node i to client c, with the messages that are then under way to clients
 abbrev pub told : Measures → ℕ → ℕ → List ℕ → (ℕ → ℕ → List (List ℕ)) → ClientEnd → State → Result
-told s c i message toClient e st =
-    cond (is_refused e.answer) (stays (byClient e.answer) (tick (heard s c i message true st.history)) st)
-    (goes s c e st.returns toClient (mark s c e (heard s c i message false st.history)) st)
+told s c i message to_client e st =
+    cond (is_refused e.answer) (stays (by_client e.answer) (tick (heard s c i message true st.history)) st)
+    (goes s c e st.returns to_client (mark s c e (heard s c i message false st.history)) st)
 
 abbrev pub delivered : Measures → ℕ → ℕ → List ℕ → List ℕ → List (List ℕ) → State → Result
 delivered s i c room out [] st = stays nothing (tick st.history) st
-delivered s i c room out (m ∷ q) st = told s c i m (upd₂ st.toClient i c q) (clientMessage s c i (st.clients c) m room out) st
+delivered s i c room out (m ∷ q) st = told s c i m (upd₂ st.to_client i c q) (client_message s c i (st.clients c) m room out) st
 
 -- a directory call: its table, the calls and answers that are then under way
 abbrev pub carried : ℕ → List Call → Return → DirectoryEnd → History → History → Served → State → Result
-carried c q r e done same (refuses n) st = stays (byServer (refuses n)) same st
+carried c q r e done same (refuses n) st = stays (by_server (refuses n)) same st
 carried c q r e done same (serves len) st =
     record {
-      answer = byServer (serves len);
+      answer = by_server (serves len);
       state =
           record {
             directory = e.table;
@@ -347,8 +347,8 @@ carried c q r e done same (serves len) st =
             clients = st.clients;
             calls = upd st.calls c q;
             returns = upd st.returns c (st.returns c ++ (r ∷ []));
-            toNode = st.toNode;
-            toClient = st.toClient;
+            to_node = st.to_node;
+            to_client = st.to_client;
             history = done;
           };
     }
@@ -357,24 +357,24 @@ abbrev pub length_of : Served → ℕ
 length_of (refuses n) = 0
 length_of (serves len) = len
 
-abbrev pub scanBy : ℕ → List Call → DirectoryEnd → State → Result
-scanBy c q e st =
+abbrev pub scan_by : ℕ → List Call → DirectoryEnd → State → Result
+scan_by c q e st =
     carried c q (rows (take (length_of e.answer) e.room)) e (tick st.history) (tick st.history) e.answer st
 
-abbrev pub updateBy : Measures → ℕ → List ℕ → List Call → DirectoryEnd → State → Result
-updateBy s c fields q e st = carried c q updated e (put_in s c fields st.history) (tick st.history) e.answer st
+abbrev pub update_by : Measures → ℕ → List ℕ → List Call → DirectoryEnd → State → Result
+update_by s c fields q e st = carried c q updated e (put_in s c fields st.history) (tick st.history) e.answer st
 
 abbrev pub carries : Measures → ℕ → List ℕ → List Call → State → Result
 carries s c room [] st = stays nothing (tick st.history) st
-carries s c room (scanCall ∷ q) st = scanBy c q (directoryScan s st.directory room) st
-carries s c room (updateCall fields ∷ q) st = updateBy s c fields q (directoryUpdate s c st.directory fields) st
+carries s c room (scan_call ∷ q) st = scan_by c q (directory_scan s st.directory room) st
+carries s c room (update_call fields ∷ q) st = update_by s c fields q (directory_update s c st.directory fields) st
 
 -- a message to an honest node: its table, and the answer under way
 abbrev pub keeps : ℕ → ℕ → List (List ℕ) → NodeEnd → Served → State → Result
-keeps c i q e (refuses n) st = stays (byServer (refuses n)) (tick st.history) st
+keeps c i q e (refuses n) st = stays (by_server (refuses n)) (tick st.history) st
 keeps c i q e (serves len) st =
     record {
-      answer = byServer (serves len);
+      answer = by_server (serves len);
       state =
           record {
             directory = st.directory;
@@ -382,8 +382,8 @@ keeps c i q e (serves len) st =
             clients = st.clients;
             calls = st.calls;
             returns = st.returns;
-            toNode = upd₂ st.toNode c i q;
-            toClient = upd₂ st.toClient i c (st.toClient i c ++ (take len e.room ∷ []));
+            to_node = upd₂ st.to_node c i q;
+            to_client = upd₂ st.to_client i c (st.to_client i c ++ (take len e.room ∷ []));
             history = tick st.history;
           };
     }
@@ -400,8 +400,8 @@ lost c i q st =
             clients = st.clients;
             calls = st.calls;
             returns = st.returns;
-            toNode = upd₂ st.toNode c i q;
-            toClient = st.toClient;
+            to_node = upd₂ st.to_node c i q;
+            to_client = st.to_client;
             history = tick st.history;
           };
     }
@@ -410,31 +410,31 @@ abbrev pub brought : Measures → (ℕ → Bool) → ℕ → ℕ → List ℕ �
 brought s honest c i room [] st = stays nothing (tick st.history) st
 brought s honest c i room (m ∷ q) st =
     cond (honest i)
-    (keeps c i q (nodeMessage s i (st.nodes i) m room) (nodeMessage s i (st.nodes i) m room).answer st)
+    (keeps c i q (node_message s i (st.nodes i) m room) (node_message s i (st.nodes i) m room).answer st)
     (lost c i q st)
 
 -- one event, where `honest` tells the honest nodes
-unfoldable pub carryOut : Measures → (ℕ → Bool) → Event → State → Result
-carryOut s honest (deposit c bytes) st = starts s c (some bytes) (startDeposit s c (st.clients c) bytes) st
-carryOut s honest (reading c room) st = starts s c none (startReading s c (st.clients c) room) st
-carryOut s honest (carry c room) st = carries s c room (st.calls c) st
-carryOut s honest (hand c room) st = handed s c room (st.returns c) st
-carryOut s honest (bring c i room) st = brought s honest c i room (st.toNode c i) st
-carryOut s honest (deliver i c room out) st = delivered s i c room out (st.toClient i c) st
-carryOut s honest (lie i c bytes room out) st =
-    cond (honest i) (stays nothing (tick st.history) st) (told s c i bytes st.toClient (clientMessage s c i (st.clients c) bytes room out) st)
+unfoldable pub carry_out : Measures → (ℕ → Bool) → Event → State → Result
+carry_out s honest (deposit c bytes) st = starts s c (some bytes) (start_deposit s c (st.clients c) bytes) st
+carry_out s honest (reading c room) st = starts s c none (start_reading s c (st.clients c) room) st
+carry_out s honest (carry c room) st = carries s c room (st.calls c) st
+carry_out s honest (hand c room) st = handed s c room (st.returns c) st
+carry_out s honest (bring c i room) st = brought s honest c i room (st.to_node c i) st
+carry_out s honest (deliver i c room out) st = delivered s i c room out (st.to_client i c) st
+carry_out s honest (lie i c bytes room out) st =
+    cond (honest i) (stays nothing (tick st.history) st) (told s c i bytes st.to_client (client_message s c i (st.clients c) bytes room out) st)
 
 -- fresh tables and client records, no message under way, no operation
 abbrev pub fresh : Measures → State
 fresh s =
     record {
-      directory = writeDirectory s (freshDirectory s);
-      nodes = λ i. writeTable s [];
-      clients = λ c. writeClient s (freshClient s);
+      directory = write_directory s (fresh_directory s);
+      nodes = λ i. write_table s [];
+      clients = λ c. write_client s (fresh_client s);
       calls = λ c. [];
       returns = λ c. [];
-      toNode = λ c i. [];
-      toClient = λ i c. [];
+      to_node = λ c i. [];
+      to_client = λ i c. [];
       history =
           record {
             time = 0;
@@ -449,4 +449,4 @@ fresh s =
 -- the state after a list of events
 unfoldable pub run : Measures → (ℕ → Bool) → List Event → State → State
 run s honest [] st = st
-run s honest (e ∷ es) st = run s honest es (carryOut s honest e st).state
+run s honest (e ∷ es) st = run s honest es (carry_out s honest e st).state

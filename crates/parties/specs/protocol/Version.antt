@@ -11,24 +11,24 @@ abbrev pub below : Version → Version → Bool
 below a b = ltb a.sequence.0 b.sequence.0 || (eqb a.sequence.0 b.sequence.0 && ltb a.client b.client)
 
 -- "none" is (0, 255) and is below all others that a pointer may have: those with a sequence of at least 1
-abbrev pub noClient : ℕ
-noClient = 255
+abbrev pub no_client : ℕ
+no_client = 255
 
-abbrev pub noVersion : Version
-noVersion = record { sequence = record { 0 = 0 }; client = noClient }
+abbrev pub no_version : Version
+no_version = record { sequence = record { 0 = 0 }; client = no_client }
 
-abbrev pub isNoVersion : Version → Bool
-isNoVersion v = eqb v.sequence.0 0 && eqb v.client noClient
+abbrev pub is_no_version : Version → Bool
+is_no_version v = eqb v.sequence.0 0 && eqb v.client no_client
 
 -- one above, where numbers are 32 bits wide: the last has none
-abbrev pub lastNumber : ℕ
-lastNumber = 4294967295
+abbrev pub last_number : ℕ
+last_number = 4294967295
 
-abbrev pub nextSequence : Sequence → NextSequence
-nextSequence s = cond (ltb s.0 lastNumber) (NextSequence.Drawn (record { 0 = s.0 + 1 })) NextSequence.Spent
+abbrev pub next_sequence : Sequence → NextSequence
+next_sequence s = cond (ltb s.0 last_number) (NextSequence.Drawn (record { 0 = s.0 + 1 })) NextSequence.Spent
 
-abbrev pub nextIndex : ReadingIndex → NextIndex
-nextIndex i = cond (ltb i.0 lastNumber) (NextIndex.Raised (record { 0 = i.0 + 1 })) NextIndex.Spent
+abbrev pub next_index : ReadingIndex → NextIndex
+next_index i = cond (ltb i.0 last_number) (NextIndex.Raised (record { 0 = i.0 + 1 })) NextIndex.Spent
 
 -- strictly ascending
 unfoldable pub ascending : List Version → Bool

@@ -4,11 +4,11 @@ use Rattle.std.proofs.Math.Option.{Option, some, none}
 use Rattle.parties.specs.declared.Measures.{Measures}
 use Rattle.parties.specs.declared.Version.{Version}
 use Rattle.parties.specs.protocol.Format.{Read, Reader, given}
-use Rattle.parties.specs.protocol.Measures.{rowSize}
-use Rattle.parties.specs.protocol.Pointer.{Pointer, properPointer, readAnyPointer, readPointer}
-use Rattle.parties.specs.protocol.Directory.{Field, fields, readContent, readFields, readRow, readDirectory}
-use Rattle.parties.specs.protocol.Owner.{ownPointer, ownFields, own_row, ownRows}
-use Rattle.parties.specs.protocol.Verdict.{broken, rowsVerdict, recordVerdict}
+use Rattle.parties.specs.protocol.Measures.{row_size}
+use Rattle.parties.specs.protocol.Pointer.{Pointer, proper_pointer, read_any_pointer, read_pointer}
+use Rattle.parties.specs.protocol.Directory.{Field, fields, read_content, read_fields, read_row, read_directory}
+use Rattle.parties.specs.protocol.Owner.{own_pointer, own_fields, own_row, own_rows}
+use Rattle.parties.specs.protocol.Verdict.{broken, rows_verdict, record_verdict}
 use Rattle.parties.specs.records.Answer.{number}
 use Rattle.parties.specs.declared.records.form.Form.{Form}
 use Rattle.parties.specs.declared.records.form.Form.TheVariants.{Sound, Broken}
@@ -38,33 +38,33 @@ pub record Formed (t : List ℕ) (at : ℕ) (left : Option (List ℕ)) (r : Form
   pub within : Within at (length t) r
 
 -- what is asked of a pointer that is read
-abbrev pub pointerBy : Measures → Rule → Reader Pointer
-pointerBy s Rule.Length = readAnyPointer
-pointerBy s Rule.Proper = readPointer s
-pointerBy s (Rule.Owner own) = given (ownPointer own) (readPointer s)
+abbrev pub pointer_by : Measures → Rule → Reader Pointer
+pointer_by s Rule.Length = read_any_pointer
+pointer_by s Rule.Proper = read_pointer s
+pointer_by s (Rule.Owner own) = given (own_pointer own) (read_pointer s)
 
 -- a pointer's tests, which go by its version and map alone
 abbrev pub front : Version → ℕ → Pointer
 front v map = record { version = v; named = record { nodes = map; digests = [] } }
 
-abbrev pub properFront : Measures → Version → ℕ → Bool
-properFront s v map = properPointer s (front v map)
+abbrev pub proper_front : Measures → Version → ℕ → Bool
+proper_front s v map = proper_pointer s (front v map)
 
-abbrev pub allowedFront : Measures → Rule → Version → ℕ → Bool
-allowedFront s Rule.Length v map = true
-allowedFront s Rule.Proper v map = properFront s v map
-allowedFront s (Rule.Owner own) v map = properFront s v map && ownPointer own (front v map)
+abbrev pub allowed_front : Measures → Rule → Version → ℕ → Bool
+allowed_front s Rule.Length v map = true
+allowed_front s Rule.Proper v map = proper_front s v map
+allowed_front s (Rule.Owner own) v map = proper_front s v map && own_pointer own (front v map)
 
 -- what is left after a field, if its bit stands
-abbrev pub afterIf : Reader Pointer → Field → Bool → List ℕ → Option (List ℕ)
-afterIf r f stands u = cond stands (rest (readContent r f u)) (some u)
+abbrev pub after_if : Reader Pointer → Field → Bool → List ℕ → Option (List ℕ)
+after_if r f stands u = cond stands (rest (read_content r f u)) (some u)
 
 abbrev pub after : Reader Pointer → Field → ℕ → List ℕ → Option (List ℕ)
-after r f bit u = afterIf r f (eqb bit 1) u
+after r f bit u = after_if r f (eqb bit 1) u
 
 -- a field of indices is tested alike, however pointers are read
 abbrev pub Indexed : ℕ → Bool → List ℕ → ℕ → Form → Type 0
-Indexed n stands t at f = (r : Reader Pointer) → Formed t at (afterIf r (Field.indices n) stands (drop at t)) f
+Indexed n stands t at f = (r : Reader Pointer) → Formed t at (after_if r (Field.indices n) stands (drop at t)) f
 
 -- the fields of a record from a place of t on, each from the end of the one before it
 pub record Ended (s : Measures) (r : Reader Pointer) (t : List ℕ) (at map : ℕ) (e : Ends) : Type 0 where
@@ -75,8 +75,8 @@ pub record Ended (s : Measures) (r : Reader Pointer) (t : List ℕ) (at map : �
   pub ordered : (at ≤ e.written) × (e.written ≤ e.frozen) × (e.frozen ≤ e.indices) × (e.indices ≤ e.index) × (e.index ≤ length t)
 
 abbrev pub Parted : Measures → Rule → List ℕ → ℕ → ℕ → Parts → Type 0
-Parted s rule t at map (Parts.Sound e) = Ended s (pointerBy s rule) t at map e
-Parted s rule t at map Parts.Broken = rest (readFields (pointerBy s rule) (fields s) map (drop at t)) ≡ none
+Parted s rule t at map (Parts.Sound e) = Ended s (pointer_by s rule) t at map e
+Parted s rule t at map Parts.Broken = rest (read_fields (pointer_by s rule) (fields s) map (drop at t)) ≡ none
 
 -- what is read passes a test
 abbrev pub holds : {A : Type 0} → (A → Bool) → Option (Read A) → Bool
@@ -86,29 +86,29 @@ holds test (some r) = test r.value
 -- proper fields, and whether each pointer is the owner's
 abbrev pub OwnParted : Measures → ℕ → List ℕ → ℕ → ℕ → OwnParts → Type 0
 OwnParted s own t at map (OwnParts.Sound e owned) =
-    Ended s (readPointer s) t at map e × (owned ≡ holds (ownFields own) (readFields (readPointer s) (fields s) map (drop at t)))
-OwnParted s own t at map OwnParts.Broken = rest (readFields (readPointer s) (fields s) map (drop at t)) ≡ none
+    Ended s (read_pointer s) t at map e × (owned ≡ holds (own_fields own) (read_fields (read_pointer s) (fields s) map (drop at t)))
+OwnParted s own t at map OwnParts.Broken = rest (read_fields (read_pointer s) (fields s) map (drop at t)) ≡ none
 
 -- the record that is all of t
 abbrev pub Walked : Measures → List ℕ → Ends → Type 0
-Walked s t e = (0 < length t) × (get_or t 0 0 < 16) × Ended s (readPointer s) t 1 (get_or t 0 0) e × (e.index ≡ length t)
+Walked s t e = (0 < length t) × (get_or t 0 0 < 16) × Ended s (read_pointer s) t 1 (get_or t 0 0) e × (e.index ≡ length t)
 
 abbrev pub Recorded : Measures → ℕ → List ℕ → Record → Type 0
 Recorded s own t (Record.Sound e owned) =
-    Walked s t e × (owned ≡ holds (ownFields own) (readFields (readPointer s) (fields s) (get_or t 0 0) (drop 1 t)))
-Recorded s own t (Record.Broken r) = recordVerdict s t ≡ broken (number r)
+    Walked s t e × (owned ≡ holds (own_fields own) (read_fields (read_pointer s) (fields s) (get_or t 0 0) (drop 1 t)))
+Recorded s own t (Record.Broken r) = record_verdict s t ≡ broken (number r)
 
 -- the row at a place of t
 abbrev pub Rowed : Measures → ℕ → List ℕ → ℕ → Table → Type 0
 Rowed s own t at (Table.Sound owned) =
-    (rest (readRow s (drop at t)) ≡ some (drop (at + rowSize s) t)) × (owned ≡ holds (own_row own) (readRow s (drop at t)))
-Rowed s own t at Table.Broken = readRow s (drop at t) ≡ none
+    (rest (read_row s (drop at t)) ≡ some (drop (at + row_size s) t)) × (owned ≡ holds (own_row own) (read_row s (drop at t)))
+Rowed s own t at Table.Broken = read_row s (drop at t) ≡ none
 
 -- the directory at the front of t
 abbrev pub Tabled : Measures → List ℕ → Table → Type 0
-Tabled s t (Table.Sound owned) = (rest (readDirectory s t) ≡ some (drop (s.m * rowSize s) t)) × (owned ≡ holds (ownRows 0) (readDirectory s t))
-Tabled s t Table.Broken = readDirectory s t ≡ none
+Tabled s t (Table.Sound owned) = (rest (read_directory s t) ≡ some (drop (s.m * row_size s) t)) × (owned ≡ holds (own_rows 0) (read_directory s t))
+Tabled s t Table.Broken = read_directory s t ≡ none
 
 abbrev pub Judged : Measures → List ℕ → Verdict → Type 0
-Judged s t Verdict.Sound = (rest (readDirectory s t) ≡ some (drop (s.m * rowSize s) t)) × (true ≡ holds (ownRows 0) (readDirectory s t))
-Judged s t (Verdict.Broken r) = rowsVerdict s t ≡ broken (number r)
+Judged s t Verdict.Sound = (rest (read_directory s t) ≡ some (drop (s.m * row_size s) t)) × (true ≡ holds (own_rows 0) (read_directory s t))
+Judged s t (Verdict.Broken r) = rows_verdict s t ≡ broken (number r)

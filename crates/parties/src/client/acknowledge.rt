@@ -1,14 +1,14 @@
 // Acknowledgements of a version's stores.
 ghost use Rattle.std.specs.Prelude.{◌≡◌, true, not, ◌&&◌, List, ℕ, ◌+◌, ◌≤◌, length};
 ghost use Rattle.parties.specs.protocol.Measures.{passes};
-ghost use Rattle.parties.specs.protocol.Nodes.{stands as standing, count as counted, withNode};
-ghost use Rattle.parties.specs.protocol.Reading.{sameVersion};
-ghost use Rattle.parties.specs.protocol.Client.{storingStep, readClient};
-ghost use Rattle.parties.specs.protocol.ClientEvents.{roomSize};
-ghost use Rattle.parties.specs.client.End.{stepEnd};
-ghost use Rattle.parties.specs.client.Record.{recordOf, is_some, workAt};
-ghost use Rattle.parties.specs.records.Places.{versionAt, number_at};
-ghost use Rattle.parties.specs.client.Publish.{storedEnd};
+ghost use Rattle.parties.specs.protocol.Nodes.{stands as standing, count as counted, with_node};
+ghost use Rattle.parties.specs.protocol.Reading.{same_version};
+ghost use Rattle.parties.specs.protocol.Client.{storing_step, read_client};
+ghost use Rattle.parties.specs.protocol.ClientEvents.{room_size};
+ghost use Rattle.parties.specs.client.End.{step_end};
+ghost use Rattle.parties.specs.client.Record.{record_of, is_some, work_at};
+ghost use Rattle.parties.specs.records.Places.{version_at, number_at};
+ghost use Rattle.parties.specs.client.Publish.{stored_end};
 
 use crate::client::form::work_at;
 use crate::client::publish::{form_pointer, put_update};
@@ -21,7 +21,7 @@ use crate::{ClientAnswer, Measures, Phase, Version};
 // The work stores this version, and the node is not among those that acknowledged it.
 fn adds(i: usize, v: Version, area: &[u8], at: usize) -> bool
     requires { (1 ≤ i) × (i ≤ 16) × (at + 7 ≤ length area.now) }
-    ensures { result ≡ (sameVersion v (versionAt area.now at) && not (standing (number_at area.now (at + 5)) i)) }
+    ensures { result ≡ (same_version v (version_at area.now at) && not (standing (number_at area.now (at + 5)) i)) }
 {
     let w = version_at(area, at);
     if !same_version(v, w) {
@@ -40,10 +40,10 @@ fn publish(
     room: &mut [u8],
     map: u16,
 ) -> ClientAnswer
-    requires { (passes s ≡ true) × (1 ≤ i) × (i ≤ s.n) × (is_some (readClient s (recordOf p area.old)) ≡ true) × (roomSize s ≤ length room.old)
-        × (p.step ≡ storingStep) × ((sameVersion v (versionAt area.old (workAt s)) && not (standing (number_at area.old (workAt s + 5)) i)) ≡ true)
-        × (map ≡ withNode (number_at area.old (workAt s + 5)) i) × (s.t + s.k ≤ counted map) }
-    ensures { (out : List ℕ) → stepEnd p result area.new room.new out ≡ storedEnd s i v (recordOf p area.old) room.old out }
+    requires { (passes s ≡ true) × (1 ≤ i) × (i ≤ s.n) × (is_some (read_client s (record_of p area.old)) ≡ true) × (room_size s ≤ length room.old)
+        × (p.step ≡ storing_step) × ((same_version v (version_at area.old (work_at s)) && not (standing (number_at area.old (work_at s + 5)) i)) ≡ true)
+        × (map ≡ with_node (number_at area.old (work_at s + 5)) i) × (s.t + s.k ≤ counted map) }
+    ensures { (out : List ℕ) → step_end p result area.new room.new out ≡ stored_end s i v (record_of p area.old) room.old out }
 {
     let at = work_at(s);
     form_pointer(s, map, area, at);
@@ -60,8 +60,8 @@ pub fn acknowledge(
     area: &mut [u8],
     room: &mut [u8],
 ) -> ClientAnswer
-    requires { (passes s ≡ true) × (1 ≤ i) × (i ≤ s.n) × (is_some (readClient s (recordOf p area.old)) ≡ true) × (roomSize s ≤ length room.old) }
-    ensures { (out : List ℕ) → stepEnd p result area.new room.new out ≡ storedEnd s i v (recordOf p area.old) room.old out }
+    requires { (passes s ≡ true) × (1 ≤ i) × (i ≤ s.n) × (is_some (read_client s (record_of p area.old)) ≡ true) × (room_size s ≤ length room.old) }
+    ensures { (out : List ℕ) → step_end p result area.new room.new out ≡ stored_end s i v (record_of p area.old) room.old out }
 {
     if p.step != STORING {
         return ClientAnswer::Waits;

@@ -1,21 +1,21 @@
 // A reading's scan: which pointer each row offers, and which of them is picked.
 ghost use Rattle.std.specs.Prelude.{◌≡◌, true, cond, [], ◌++◌, ◌+◌, ◌-◌, ◌*◌, ◌≤◌, ◌<◌, length, drop, replicate};
 ghost use Rattle.std.proofs.Math.Option.{some};
-ghost use Rattle.parties.specs.protocol.Measures.{passes, rowSize};
-ghost use Rattle.parties.specs.protocol.Format.{readMany};
+ghost use Rattle.parties.specs.protocol.Measures.{passes, row_size};
+ghost use Rattle.parties.specs.protocol.Format.{read_many};
 ghost use Rattle.parties.specs.protocol.Version.{below};
-ghost use Rattle.parties.specs.protocol.Pointer.{readPointer, writePointer};
-ghost use Rattle.parties.specs.protocol.Directory.{readRow, readDirectory};
+ghost use Rattle.parties.specs.protocol.Pointer.{read_pointer, write_pointer};
+ghost use Rattle.parties.specs.protocol.Directory.{read_row, read_directory};
 ghost use Rattle.parties.specs.protocol.Reading.{pick};
-ghost use Rattle.parties.specs.protocol.Message.{ToNode, writeToNode};
-ghost use Rattle.parties.specs.protocol.Client.{pickingStep, readClient};
-ghost use Rattle.parties.specs.protocol.ClientEvents.{lay, roomSize};
+ghost use Rattle.parties.specs.protocol.Message.{ToNode, write_to_node};
+ghost use Rattle.parties.specs.protocol.Client.{picking_step, read_client};
+ghost use Rattle.parties.specs.protocol.ClientEvents.{lay, room_size};
 ghost use Rattle.parties.specs.records.Form.{rest};
-ghost use Rattle.parties.specs.client.End.{stepEnd};
-ghost use Rattle.parties.specs.client.Record.{recordOf, is_some};
-ghost use Rattle.parties.specs.records.Places.{versionAt, splice};
+ghost use Rattle.parties.specs.client.End.{step_end};
+ghost use Rattle.parties.specs.client.Record.{record_of, is_some};
+ghost use Rattle.parties.specs.records.Places.{version_at, splice};
 ghost use Rattle.parties.specs.client.Draw.{rows_of};
-ghost use Rattle.parties.specs.client.Choose.{offered, fetchEnd};
+ghost use Rattle.parties.specs.client.Choose.{offered, fetch_end};
 
 use crate::client::form::{work_at, work_size};
 use crate::client::pick::picked;
@@ -34,8 +34,8 @@ pub struct Offer {
 
 // The place after n pointers that stand there.
 pub fn past(s: Measures, n: usize, t: &[u8], at: usize) -> usize
-    requires { (passes s ≡ true) × (at ≤ length t.now) × (is_some (readMany (readPointer s) n (drop at t.now)) ≡ true) }
-    ensures { (rest (readMany (readPointer s) n (drop at t.now)) ≡ some (drop result t.now)) × (result ≤ length t.now) }
+    requires { (passes s ≡ true) × (at ≤ length t.now) × (is_some (read_many (read_pointer s) n (drop at t.now)) ≡ true) }
+    ensures { (rest (read_many (read_pointer s) n (drop at t.now)) ≡ some (drop result t.now)) × (result ≤ length t.now) }
 {
     let Form::Sound(next) = pointers(s, Rule::Proper, n, t, at) else {
         return at;
@@ -45,8 +45,8 @@ pub fn past(s: Measures, n: usize, t: &[u8], at: usize) -> usize
 
 // The pointer that the row at a place offers: the written one, or the one frozen for this client.
 pub fn candidate_at(s: Measures, own: usize, index: ReadingIndex, rows: &[u8], at: usize) -> &[u8]
-    requires { (passes s ≡ true) × (own < s.m) × (at + rowSize s ≤ length rows.now) × (is_some (readRow s (drop at rows.now)) ≡ true) }
-    ensures { result.now ≡ writePointer (offered s own index rows.now at) }
+    requires { (passes s ≡ true) × (own < s.m) × (at + row_size s ≤ length rows.now) × (is_some (read_row s (drop at rows.now)) ≡ true) }
+    ensures { result.now ≡ write_pointer (offered s own index rows.now at) }
 {
     let written = at + 1;
     let frozen = past(s, own + 1, rows, written);
@@ -58,7 +58,7 @@ pub fn candidate_at(s: Measures, own: usize, index: ReadingIndex, rows: &[u8], a
 }
 
 fn offer_at(s: Measures, own: usize, index: ReadingIndex, rows: &[u8], at: usize) -> Offer
-    requires { (passes s ≡ true) × (own < s.m) × (at + rowSize s ≤ length rows.now) × (is_some (readRow s (drop at rows.now)) ≡ true) }
+    requires { (passes s ≡ true) × (own < s.m) × (at + row_size s ≤ length rows.now) × (is_some (read_row s (drop at rows.now)) ≡ true) }
     ensures { result ≡ record { row = at; version = (offered s own index rows.now at).version } }
 {
     let p = candidate_at(s, own, index, rows, at);
@@ -78,9 +78,9 @@ fn better(best: Offer, new: Offer) -> Offer
 
 // The place of the row whose offer a reading picks: from the last row to the first, so that on a tie the lowest row's wins.
 pub fn pick_row(s: Measures, own: usize, index: ReadingIndex, rows: &[u8]) -> usize
-    requires { (passes s ≡ true) × (own < s.m) × (s.m * rowSize s ≤ length rows.now) × (is_some (readDirectory s rows.now) ≡ true) }
-    ensures { (offered s own index rows.now result ≡ pick own index (rows_of (readDirectory s rows.now)))
-        × (result + rowSize s ≤ length rows.now) × (is_some (readRow s (drop result rows.now)) ≡ true) }
+    requires { (passes s ≡ true) × (own < s.m) × (s.m * row_size s ≤ length rows.now) × (is_some (read_directory s rows.now) ≡ true) }
+    ensures { (offered s own index rows.now result ≡ pick own index (rows_of (read_directory s rows.now)))
+        × (result + row_size s ≤ length rows.now) × (is_some (read_row s (drop result rows.now)) ≡ true) }
 {
     let size = row_size(s);
     let mut i = s.m - 1;
@@ -97,7 +97,7 @@ pub fn pick_row(s: Measures, own: usize, index: ReadingIndex, rows: &[u8]) -> us
 // The request for the version of a pointer, at the front of a room.
 pub fn put_request(room: &mut [u8], p: &[u8])
     requires { (6 ≤ length room.old) × (5 ≤ length p.now) }
-    ensures { room.new ≡ lay (writeToNode (ToNode.request (versionAt p.now 0))) room.old }
+    ensures { room.new ≡ lay (write_to_node (ToNode.request (version_at p.now 0))) room.old }
 {
     room[0] = REQUEST;
     copy(room, 1, p, 0, 5);
@@ -122,9 +122,9 @@ pub fn fetch(
     rows: &[u8],
     room: &mut [u8],
 ) -> ClientAnswer
-    requires { (passes s ≡ true) × (own < s.m) × (p.step ≡ pickingStep) × (is_some (readClient s (recordOf p area.old)) ≡ true)
-        × (s.m * rowSize s ≤ length rows.now) × (is_some (readDirectory s rows.now) ≡ true) × (roomSize s ≤ length room.old) }
-    ensures { stepEnd p result area.new room.new [] ≡ fetchEnd s own (recordOf p area.old) rows.now room.old }
+    requires { (passes s ≡ true) × (own < s.m) × (p.step ≡ picking_step) × (is_some (read_client s (record_of p area.old)) ≡ true)
+        × (s.m * row_size s ≤ length rows.now) × (is_some (read_directory s rows.now) ≡ true) × (room_size s ≤ length room.old) }
+    ensures { step_end p result area.new room.new [] ≡ fetch_end s own (record_of p area.old) rows.now room.old }
 {
     let reading = p.reading;
     let row = pick_row(s, own, reading, rows);

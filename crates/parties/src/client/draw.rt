@@ -2,17 +2,17 @@
 ghost use Rattle.std.specs.Prelude.{◌≡◌, true, cond, [], ◌++◌, ◌+◌, ◌-◌, ◌*◌, ◌<◌, ◌≤◌, ltb, length, get_or, take, drop};
 ghost use Rattle.std.proofs.Math.Seq.{paste};
 ghost use Rattle.coding.specs.Pieces.{columns};
-ghost use Rattle.coding.specs.Placed.{pieceDigest};
-ghost use Rattle.parties.specs.protocol.Measures.{passes, rowSize};
-ghost use Rattle.parties.specs.protocol.Pointer.{writeVersion};
-ghost use Rattle.parties.specs.protocol.Directory.{readDirectory, no_row};
-ghost use Rattle.parties.specs.protocol.Message.{ToNode, writeToNode};
-ghost use Rattle.parties.specs.protocol.Client.{scanningStep, workSize, readClient};
-ghost use Rattle.parties.specs.protocol.ClientEvents.{roomSize, storesRoom};
+ghost use Rattle.coding.specs.Placed.{piece_digest};
+ghost use Rattle.parties.specs.protocol.Measures.{passes, row_size};
+ghost use Rattle.parties.specs.protocol.Pointer.{write_version};
+ghost use Rattle.parties.specs.protocol.Directory.{read_directory, no_row};
+ghost use Rattle.parties.specs.protocol.Message.{ToNode, write_to_node};
+ghost use Rattle.parties.specs.protocol.Client.{scanning_step, work_size, read_client};
+ghost use Rattle.parties.specs.protocol.ClientEvents.{room_size, stores_room};
 ghost use Rattle.parties.specs.protocol.Deposit.{highest as highestOf};
-ghost use Rattle.parties.specs.client.End.{stepEnd};
-ghost use Rattle.parties.specs.client.Record.{recordOf, is_some};
-ghost use Rattle.parties.specs.client.Draw.{rows_of, roomDigests, storesWork, drawEnd};
+ghost use Rattle.parties.specs.client.End.{step_end};
+ghost use Rattle.parties.specs.client.Record.{record_of, is_some};
+ghost use Rattle.parties.specs.client.Draw.{rows_of, room_digests, stores_work, draw_end};
 
 use crate::client::form::{work_at, work_size};
 use crate::protocol::tags::STORE;
@@ -35,16 +35,16 @@ fn larger(a: Sequence, b: Sequence) -> Sequence
 
 // The written sequence of row i, which starts with its map; the measures are for the contract alone.
 fn written_sequence(s: Measures, size: usize, rows: &[u8], i: usize) -> Sequence
-    requires { (passes s ≡ true) × (size ≡ rowSize s) × (is_some (readDirectory s rows.now) ≡ true) × (i < s.m) }
-    ensures { result ≡ (get_or (rows_of (readDirectory s rows.now)) i no_row).written.version.sequence }
+    requires { (passes s ≡ true) × (size ≡ row_size s) × (is_some (read_directory s rows.now) ≡ true) × (i < s.m) }
+    ensures { result ≡ (get_or (rows_of (read_directory s rows.now)) i no_row).written.version.sequence }
 {
     Sequence(u32_at(rows, i * size + 1))
 }
 
 // The highest written sequence of the rows, from the last row on.
 pub fn highest(s: Measures, rows: &[u8]) -> Sequence
-    requires { (passes s ≡ true) × (is_some (readDirectory s rows.now) ≡ true) }
-    ensures { result ≡ highestOf (rows_of (readDirectory s rows.now)) }
+    requires { (passes s ≡ true) × (is_some (read_directory s rows.now) ≡ true) }
+    ensures { result ≡ highestOf (rows_of (read_directory s rows.now)) }
 {
     let size = row_size(s);
     let mut top = Sequence(0);
@@ -61,7 +61,7 @@ pub fn highest(s: Measures, rows: &[u8]) -> Sequence
 // The common front of a version's store messages: tag and version.
 pub fn put_front(room: &mut [u8], v: Version)
     requires { 6 ≤ length room.old }
-    ensures { room.new ≡ writeToNode (ToNode.store v []) ++ drop 6 room.old }
+    ensures { room.new ≡ write_to_node (ToNode.store v []) ++ drop 6 room.old }
 {
     room[0] = STORE;
     put_u32(room, 1, v.sequence.0);
@@ -80,7 +80,7 @@ fn put_digest(t: &mut [u8], at: usize, d: [u8; 32])
 // The digest of a node's piece of a version.
 pub fn digest_piece(v: Version, node: usize, piece: &[u8]) -> [u8; 32]
     requires { node ≤ 16 }
-    ensures { result ≡ pieceDigest (writeVersion v) node piece.now }
+    ensures { result ≡ piece_digest (write_version v) node piece.now }
 {
     digest_placed(version_bytes(v), node as u8, piece)
 }
@@ -95,7 +95,7 @@ fn put_piece_digest(
     at: usize,
 )
     requires { (node ≤ 16) × (from + len ≤ length room.now) × (at + 32 ≤ length area.old) }
-    ensures { area.new ≡ paste area.old at (pieceDigest (writeVersion v) node (take len (drop from room.now))) 32 }
+    ensures { area.new ≡ paste area.old at (piece_digest (write_version v) node (take len (drop from room.now))) 32 }
 {
     let to = from + len;
     let d = digest_piece(v, node, &room[from..to]);
@@ -105,7 +105,7 @@ fn put_piece_digest(
 // The digests of all n pieces, each of len bytes at the front of its area in the room.
 pub fn put_digests(s: Measures, v: Version, len: usize, room: &[u8], area: &mut [u8], from: usize)
     requires { (passes s ≡ true) × (len ≤ s.f) × (6 + s.n * s.f ≤ length room.now) × (from + 32 * s.n ≤ length area.old) }
-    ensures { area.new ≡ paste area.old from (roomDigests s.n s.f v len room.now) (32 * s.n) }
+    ensures { area.new ≡ paste area.old from (room_digests s.n s.f v len room.now) (32 * s.n) }
 {
     let n = s.n;
     let f = s.f;
@@ -122,7 +122,7 @@ pub fn put_digests(s: Measures, v: Version, len: usize, room: &[u8], area: &mut 
 
 pub fn put_version(t: &mut [u8], at: usize, v: Version)
     requires { at + 5 ≤ length t.old }
-    ensures { t.new ≡ paste t.old at (writeVersion v) 5 }
+    ensures { t.new ≡ paste t.old at (write_version v) 5 }
 {
     put_u32(t, at, v.sequence.0);
     t[at + 4] = v.client;
@@ -130,8 +130,8 @@ pub fn put_version(t: &mut [u8], at: usize, v: Version)
 
 // The work of a deposit whose pieces are sent: version, no node that acknowledged it, digests, spare bytes.
 fn put_stores(s: Measures, v: Version, len: usize, room: &[u8], area: &mut [u8], at: usize)
-    requires { (passes s ≡ true) × (len ≤ s.f) × (6 + s.n * s.f ≤ length room.now) × (at + workSize s ≤ length area.old) }
-    ensures { area.new ≡ paste area.old at (storesWork s v (roomDigests s.n s.f v len room.now)) (workSize s) }
+    requires { (passes s ≡ true) × (len ≤ s.f) × (6 + s.n * s.f ≤ length room.now) × (at + work_size s ≤ length area.old) }
+    ensures { area.new ≡ paste area.old at (stores_work s v (room_digests s.n s.f v len room.now)) (work_size s) }
 {
     let size = work_size(s);
     let rest = at + 7 + 32 * s.n;
@@ -143,8 +143,8 @@ fn put_stores(s: Measures, v: Version, len: usize, room: &[u8], area: &mut [u8],
 
 // The pieces of a page behind their common front, and their length.
 fn put_pieces(s: Measures, page: &[u8], room: &mut [u8], v: Version) -> usize
-    requires { (passes s ≡ true) × (length page.now ≤ s.k * s.f - 4) × (roomSize s ≤ length room.old) }
-    ensures { (result ≡ columns s.k (length page.now)) × (room.new ≡ storesRoom s v page.now room.old) }
+    requires { (passes s ≡ true) × (length page.now ≤ s.k * s.f - 4) × (room_size s ≤ length room.old) }
+    ensures { (result ≡ columns s.k (length page.now)) × (room.new ≡ stores_room s v page.now room.old) }
 {
     let front = 6;
     let a = split(s.n, s.k, s.f, page, &mut room[front..]);
@@ -165,9 +165,9 @@ pub fn draw(
     room: &mut [u8],
     q: Sequence,
 ) -> ClientAnswer
-    requires { (passes s ≡ true) × (own < s.m) × (p.step ≡ scanningStep) × (is_some (readClient s (recordOf p area.old)) ≡ true)
-        × (roomSize s ≤ length room.old) × (1 ≤ q.0) }
-    ensures { stepEnd p result area.new room.new [] ≡ drawEnd s own q (recordOf p area.old) room.old }
+    requires { (passes s ≡ true) × (own < s.m) × (p.step ≡ scanning_step) × (is_some (read_client s (record_of p area.old)) ≡ true)
+        × (room_size s ≤ length room.old) × (1 ≤ q.0) }
+    ensures { step_end p result area.new room.new [] ≡ draw_end s own q (record_of p area.old) room.old }
 {
     let at = work_at(s);
     let from = at + 4;

@@ -1,8 +1,8 @@
 // Events at a client, whose phase is lent.
 ghost use Rattle.std.specs.Prelude.{◌≡◌};
-ghost use Rattle.parties.specs.protocol.ClientEvents.{clientFresh, startDeposit, startReading, updateAnswer, scanAnswer, clientMessage};
+ghost use Rattle.parties.specs.protocol.ClientEvents.{client_fresh, start_deposit, start_reading, update_answer, scan_answer, client_message};
 ghost use Rattle.parties.specs.client.Answer.{answered};
-ghost use Rattle.parties.specs.client.Record.{recordOf};
+ghost use Rattle.parties.specs.client.Record.{record_of};
 
 use crate::client::turn::{
     fresh_client, message, scan_answer, start_deposit, start_reading, update_answer,
@@ -11,8 +11,8 @@ use crate::{ClientAnswer, Measures, Phase};
 
 // A fresh record is written.
 pub fn fresh(p: &mut Phase, s: Measures, area: &mut [u8]) -> ClientAnswer
-    ensures { (answered result ≡ (clientFresh s (recordOf p.old area.old)).answer)
-        × (recordOf p.new area.new ≡ (clientFresh s (recordOf p.old area.old)).client) }
+    ensures { (answered result ≡ (client_fresh s (record_of p.old area.old)).answer)
+        × (record_of p.new area.new ≡ (client_fresh s (record_of p.old area.old)).client) }
 {
     let t = fresh_client(*p, s, area);
     *p = t.phase;
@@ -21,8 +21,8 @@ pub fn fresh(p: &mut Phase, s: Measures, area: &mut [u8]) -> ClientAnswer
 
 // The start of a deposit.
 pub fn deposit(p: &mut Phase, s: Measures, own: usize, area: &mut [u8], page: &[u8]) -> ClientAnswer
-    ensures { (answered result ≡ (startDeposit s own (recordOf p.old area.old) page.now).answer)
-        × (recordOf p.new area.new ≡ (startDeposit s own (recordOf p.old area.old) page.now).client) }
+    ensures { (answered result ≡ (start_deposit s own (record_of p.old area.old) page.now).answer)
+        × (record_of p.new area.new ≡ (start_deposit s own (record_of p.old area.old) page.now).client) }
 {
     let t = start_deposit(*p, s, own, area, page);
     *p = t.phase;
@@ -37,9 +37,9 @@ pub fn read(
     area: &mut [u8],
     room: &mut [u8],
 ) -> ClientAnswer
-    ensures { (answered result ≡ (startReading s own (recordOf p.old area.old) room.old).answer)
-        × (recordOf p.new area.new ≡ (startReading s own (recordOf p.old area.old) room.old).client)
-        × (room.new ≡ (startReading s own (recordOf p.old area.old) room.old).room) }
+    ensures { (answered result ≡ (start_reading s own (record_of p.old area.old) room.old).answer)
+        × (record_of p.new area.new ≡ (start_reading s own (record_of p.old area.old) room.old).client)
+        × (room.new ≡ (start_reading s own (record_of p.old area.old) room.old).room) }
 {
     let t = start_reading(*p, s, own, area, room);
     *p = t.phase;
@@ -54,9 +54,9 @@ pub fn updated(
     area: &mut [u8],
     room: &mut [u8],
 ) -> ClientAnswer
-    ensures { (answered result ≡ (updateAnswer s own (recordOf p.old area.old) room.old).answer)
-        × (recordOf p.new area.new ≡ (updateAnswer s own (recordOf p.old area.old) room.old).client)
-        × (room.new ≡ (updateAnswer s own (recordOf p.old area.old) room.old).room) }
+    ensures { (answered result ≡ (update_answer s own (record_of p.old area.old) room.old).answer)
+        × (record_of p.new area.new ≡ (update_answer s own (record_of p.old area.old) room.old).client)
+        × (room.new ≡ (update_answer s own (record_of p.old area.old) room.old).room) }
 {
     let t = update_answer(*p, s, own, area, room);
     *p = t.phase;
@@ -72,9 +72,9 @@ pub fn scanned(
     rows: &[u8],
     room: &mut [u8],
 ) -> ClientAnswer
-    ensures { (answered result ≡ (scanAnswer s own (recordOf p.old area.old) rows.now room.old).answer)
-        × (recordOf p.new area.new ≡ (scanAnswer s own (recordOf p.old area.old) rows.now room.old).client)
-        × (room.new ≡ (scanAnswer s own (recordOf p.old area.old) rows.now room.old).room) }
+    ensures { (answered result ≡ (scan_answer s own (record_of p.old area.old) rows.now room.old).answer)
+        × (record_of p.new area.new ≡ (scan_answer s own (record_of p.old area.old) rows.now room.old).client)
+        × (room.new ≡ (scan_answer s own (record_of p.old area.old) rows.now room.old).room) }
 {
     let t = scan_answer(*p, s, own, area, rows, room);
     *p = t.phase;
@@ -92,10 +92,10 @@ pub fn receive(
     room: &mut [u8],
     out: &mut [u8],
 ) -> ClientAnswer
-    ensures { (answered result ≡ (clientMessage s own i (recordOf p.old area.old) b.now room.old out.old).answer)
-        × (recordOf p.new area.new ≡ (clientMessage s own i (recordOf p.old area.old) b.now room.old out.old).client)
-        × (room.new ≡ (clientMessage s own i (recordOf p.old area.old) b.now room.old out.old).room)
-        × (out.new ≡ (clientMessage s own i (recordOf p.old area.old) b.now room.old out.old).out) }
+    ensures { (answered result ≡ (client_message s own i (record_of p.old area.old) b.now room.old out.old).answer)
+        × (record_of p.new area.new ≡ (client_message s own i (record_of p.old area.old) b.now room.old out.old).client)
+        × (room.new ≡ (client_message s own i (record_of p.old area.old) b.now room.old out.old).room)
+        × (out.new ≡ (client_message s own i (record_of p.old area.old) b.now room.old out.old).out) }
 {
     let t = message(*p, s, own, i, area, b, room, out);
     *p = t.phase;

@@ -1,14 +1,14 @@
 // A client's record: sizes of its area, and its form test.
 ghost use Rattle.std.specs.Prelude.{◌≡◌, true, cond, ◌&&◌, ◌+◌, ◌*◌, ◌^◌, ◌≤◌, ◌<◌, length, drop, ltb};
 ghost use Rattle.std.proofs.Math.Option.{some, none};
-ghost use Rattle.parties.specs.protocol.Measures.{passes, pointerSize};
+ghost use Rattle.parties.specs.protocol.Measures.{passes, pointer_size};
 ghost use Rattle.parties.specs.protocol.Nodes.{count as counted};
-ghost use Rattle.parties.specs.protocol.Format.{readMany, readArea, readBytes};
-ghost use Rattle.parties.specs.protocol.Message.{properVersion};
-ghost use Rattle.parties.specs.protocol.Client.{readReserved, pointerArea, readRetained, readPage, readStores, readSome, readPieces};
-ghost use Rattle.parties.specs.protocol.Client.{readFetches, readWork, workSize, readClient};
+ghost use Rattle.parties.specs.protocol.Format.{read_many, read_area, read_bytes};
+ghost use Rattle.parties.specs.protocol.Message.{proper_version};
+ghost use Rattle.parties.specs.protocol.Client.{read_reserved, pointer_area, read_retained, read_page, read_stores, read_some, read_pieces};
+ghost use Rattle.parties.specs.protocol.Client.{read_fetches, read_work, work_size, read_client};
 ghost use Rattle.parties.specs.records.Form.{rest, Formed};
-ghost use Rattle.parties.specs.client.Record.{recordOf, areaSize, workAt, is_some};
+ghost use Rattle.parties.specs.client.Record.{record_of, area_size, work_at, is_some};
 
 use crate::client::step::{FETCHING, FREEZING, SCANNING, STORING, UPDATING};
 use crate::records::bytes::{u16_at, u32_at, zero_run};
@@ -20,7 +20,7 @@ use crate::{Measures, Phase, Version};
 // Where the work stands in the area.
 pub fn work_at(s: Measures) -> usize
     requires { passes s ≡ true }
-    ensures { result ≡ workAt s }
+    ensures { result ≡ work_at s }
 {
     let size = pointer_size(s);
     (s.m + 1) * size + 9 * s.m
@@ -28,7 +28,7 @@ pub fn work_at(s: Measures) -> usize
 
 pub fn work_size(s: Measures) -> usize
     requires { passes s ≡ true }
-    ensures { result ≡ workSize s }
+    ensures { result ≡ work_size s }
 {
     let size = pointer_size(s);
     size + 4 + s.n * (34 + s.f)
@@ -36,7 +36,7 @@ pub fn work_size(s: Measures) -> usize
 
 pub fn area_size(s: Measures) -> usize
     requires { passes s ≡ true }
-    ensures { result ≡ areaSize s }
+    ensures { result ≡ area_size s }
 {
     let at = work_at(s);
     let size = work_size(s);
@@ -45,8 +45,8 @@ pub fn area_size(s: Measures) -> usize
 
 // A pointer in an area of so many bytes.
 fn pointer_area(s: Measures, size: usize, t: &[u8], at: usize) -> bool
-    requires { (passes s ≡ true) × (size ≡ pointerSize s) × (at + pointerSize s ≤ length t.now) }
-    ensures { rest (pointerArea s (drop at t.now)) ≡ cond result (some (drop (at + pointerSize s) t.now)) none }
+    requires { (passes s ≡ true) × (size ≡ pointer_size s) × (at + pointer_size s ≤ length t.now) }
+    ensures { rest (pointer_area s (drop at t.now)) ≡ cond result (some (drop (at + pointer_size s) t.now)) none }
 {
     let Form::Sound(next) = pointer(s, Rule::Proper, t, at) else {
         return false;
@@ -56,8 +56,8 @@ fn pointer_area(s: Measures, size: usize, t: &[u8], at: usize) -> bool
 
 // The written pointer and the m frozen ones.
 fn pointer_areas(s: Measures, size: usize, t: &[u8]) -> bool
-    requires { (passes s ≡ true) × (size ≡ pointerSize s) × ((s.m + 1) * pointerSize s ≤ length t.now) }
-    ensures { rest (readMany (pointerArea s) (s.m + 1) t.now) ≡ cond result (some (drop ((s.m + 1) * pointerSize s) t.now)) none }
+    requires { (passes s ≡ true) × (size ≡ pointer_size s) × ((s.m + 1) * pointer_size s ≤ length t.now) }
+    ensures { rest (read_many (pointer_area s) (s.m + 1) t.now) ≡ cond result (some (drop ((s.m + 1) * pointer_size s) t.now)) none }
 {
     let n = s.m + 1;
     let mut at = 0;
@@ -75,7 +75,7 @@ fn pointer_areas(s: Measures, size: usize, t: &[u8]) -> bool
 // A reserved version is none or a proper one.
 fn reserved_version(s: Measures, t: &[u8], at: usize) -> bool
     requires { at + 5 ≤ length t.now }
-    ensures { rest (readReserved s (drop at t.now)) ≡ cond result (some (drop (at + 5) t.now)) none }
+    ensures { rest (read_reserved s (drop at t.now)) ≡ cond result (some (drop (at + 5) t.now)) none }
 {
     let v = version_at(t, at);
     if v.is_none() {
@@ -86,7 +86,7 @@ fn reserved_version(s: Measures, t: &[u8], at: usize) -> bool
 
 fn reserved_versions(s: Measures, t: &[u8], from: usize) -> bool
     requires { from + s.m * 5 ≤ length t.now }
-    ensures { rest (readMany (readReserved s) s.m (drop from t.now)) ≡ cond result (some (drop (from + s.m * 5) t.now)) none }
+    ensures { rest (read_many (read_reserved s) s.m (drop from t.now)) ≡ cond result (some (drop (from + s.m * 5) t.now)) none }
 {
     let n = s.m;
     let mut at = from;
@@ -103,8 +103,8 @@ fn reserved_versions(s: Measures, t: &[u8], from: usize) -> bool
 
 // What is kept between operations. Any four bytes are an index.
 fn retained(s: Measures, t: &[u8]) -> bool
-    requires { (passes s ≡ true) × (workAt s ≤ length t.now) }
-    ensures { rest (readRetained s t.now) ≡ cond result (some (drop (workAt s) t.now)) none }
+    requires { (passes s ≡ true) × (work_at s ≤ length t.now) }
+    ensures { rest (read_retained s t.now) ≡ cond result (some (drop (work_at s) t.now)) none }
 {
     let size = pointer_size(s);
     if !pointer_areas(s, size, t) {
@@ -115,8 +115,8 @@ fn retained(s: Measures, t: &[u8]) -> bool
 
 // A page with its length.
 fn page_form(s: Measures, t: &[u8], at: usize) -> Form
-    requires { (passes s ≡ true) × (at + workSize s ≤ length t.now) }
-    ensures { Formed t.now at (rest (readPage s (drop at t.now))) result }
+    requires { (passes s ≡ true) × (at + work_size s ≤ length t.now) }
+    ensures { Formed t.now at (rest (read_page s (drop at t.now))) result }
 {
     let n = u32_at(t, at) as usize;
     if s.k * s.f - 4 < n {
@@ -128,7 +128,7 @@ fn page_form(s: Measures, t: &[u8], at: usize) -> Form
 // What is stored has a drawn version, and fewer than t + k nodes that acknowledged it.
 fn proper_stores(s: Measures, v: Version, map: u16) -> bool
     requires { passes s ≡ true }
-    ensures { result ≡ (properVersion s v && (ltb map (2 ^ s.n) && ltb (counted map) (s.t + s.k))) }
+    ensures { result ≡ (proper_version s v && (ltb map (2 ^ s.n) && ltb (counted map) (s.t + s.k))) }
 {
     if !v.proper(s) {
         return false;
@@ -140,8 +140,8 @@ fn proper_stores(s: Measures, v: Version, map: u16) -> bool
 }
 
 fn stores_form(s: Measures, t: &[u8], at: usize) -> Form
-    requires { (passes s ≡ true) × (at + workSize s ≤ length t.now) }
-    ensures { Formed t.now at (rest (readStores s (drop at t.now))) result }
+    requires { (passes s ≡ true) × (at + work_size s ≤ length t.now) }
+    ensures { Formed t.now at (rest (read_stores s (drop at t.now))) result }
 {
     let v = version_at(t, at);
     let map = u16_at(t, at + 5);
@@ -154,7 +154,7 @@ fn stores_form(s: Measures, t: &[u8], at: usize) -> Form
 // A pointer other than none.
 fn some_form(s: Measures, t: &[u8], at: usize) -> Form
     requires { (passes s ≡ true) × (at + 5 ≤ length t.now) }
-    ensures { Formed t.now at (rest (readSome s (drop at t.now))) result }
+    ensures { Formed t.now at (rest (read_some s (drop at t.now))) result }
 {
     if version_at(t, at).is_none() {
         return Form::Broken;
@@ -165,7 +165,7 @@ fn some_form(s: Measures, t: &[u8], at: usize) -> Form
 // A piece of l bytes in its area.
 fn piece(s: Measures, l: usize, t: &[u8], at: usize) -> bool
     requires { at + s.f ≤ length t.now }
-    ensures { rest (readArea s.f (readBytes l) (λ p. p) (drop at t.now)) ≡ cond result (some (drop (at + s.f) t.now)) none }
+    ensures { rest (read_area s.f (read_bytes l) (λ p. p) (drop at t.now)) ≡ cond result (some (drop (at + s.f) t.now)) none }
 {
     if s.f < l {
         return false;
@@ -177,7 +177,7 @@ fn piece(s: Measures, l: usize, t: &[u8], at: usize) -> bool
 // The lengths of n pieces, then their areas.
 fn pieces(s: Measures, t: &[u8], from: usize) -> bool
     requires { (passes s ≡ true) × (from + 2 * s.n + s.n * s.f ≤ length t.now) }
-    ensures { rest (readPieces s (drop from t.now)) ≡ cond result (some (drop (from + 2 * s.n + s.n * s.f) t.now)) none }
+    ensures { rest (read_pieces s (drop from t.now)) ≡ cond result (some (drop (from + 2 * s.n + s.n * s.f) t.now)) none }
 {
     let n = s.n;
     let f = s.f;
@@ -198,8 +198,8 @@ fn pieces(s: Measures, t: &[u8], from: usize) -> bool
 
 // A pointer, the nodes whose reply is counted, fewer than k whose piece matches, and the pieces.
 fn fetches_form(s: Measures, t: &[u8], at: usize) -> Form
-    requires { (passes s ≡ true) × (at + workSize s ≤ length t.now) }
-    ensures { Formed t.now at (rest (readFetches s (drop at t.now))) result }
+    requires { (passes s ≡ true) × (at + work_size s ≤ length t.now) }
+    ensures { Formed t.now at (rest (read_fetches s (drop at t.now))) result }
 {
     let Form::Sound(p) = some_form(s, t, at) else {
         return Form::Broken;
@@ -219,8 +219,8 @@ fn fetches_form(s: Measures, t: &[u8], at: usize) -> Form
 
 // The work of a phase; idle, raising and picking have none.
 fn work_form(s: Measures, step: u8, t: &[u8], at: usize) -> Form
-    requires { (passes s ≡ true) × (at + workSize s ≤ length t.now) }
-    ensures { Formed t.now at (rest (readWork s step (drop at t.now))) result }
+    requires { (passes s ≡ true) × (at + work_size s ≤ length t.now) }
+    ensures { Formed t.now at (rest (read_work s step (drop at t.now))) result }
 {
     if step == SCANNING {
         return page_form(s, t, at);
@@ -245,8 +245,8 @@ fn work_form(s: Measures, step: u8, t: &[u8], at: usize) -> Form
 
 // Whether the phase and the area are a client's record.
 pub fn sound(s: Measures, p: Phase, area: &[u8]) -> bool
-    requires { (passes s ≡ true) × (areaSize s ≤ length area.now) }
-    ensures { result ≡ is_some (readClient s (recordOf p area.now)) }
+    requires { (passes s ≡ true) × (area_size s ≤ length area.now) }
+    ensures { result ≡ is_some (read_client s (record_of p area.now)) }
 {
     let at = work_at(s);
     let size = work_size(s);

@@ -1,17 +1,17 @@
 // A deposit's free list: the versions that its second scan replaces, but those that are still frozen or reserved.
 ghost use Rattle.std.specs.Prelude.{◌≡◌, true, not, ◌&&◌, ◌||◌, [], ◌∷◌, ◌+◌, ◌-◌, ◌*◌, ◌<◌, ◌≤◌, ltb, length, get_or, take, drop};
 ghost use Rattle.parties.specs.protocol.Measures.{passes};
-ghost use Rattle.parties.specs.protocol.Version.{below, noVersion};
-ghost use Rattle.parties.specs.protocol.Pointer.{nonePointer, writeVersion};
+ghost use Rattle.parties.specs.protocol.Version.{below, no_version};
+ghost use Rattle.parties.specs.protocol.Pointer.{none_pointer, write_version};
 ghost use Rattle.parties.specs.protocol.Node.{listed};
-ghost use Rattle.parties.specs.protocol.Message.{ToNode, writeToNode};
-ghost use Rattle.parties.specs.protocol.Client.{readRetained};
-ghost use Rattle.parties.specs.protocol.ClientEvents.{roomSize, lay};
-ghost use Rattle.parties.specs.client.Record.{workAt, is_some};
-ghost use Rattle.parties.specs.records.Places.{versionAt, rank, splice};
-ghost use Rattle.parties.specs.client.Found.{retainedIn};
-ghost use Rattle.parties.specs.client.Freeze.{keptVersions, freedBy, frozenNow, reservedNow};
-ghost use Rattle.parties.specs.client.FreeList.{Holds, Added, Adds, Listing, Frees, freedUpTo};
+ghost use Rattle.parties.specs.protocol.Message.{ToNode, write_to_node};
+ghost use Rattle.parties.specs.protocol.Client.{read_retained};
+ghost use Rattle.parties.specs.protocol.ClientEvents.{room_size, lay};
+ghost use Rattle.parties.specs.client.Record.{work_at, is_some};
+ghost use Rattle.parties.specs.records.Places.{version_at, rank, splice};
+ghost use Rattle.parties.specs.client.Found.{retained_in};
+ghost use Rattle.parties.specs.client.Freeze.{kept_versions, freed_by, frozen_now, reserved_now};
+ghost use Rattle.parties.specs.client.FreeList.{Holds, Added, Adds, Listing, Frees, freed_up_to};
 
 use crate::client::draw::put_version;
 use crate::protocol::tags::FREE;
@@ -24,14 +24,14 @@ use crate::{Measures, Version};
 // What the area retains; of the written version the measures are for the contract alone.
 fn written_version(s: Measures, area: &[u8]) -> Version
     requires { Holds s area.now }
-    ensures { result ≡ (retainedIn s area.now).written.version }
+    ensures { result ≡ (retained_in s area.now).written.version }
 {
     version_at(area, 0)
 }
 
 fn frozen_version(s: Measures, area: &[u8], q: usize) -> Version
     requires { Holds s area.now × (q < s.m) }
-    ensures { result ≡ (get_or (retainedIn s area.now).frozen q nonePointer).version }
+    ensures { result ≡ (get_or (retained_in s area.now).frozen q none_pointer).version }
 {
     let size = pointer_size(s);
     version_at(area, (q + 1) * size)
@@ -39,7 +39,7 @@ fn frozen_version(s: Measures, area: &[u8], q: usize) -> Version
 
 fn reserved_for(s: Measures, area: &[u8], q: usize) -> Version
     requires { Holds s area.now × (q < s.m) }
-    ensures { result ≡ get_or (retainedIn s area.now).reserved q noVersion }
+    ensures { result ≡ get_or (retained_in s area.now).reserved q no_version }
 {
     let size = pointer_size(s);
     version_at(area, (s.m + 1) * size + 5 * q)
@@ -48,7 +48,7 @@ fn reserved_for(s: Measures, area: &[u8], q: usize) -> Version
 // What is frozen and reserved for client q after the scan.
 fn frozen_now(s: Measures, map: u16, new: Version, area: &[u8], q: usize) -> Version
     requires { Holds s area.now × (q < s.m) }
-    ensures { result ≡ frozenNow map (retainedIn s area.now) new q }
+    ensures { result ≡ frozen_now map (retained_in s area.now) new q }
 {
     if stands(map, q + 1) {
         return new;
@@ -58,7 +58,7 @@ fn frozen_now(s: Measures, map: u16, new: Version, area: &[u8], q: usize) -> Ver
 
 fn reserved_now(s: Measures, map: u16, area: &[u8], q: usize) -> Version
     requires { Holds s area.now × (q < s.m) }
-    ensures { result ≡ reservedNow map (retainedIn s area.now) q }
+    ensures { result ≡ reserved_now map (retained_in s area.now) q }
 {
     if stands(map, q + 1) {
         return written_version(s, area);
@@ -68,8 +68,8 @@ fn reserved_now(s: Measures, map: u16, area: &[u8], q: usize) -> Version
 
 fn kept_for(s: Measures, map: u16, new: Version, area: &[u8], q: usize, v: Version) -> bool
     requires { Holds s area.now × (q < s.m) }
-    ensures { result ≡ (listed v (frozenNow map (retainedIn s area.now) new q ∷ [])
-        || listed v (reservedNow map (retainedIn s area.now) q ∷ [])) }
+    ensures { result ≡ (listed v (frozen_now map (retained_in s area.now) new q ∷ [])
+        || listed v (reserved_now map (retained_in s area.now) q ∷ [])) }
 {
     let frozen = frozen_now(s, map, new, area, q);
     if same_version(v, frozen) {
@@ -82,7 +82,7 @@ fn kept_for(s: Measures, map: u16, new: Version, area: &[u8], q: usize, v: Versi
 // Whether v is none, or still frozen or reserved for any client.
 fn stays(s: Measures, map: u16, new: Version, area: &[u8], v: Version) -> bool
     requires { Holds s area.now }
-    ensures { result ≡ listed v (noVersion ∷ keptVersions s map (retainedIn s area.now) new) }
+    ensures { result ≡ listed v (no_version ∷ kept_versions s map (retained_in s area.now) new) }
 {
     if v.is_none() {
         return true;
@@ -118,7 +118,7 @@ fn seek(room: &[u8], count: usize, v: Version) -> usize
 // The version at place j of the list is not above v.
 fn reaches(room: &[u8], count: usize, j: usize, v: Version) -> bool
     requires { 1 + count * 5 ≤ length room.now }
-    ensures { result ≡ (ltb j count && not (below v (versionAt room.now (1 + j * 5)))) }
+    ensures { result ≡ (ltb j count && not (below v (version_at room.now (1 + j * 5)))) }
 {
     if count <= j {
         return false;
@@ -129,7 +129,7 @@ fn reaches(room: &[u8], count: usize, j: usize, v: Version) -> bool
 // The versions from place j on go up by one, and v stands there.
 fn put_in(room: &mut [u8], count: usize, j: usize, v: Version)
     requires { (j ≤ count) × (6 + count * 5 ≤ length room.old) }
-    ensures { room.new ≡ splice (splice room.old (6 + j * 5) (take ((count - j) * 5) (drop (1 + j * 5) room.old))) (1 + j * 5) (writeVersion v) }
+    ensures { room.new ≡ splice (splice room.old (6 + j * 5) (take ((count - j) * 5) (drop (1 + j * 5) room.old))) (1 + j * 5) (write_version v) }
 {
     let at = 1 + j * 5;
     move_up(room, at, 1 + count * 5, 5);
@@ -160,7 +160,7 @@ fn free_version(
     v: Version,
 ) -> usize
     requires { Holds s area.now × (6 + count * 5 ≤ length room.old) }
-    ensures { Adds (listed v (noVersion ∷ keptVersions s map (retainedIn s area.now) new)) v count room.old result room.new
+    ensures { Adds (listed v (no_version ∷ kept_versions s map (retained_in s area.now) new)) v count room.old result room.new
         × (result ≤ count + 1) }
 {
     if stays(s, map, new, area, v) {
@@ -180,7 +180,7 @@ fn free_client(
     q: usize,
 ) -> usize
     requires { Holds s area.now × (q < s.m) × (11 + count * 5 ≤ length room.old) }
-    ensures { Frees s map (retainedIn s area.now) new q count room.old result room.new }
+    ensures { Frees s map (retained_in s area.now) new q count room.old result room.new }
 {
     if !stands(map, q + 1) {
         return count;
@@ -194,7 +194,7 @@ fn free_client(
 // The list's tag, and the previous version.
 fn start_list(s: Measures, map: u16, new: Version, area: &[u8], room: &mut [u8]) -> usize
     requires { Holds s area.now × (6 ≤ length room.old) }
-    ensures { Listing room.old (freedUpTo s map (retainedIn s area.now) new 0) result room.new }
+    ensures { Listing room.old (freed_up_to s map (retained_in s area.now) new 0) result room.new }
 {
     room[0] = FREE;
     let written = written_version(s, area);
@@ -203,9 +203,9 @@ fn start_list(s: Measures, map: u16, new: Version, area: &[u8], room: &mut [u8])
 
 // The message with the free list at the front of the room, and its length; v is the new version.
 pub fn put_free_list(s: Measures, map: u16, v: Version, area: &[u8], room: &mut [u8]) -> usize
-    requires { (passes s ≡ true) × (is_some (readRetained s area.now) ≡ true) × (workAt s ≤ length area.now) × (roomSize s ≤ length room.old) }
-    ensures { (result ≡ length (writeToNode (ToNode.free (freedBy s map (retainedIn s area.now) v))))
-        × (room.new ≡ lay (writeToNode (ToNode.free (freedBy s map (retainedIn s area.now) v))) room.old) }
+    requires { (passes s ≡ true) × (is_some (read_retained s area.now) ≡ true) × (work_at s ≤ length area.now) × (room_size s ≤ length room.old) }
+    ensures { (result ≡ length (write_to_node (ToNode.free (freed_by s map (retained_in s area.now) v))))
+        × (room.new ≡ lay (write_to_node (ToNode.free (freed_by s map (retained_in s area.now) v))) room.old) }
 {
     let m = s.m;
     let start = start_list(s, map, v, area, room);

@@ -1,15 +1,15 @@
 // A deposit's second scan: what is retained after it, and its answer.
 ghost use Rattle.std.specs.Prelude.{◌≡◌, true, cond, [], ◌++◌, ◌+◌, ◌*◌, ◌<◌, ◌≤◌, length, get_or, drop, replicate};
-ghost use Rattle.parties.specs.protocol.Measures.{passes, rowSize, pointerSize};
+ghost use Rattle.parties.specs.protocol.Measures.{passes, row_size, pointer_size};
 ghost use Rattle.parties.specs.protocol.Nodes.{stands as standing};
-ghost use Rattle.parties.specs.protocol.Directory.{readDirectory, no_row};
-ghost use Rattle.parties.specs.protocol.Client.{freezingStep, workSize, readClient, readRetained, readSome, writeRetained};
-ghost use Rattle.parties.specs.protocol.ClientEvents.{roomSize};
-ghost use Rattle.parties.specs.client.End.{stepEnd};
-ghost use Rattle.parties.specs.client.Record.{recordOf, is_some, workAt, areaSize};
+ghost use Rattle.parties.specs.protocol.Directory.{read_directory, no_row};
+ghost use Rattle.parties.specs.protocol.Client.{freezing_step, work_size, read_client, read_retained, read_some, write_retained};
+ghost use Rattle.parties.specs.protocol.ClientEvents.{room_size};
+ghost use Rattle.parties.specs.client.End.{step_end};
+ghost use Rattle.parties.specs.client.Record.{record_of, is_some, work_at, area_size};
 ghost use Rattle.parties.specs.client.Draw.{rows_of};
-ghost use Rattle.parties.specs.client.Found.{retainedIn, pointerIn};
-ghost use Rattle.parties.specs.client.Freeze.{retainedAfter, freezeEnd};
+ghost use Rattle.parties.specs.client.Found.{retained_in, pointer_in};
+ghost use Rattle.parties.specs.client.Freeze.{retained_after, freeze_end};
 ghost use Rattle.parties.specs.client.Retain.{notice};
 
 use crate::client::form::{work_at, work_size};
@@ -23,7 +23,7 @@ use crate::{ClientAnswer, Measures, Phase, ReadingIndex};
 
 // For client q the work's pointer is frozen, the written version reserved, and the index of its row kept.
 fn put_noticed(s: Measures, size: usize, at: usize, q: usize, i: ReadingIndex, area: &mut [u8])
-    requires { (passes s ≡ true) × (size ≡ pointerSize s) × (at ≡ workAt s) × (q < s.m) × (areaSize s ≤ length area.old) }
+    requires { (passes s ≡ true) × (size ≡ pointer_size s) × (at ≡ work_at s) × (q < s.m) × (area_size s ≤ length area.old) }
     ensures { area.new ≡ notice s q i area.old }
 {
     let frozen = (q + 1) * size;
@@ -36,10 +36,10 @@ fn put_noticed(s: Measures, size: usize, at: usize, q: usize, i: ReadingIndex, a
 
 // One client, if its reading is noticed.
 fn retain_one(s: Measures, map: u16, rows: &[u8], size: usize, at: usize, q: usize, area: &mut [u8])
-    requires { (passes s ≡ true) × (size ≡ pointerSize s) × (at ≡ workAt s) × (q < s.m) × (areaSize s ≤ length area.old)
-        × (s.m * rowSize s ≤ length rows.now) × (is_some (readDirectory s rows.now) ≡ true) }
+    requires { (passes s ≡ true) × (size ≡ pointer_size s) × (at ≡ work_at s) × (q < s.m) × (area_size s ≤ length area.old)
+        × (s.m * row_size s ≤ length rows.now) × (is_some (read_directory s rows.now) ≡ true) }
     ensures { area.new
-        ≡ cond (standing map (q + 1)) (notice s q (get_or (rows_of (readDirectory s rows.now)) q no_row).readingIndex area.old) area.old }
+        ≡ cond (standing map (q + 1)) (notice s q (get_or (rows_of (read_directory s rows.now)) q no_row).reading_index area.old) area.old }
 {
     if !stands(map, q + 1) {
         return;
@@ -51,12 +51,12 @@ fn retain_one(s: Measures, map: u16, rows: &[u8], size: usize, at: usize, q: usi
 
 // What is retained after the second scan, and an idle client's work.
 fn retain(s: Measures, map: u16, rows: &[u8], area: &mut [u8])
-    requires { (passes s ≡ true) × (areaSize s ≤ length area.old) × (is_some (readRetained s area.old) ≡ true)
-        × (is_some (readSome s (drop (workAt s) area.old)) ≡ true)
-        × (s.m * rowSize s ≤ length rows.now) × (is_some (readDirectory s rows.now) ≡ true) }
+    requires { (passes s ≡ true) × (area_size s ≤ length area.old) × (is_some (read_retained s area.old) ≡ true)
+        × (is_some (read_some s (drop (work_at s) area.old)) ≡ true)
+        × (s.m * row_size s ≤ length rows.now) × (is_some (read_directory s rows.now) ≡ true) }
     ensures { area.new
-        ≡ writeRetained s (retainedAfter s map (retainedIn s area.old) (rows_of (readDirectory s rows.now)) (pointerIn s area.old))
-        ++ (replicate (workSize s) 0 ++ drop (areaSize s) area.old) }
+        ≡ write_retained s (retained_after s map (retained_in s area.old) (rows_of (read_directory s rows.now)) (pointer_in s area.old))
+        ++ (replicate (work_size s) 0 ++ drop (area_size s) area.old) }
 {
     let size = pointer_size(s);
     let at = work_at(s);
@@ -81,9 +81,9 @@ pub fn freeze(
     rows: &[u8],
     room: &mut [u8],
 ) -> ClientAnswer
-    requires { (passes s ≡ true) × (own < s.m) × (p.step ≡ freezingStep) × (is_some (readClient s (recordOf p area.old)) ≡ true)
-        × (s.m * rowSize s ≤ length rows.now) × (is_some (readDirectory s rows.now) ≡ true) × (roomSize s ≤ length room.old) }
-    ensures { stepEnd p result area.new room.new [] ≡ freezeEnd s own (recordOf p area.old) rows.now room.old }
+    requires { (passes s ≡ true) × (own < s.m) × (p.step ≡ freezing_step) × (is_some (read_client s (record_of p area.old)) ≡ true)
+        × (s.m * row_size s ≤ length rows.now) × (is_some (read_directory s rows.now) ≡ true) × (room_size s ≤ length room.old) }
+    ensures { step_end p result area.new room.new [] ≡ freeze_end s own (record_of p area.old) rows.now room.old }
 {
     let map = noticed_map(s, own, area, rows);
     let at = work_at(s);

@@ -1,8 +1,8 @@
 // The tests before an event at a client, in the order of the refusals.
 ghost use Rattle.std.specs.Prelude.{◌≡◌, true, ◌&&◌, ◌-◌, ◌*◌, ◌≤◌, leb, ltb, length};
-ghost use Rattle.parties.specs.protocol.Measures.{passes, rowSize};
-ghost use Rattle.parties.specs.protocol.ClientEvents.{roomSize};
-ghost use Rattle.parties.specs.client.Record.{areaSize};
+ghost use Rattle.parties.specs.protocol.Measures.{passes, row_size};
+ghost use Rattle.parties.specs.protocol.ClientEvents.{room_size};
+ghost use Rattle.parties.specs.client.Record.{area_size};
 ghost use Rattle.parties.specs.client.Gate.{Gated};
 
 use crate::client::form::{area_size, sound};
@@ -18,7 +18,7 @@ pub enum Gate {
 // The room that a client's events want.
 pub fn room_size(s: Measures) -> usize
     requires { passes s ≡ true }
-    ensures { result ≡ roomSize s }
+    ensures { result ≡ room_size s }
 {
     let row = row_size(s);
     row + (6 + s.n * s.f)
@@ -26,7 +26,7 @@ pub fn room_size(s: Measures) -> usize
 
 // The measures pass, and an area of this length is long enough.
 pub fn area_long(s: Measures, area: usize) -> bool
-    ensures { result ≡ (passes s && leb (areaSize s) area) }
+    ensures { result ≡ (passes s && leb (area_size s) area) }
 {
     if !s.pass() {
         return false;
@@ -37,7 +37,7 @@ pub fn area_long(s: Measures, area: usize) -> bool
 
 // The same of an area and a room.
 pub fn area_and_room_long(s: Measures, area: usize, room: usize) -> bool
-    ensures { result ≡ (passes s && (leb (areaSize s) area && leb (roomSize s) room)) }
+    ensures { result ≡ (passes s && (leb (area_size s) area && leb (room_size s) room)) }
 {
     if !area_long(s, area) {
         return false;
@@ -48,7 +48,7 @@ pub fn area_and_room_long(s: Measures, area: usize, room: usize) -> bool
 
 // The same of an area, rows and a room.
 pub fn area_rows_and_room_long(s: Measures, area: usize, rows: usize, room: usize) -> bool
-    ensures { result ≡ (passes s && (leb (areaSize s) area && (leb (s.m * rowSize s) rows && leb (roomSize s) room))) }
+    ensures { result ≡ (passes s && (leb (area_size s) area && (leb (s.m * row_size s) rows && leb (room_size s) room))) }
 {
     if !area_and_room_long(s, area, room) {
         return false;
@@ -59,7 +59,7 @@ pub fn area_rows_and_room_long(s: Measures, area: usize, rows: usize, room: usiz
 
 // The same of an area, a room, and an output that holds a page.
 pub fn area_room_and_output_long(s: Measures, area: usize, room: usize, out: usize) -> bool
-    ensures { result ≡ (passes s && (leb (areaSize s) area && (leb (roomSize s) room && leb (s.k * s.f - 4) out))) }
+    ensures { result ≡ (passes s && (leb (area_size s) area && (leb (room_size s) room && leb (s.k * s.f - 4) out))) }
 {
     if !area_and_room_long(s, area, room) {
         return false;
@@ -82,7 +82,7 @@ pub fn numbered(s: Measures, own: usize, i: usize) -> bool
 
 // Whether lent slices are long enough and numbers within bounds is told; then the record's form is tested.
 pub fn admit(s: Measures, enough: bool, within: bool, p: Phase, area: &[u8]) -> Gate
-    requires { enough ≡ true → areaSize s ≤ length area.now }
+    requires { enough ≡ true → area_size s ≤ length area.now }
     ensures { Gated s p area.now enough within result }
 {
     if !s.pass() {

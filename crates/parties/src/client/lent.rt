@@ -1,17 +1,17 @@
 // Events at a client by value, over those to which the phase is lent. The prover covers no function that makes a reference to a struct:
 // these six make it, and are walked by hand.
 ghost use Rattle.std.specs.Prelude.{◌≡◌};
-ghost use Rattle.parties.specs.protocol.ClientEvents.{clientFresh, startDeposit, startReading, updateAnswer, scanAnswer, clientMessage};
+ghost use Rattle.parties.specs.protocol.ClientEvents.{client_fresh, start_deposit, start_reading, update_answer, scan_answer, client_message};
 ghost use Rattle.parties.specs.client.Answer.{answered};
-ghost use Rattle.parties.specs.client.Record.{recordOf};
+ghost use Rattle.parties.specs.client.Record.{record_of};
 
 use crate::client::event;
 use crate::{Measures, Phase, Turned};
 
 // A fresh record is written.
 pub fn fresh(mut p: Phase, s: Measures, area: &mut [u8]) -> Turned
-    ensures { (answered result.answer ≡ (clientFresh s (recordOf p area.old)).answer)
-        × (recordOf result.phase area.new ≡ (clientFresh s (recordOf p area.old)).client) }
+    ensures { (answered result.answer ≡ (client_fresh s (record_of p area.old)).answer)
+        × (record_of result.phase area.new ≡ (client_fresh s (record_of p area.old)).client) }
 {
     let answer = event::fresh(&mut p, s, area);
     Turned { phase: p, answer }
@@ -19,8 +19,8 @@ pub fn fresh(mut p: Phase, s: Measures, area: &mut [u8]) -> Turned
 
 // The start of a deposit.
 pub fn deposit(mut p: Phase, s: Measures, own: usize, area: &mut [u8], page: &[u8]) -> Turned
-    ensures { (answered result.answer ≡ (startDeposit s own (recordOf p area.old) page.now).answer)
-        × (recordOf result.phase area.new ≡ (startDeposit s own (recordOf p area.old) page.now).client) }
+    ensures { (answered result.answer ≡ (start_deposit s own (record_of p area.old) page.now).answer)
+        × (record_of result.phase area.new ≡ (start_deposit s own (record_of p area.old) page.now).client) }
 {
     let answer = event::deposit(&mut p, s, own, area, page);
     Turned { phase: p, answer }
@@ -28,9 +28,9 @@ pub fn deposit(mut p: Phase, s: Measures, own: usize, area: &mut [u8], page: &[u
 
 // The start of a reading.
 pub fn read(mut p: Phase, s: Measures, own: usize, area: &mut [u8], room: &mut [u8]) -> Turned
-    ensures { (answered result.answer ≡ (startReading s own (recordOf p area.old) room.old).answer)
-        × (recordOf result.phase area.new ≡ (startReading s own (recordOf p area.old) room.old).client)
-        × (room.new ≡ (startReading s own (recordOf p area.old) room.old).room) }
+    ensures { (answered result.answer ≡ (start_reading s own (record_of p area.old) room.old).answer)
+        × (record_of result.phase area.new ≡ (start_reading s own (record_of p area.old) room.old).client)
+        × (room.new ≡ (start_reading s own (record_of p area.old) room.old).room) }
 {
     let answer = event::read(&mut p, s, own, area, room);
     Turned { phase: p, answer }
@@ -38,9 +38,9 @@ pub fn read(mut p: Phase, s: Measures, own: usize, area: &mut [u8], room: &mut [
 
 // The directory took an update.
 pub fn updated(mut p: Phase, s: Measures, own: usize, area: &mut [u8], room: &mut [u8]) -> Turned
-    ensures { (answered result.answer ≡ (updateAnswer s own (recordOf p area.old) room.old).answer)
-        × (recordOf result.phase area.new ≡ (updateAnswer s own (recordOf p area.old) room.old).client)
-        × (room.new ≡ (updateAnswer s own (recordOf p area.old) room.old).room) }
+    ensures { (answered result.answer ≡ (update_answer s own (record_of p area.old) room.old).answer)
+        × (record_of result.phase area.new ≡ (update_answer s own (record_of p area.old) room.old).client)
+        × (room.new ≡ (update_answer s own (record_of p area.old) room.old).room) }
 {
     let answer = event::updated(&mut p, s, own, area, room);
     Turned { phase: p, answer }
@@ -55,9 +55,9 @@ pub fn scanned(
     rows: &[u8],
     room: &mut [u8],
 ) -> Turned
-    ensures { (answered result.answer ≡ (scanAnswer s own (recordOf p area.old) rows.now room.old).answer)
-        × (recordOf result.phase area.new ≡ (scanAnswer s own (recordOf p area.old) rows.now room.old).client)
-        × (room.new ≡ (scanAnswer s own (recordOf p area.old) rows.now room.old).room) }
+    ensures { (answered result.answer ≡ (scan_answer s own (record_of p area.old) rows.now room.old).answer)
+        × (record_of result.phase area.new ≡ (scan_answer s own (record_of p area.old) rows.now room.old).client)
+        × (room.new ≡ (scan_answer s own (record_of p area.old) rows.now room.old).room) }
 {
     let answer = event::scanned(&mut p, s, own, area, rows, room);
     Turned { phase: p, answer }
@@ -74,10 +74,10 @@ pub fn receive(
     room: &mut [u8],
     out: &mut [u8],
 ) -> Turned
-    ensures { (answered result.answer ≡ (clientMessage s own i (recordOf p area.old) b.now room.old out.old).answer)
-        × (recordOf result.phase area.new ≡ (clientMessage s own i (recordOf p area.old) b.now room.old out.old).client)
-        × (room.new ≡ (clientMessage s own i (recordOf p area.old) b.now room.old out.old).room)
-        × (out.new ≡ (clientMessage s own i (recordOf p area.old) b.now room.old out.old).out) }
+    ensures { (answered result.answer ≡ (client_message s own i (record_of p area.old) b.now room.old out.old).answer)
+        × (record_of result.phase area.new ≡ (client_message s own i (record_of p area.old) b.now room.old out.old).client)
+        × (room.new ≡ (client_message s own i (record_of p area.old) b.now room.old out.old).room)
+        × (out.new ≡ (client_message s own i (record_of p area.old) b.now room.old out.old).out) }
 {
     let answer = event::receive(&mut p, s, own, i, area, b, room, out);
     Turned { phase: p, answer }

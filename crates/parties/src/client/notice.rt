@@ -1,13 +1,13 @@
 // A deposit's second scan: which readings it notices.
 ghost use Rattle.std.specs.Prelude.{◌≡◌, true, cond, not, ◌&&◌, ◌*◌, ◌<◌, ◌≤◌, ltb, eqb, length, get_or};
-ghost use Rattle.parties.specs.protocol.Measures.{passes, rowSize};
-ghost use Rattle.parties.specs.protocol.Nodes.{withNode};
-ghost use Rattle.parties.specs.protocol.Directory.{no_row, readDirectory};
-ghost use Rattle.parties.specs.protocol.Client.{Phase as Work, clientOf, readRetained};
+ghost use Rattle.parties.specs.protocol.Measures.{passes, row_size};
+ghost use Rattle.parties.specs.protocol.Nodes.{with_node};
+ghost use Rattle.parties.specs.protocol.Directory.{no_row, read_directory};
+ghost use Rattle.parties.specs.protocol.Client.{Phase as Work, client_of, read_retained};
 ghost use Rattle.parties.specs.protocol.Deposit.{noticed};
-ghost use Rattle.parties.specs.client.Record.{workAt, is_some};
+ghost use Rattle.parties.specs.client.Record.{work_at, is_some};
 ghost use Rattle.parties.specs.client.Draw.{rows_of};
-ghost use Rattle.parties.specs.client.Found.{retainedIn};
+ghost use Rattle.parties.specs.client.Found.{retained_in};
 ghost use Rattle.parties.specs.client.Freeze.{Notices};
 
 use crate::client::choose::past;
@@ -28,8 +28,8 @@ pub fn notices(own: usize, p: usize, kept: ReadingIndex, shown: ReadingIndex) ->
 
 // The reading index of row q: after its map, m + 1 pointers and m frozen indices.
 pub fn shown_index(s: Measures, size: usize, rows: &[u8], q: usize) -> ReadingIndex
-    requires { (passes s ≡ true) × (size ≡ rowSize s) × (s.m * rowSize s ≤ length rows.now) × (is_some (readDirectory s rows.now) ≡ true) × (q < s.m) }
-    ensures { result ≡ (get_or (rows_of (readDirectory s rows.now)) q no_row).readingIndex }
+    requires { (passes s ≡ true) × (size ≡ row_size s) × (s.m * row_size s ≤ length rows.now) × (is_some (read_directory s rows.now) ≡ true) × (q < s.m) }
+    ensures { result ≡ (get_or (rows_of (read_directory s rows.now)) q no_row).reading_index }
 {
     let indices = past(s, s.m + 1, rows, q * size + 1);
     let i = u32_at(rows, indices + 4 * s.m);
@@ -38,8 +38,8 @@ pub fn shown_index(s: Measures, size: usize, rows: &[u8], q: usize) -> ReadingIn
 
 // The index that is kept for client q.
 fn kept_index(s: Measures, area: &[u8], q: usize) -> ReadingIndex
-    requires { (passes s ≡ true) × (is_some (readRetained s area.now) ≡ true) × (workAt s ≤ length area.now) × (q < s.m) }
-    ensures { result ≡ get_or (retainedIn s area.now).frozenIndices q (record { 0 = 0 }) }
+    requires { (passes s ≡ true) × (is_some (read_retained s area.now) ≡ true) × (work_at s ≤ length area.now) × (q < s.m) }
+    ensures { result ≡ get_or (retained_in s area.now).frozen_indices q (record { 0 = 0 }) }
 {
     let size = pointer_size(s);
     let i = u32_at(area, (s.m + 1) * size + 5 * s.m + 4 * q);
@@ -47,9 +47,9 @@ fn kept_index(s: Measures, area: &[u8], q: usize) -> ReadingIndex
 }
 
 fn notices_client(s: Measures, own: usize, size: usize, area: &[u8], rows: &[u8], q: usize) -> bool
-    requires { (passes s ≡ true) × (is_some (readRetained s area.now) ≡ true) × (workAt s ≤ length area.now) × (size ≡ rowSize s)
-        × (s.m * rowSize s ≤ length rows.now) × (is_some (readDirectory s rows.now) ≡ true) × (q < s.m) }
-    ensures { result ≡ noticed own (clientOf (record { 0 = 0 }) (retainedIn s area.now) Work.idle) (rows_of (readDirectory s rows.now)) q }
+    requires { (passes s ≡ true) × (is_some (read_retained s area.now) ≡ true) × (work_at s ≤ length area.now) × (size ≡ row_size s)
+        × (s.m * row_size s ≤ length rows.now) × (is_some (read_directory s rows.now) ≡ true) × (q < s.m) }
+    ensures { result ≡ noticed own (client_of (record { 0 = 0 }) (retained_in s area.now) Work.idle) (rows_of (read_directory s rows.now)) q }
 {
     let kept = kept_index(s, area, q);
     let shown = shown_index(s, size, rows, q);
@@ -58,7 +58,7 @@ fn notices_client(s: Measures, own: usize, size: usize, area: &[u8], rows: &[u8]
 
 fn marked(map: u16, i: usize, here: bool) -> u16
     requires { (1 ≤ i) × (i ≤ 16) }
-    ensures { result ≡ cond here (withNode map i) map }
+    ensures { result ≡ cond here (with_node map i) map }
 {
     if here {
         return with_node(map, i);
@@ -68,9 +68,9 @@ fn marked(map: u16, i: usize, here: bool) -> u16
 
 // The bit map of the clients whose reading is noticed: bit q for client q.
 pub fn noticed_map(s: Measures, own: usize, area: &[u8], rows: &[u8]) -> u16
-    requires { (passes s ≡ true) × (is_some (readRetained s area.now) ≡ true) × (workAt s ≤ length area.now)
-        × (s.m * rowSize s ≤ length rows.now) × (is_some (readDirectory s rows.now) ≡ true) }
-    ensures { Notices s own (retainedIn s area.now) (rows_of (readDirectory s rows.now)) result }
+    requires { (passes s ≡ true) × (is_some (read_retained s area.now) ≡ true) × (work_at s ≤ length area.now)
+        × (s.m * row_size s ≤ length rows.now) × (is_some (read_directory s rows.now) ≡ true) }
+    ensures { Notices s own (retained_in s area.now) (rows_of (read_directory s rows.now)) result }
 {
     let m = s.m;
     let size = row_size(s);

@@ -1,6 +1,6 @@
 // The pointer that a reading picks of a row.
 ghost use Rattle.std.specs.Prelude.{◌≡◌};
-ghost use Rattle.parties.specs.client.Pick.{pointerPart, pickedPart};
+ghost use Rattle.parties.specs.client.Pick.{pointer_part, picked_part};
 
 use crate::ReadingIndex;
 use crate::records::bytes::u16_at;
@@ -8,7 +8,7 @@ use crate::records::nodes::count;
 
 // The front of a slice that its pointer takes, or all of the slice if it is shorter.
 pub fn pointer_part(s: &[u8]) -> &[u8]
-    ensures { result.now ≡ pointerPart s.now }
+    ensures { result.now ≡ pointer_part s.now }
 {
     if s.len() < 7 {
         return s;
@@ -28,7 +28,7 @@ pub fn picked<'a>(
     index: ReadingIndex,
     frozen_index: ReadingIndex,
 ) -> &'a [u8]
-    ensures { result.now ≡ pickedPart written.now frozen.now index frozen_index }
+    ensures { result.now ≡ picked_part written.now frozen.now index frozen_index }
 {
     if frozen_index.below(index) {
         pointer_part(written)

@@ -1,17 +1,17 @@
 // The pointer that a deposit publishes, and the record of its update.
 ghost use Rattle.std.specs.Prelude.{◌≡◌, true, cond, ◌++◌, ◌+◌, ◌-◌, ◌*◌, ◌^◌, ◌≤◌, ◌<◌, length, take, drop, replicate};
 ghost use Rattle.std.proofs.Math.Seq.{paste};
-ghost use Rattle.parties.specs.protocol.Format.{writeMany};
-ghost use Rattle.parties.specs.protocol.Measures.{passes, pointerSize};
+ghost use Rattle.parties.specs.protocol.Format.{write_many};
+ghost use Rattle.parties.specs.protocol.Measures.{passes, pointer_size};
 ghost use Rattle.parties.specs.protocol.Nodes.{stands as standing, count as counted};
-ghost use Rattle.parties.specs.protocol.Pointer.{writePointer};
-ghost use Rattle.parties.specs.protocol.Client.{readRetained, readSome, workSize};
-ghost use Rattle.parties.specs.protocol.ClientEvents.{lay, roomSize};
-ghost use Rattle.parties.specs.client.Record.{areaSize, workAt, is_some};
+ghost use Rattle.parties.specs.protocol.Pointer.{write_pointer};
+ghost use Rattle.parties.specs.protocol.Client.{read_retained, read_some, work_size};
+ghost use Rattle.parties.specs.protocol.ClientEvents.{lay, room_size};
+ghost use Rattle.parties.specs.client.Record.{area_size, work_at, is_some};
 ghost use Rattle.parties.specs.records.Places.{splice};
-ghost use Rattle.parties.specs.client.Pick.{pointerPart};
-ghost use Rattle.parties.specs.client.Found.{retainedIn, pointerIn};
-ghost use Rattle.parties.specs.client.Publish.{pointerFrom, updateOf};
+ghost use Rattle.parties.specs.client.Pick.{pointer_part};
+ghost use Rattle.parties.specs.client.Found.{retained_in, pointer_in};
+ghost use Rattle.parties.specs.client.Publish.{pointer_from, update_of};
 
 use crate::Measures;
 use crate::client::form::{work_at, work_size};
@@ -37,7 +37,7 @@ fn keep_digest(map: u16, i: usize, area: &mut [u8], from: usize, to: usize) -> u
 fn gather(s: Measures, map: u16, area: &mut [u8], at: usize)
     requires { (passes s ≡ true) × (map < 2 ^ s.n) × (at + 7 + 32 * s.n ≤ length area.old) }
     ensures { area.new
-        ≡ splice area.old (at + 7) (writeMany (λ d. d) (pointerFrom s map area.old at).named.digests) }
+        ≡ splice area.old (at + 7) (write_many (λ d. d) (pointer_from s map area.old at).named.digests) }
 {
     let n = s.n;
     let mut from = at + 7;
@@ -53,9 +53,9 @@ fn gather(s: Measures, map: u16, area: &mut [u8], at: usize)
 
 // The work of a deposit whose stores enough nodes acknowledged: its pointer, with their digests, and spare bytes.
 pub fn form_pointer(s: Measures, map: u16, area: &mut [u8], at: usize)
-    requires { (passes s ≡ true) × (map < 2 ^ s.n) × (counted map ≡ s.t + s.k) × (at + workSize s ≤ length area.old) }
+    requires { (passes s ≡ true) × (map < 2 ^ s.n) × (counted map ≡ s.t + s.k) × (at + work_size s ≤ length area.old) }
     ensures { area.new
-        ≡ paste area.old at (writePointer (pointerFrom s map area.old at) ++ replicate (workSize s - pointerSize s) 0) (workSize s) }
+        ≡ paste area.old at (write_pointer (pointer_from s map area.old at) ++ replicate (work_size s - pointer_size s) 0) (work_size s) }
 {
     let front = pointer_size(s);
     let size = work_size(s);
@@ -66,9 +66,9 @@ pub fn form_pointer(s: Measures, map: u16, area: &mut [u8], at: usize)
 
 // A pointer's own bytes, and the place after them.
 fn put_pointer(area: &[u8], from: usize, room: &mut [u8], at: usize) -> usize
-    requires { (from ≤ length area.now) × (at + length (pointerPart (drop from area.now)) ≤ length room.old) }
-    ensures { (result ≡ at + length (pointerPart (drop from area.now)))
-        × (room.new ≡ splice room.old at (pointerPart (drop from area.now))) }
+    requires { (from ≤ length area.now) × (at + length (pointer_part (drop from area.now)) ≤ length room.old) }
+    ensures { (result ≡ at + length (pointer_part (drop from area.now)))
+        × (room.new ≡ splice room.old at (pointer_part (drop from area.now))) }
 {
     let t = &area[from..];
     let p = pointer_part(t);
@@ -79,10 +79,10 @@ fn put_pointer(area: &[u8], from: usize, room: &mut [u8], at: usize) -> usize
 
 // The frozen pointers, one behind the other, and the place after them.
 fn put_frozen(s: Measures, size: usize, area: &[u8], room: &mut [u8], at: usize) -> usize
-    requires { (passes s ≡ true) × (size ≡ pointerSize s) × (is_some (readRetained s area.now) ≡ true) × (areaSize s ≤ length area.now)
-        × (at + s.m * pointerSize s ≤ length room.old) }
-    ensures { (result ≡ at + length (writeMany writePointer (retainedIn s area.now).frozen))
-        × (room.new ≡ splice room.old at (writeMany writePointer (retainedIn s area.now).frozen)) }
+    requires { (passes s ≡ true) × (size ≡ pointer_size s) × (is_some (read_retained s area.now) ≡ true) × (area_size s ≤ length area.now)
+        × (at + s.m * pointer_size s ≤ length room.old) }
+    ensures { (result ≡ at + length (write_many write_pointer (retained_in s area.now).frozen))
+        × (room.new ≡ splice room.old at (write_many write_pointer (retained_in s area.now).frozen)) }
 {
     let mut end = at;
     let mut from = size;
@@ -98,10 +98,10 @@ fn put_frozen(s: Measures, size: usize, area: &[u8], room: &mut [u8], at: usize)
 
 // The record of a deposit's update at the front of the room, and its length: the new pointer, and what is frozen.
 pub fn put_update(s: Measures, area: &[u8], room: &mut [u8]) -> usize
-    requires { (passes s ≡ true) × (is_some (readRetained s area.now) ≡ true) × (is_some (readSome s (drop (workAt s) area.now)) ≡ true)
-        × (areaSize s ≤ length area.now) × (roomSize s ≤ length room.old) }
-    ensures { (result ≡ length (updateOf (retainedIn s area.now) (pointerIn s area.now)))
-        × (room.new ≡ lay (updateOf (retainedIn s area.now) (pointerIn s area.now)) room.old) }
+    requires { (passes s ≡ true) × (is_some (read_retained s area.now) ≡ true) × (is_some (read_some s (drop (work_at s) area.now)) ≡ true)
+        × (area_size s ≤ length area.now) × (room_size s ≤ length room.old) }
+    ensures { (result ≡ length (update_of (retained_in s area.now) (pointer_in s area.now)))
+        × (room.new ≡ lay (update_of (retained_in s area.now) (pointer_in s area.now)) room.old) }
 {
     let size = pointer_size(s);
     let at = work_at(s);

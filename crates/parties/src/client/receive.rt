@@ -1,11 +1,11 @@
 // A message from a node, by what it tells.
 ghost use Rattle.std.specs.Prelude.{◌≡◌, true, ◌-◌, ◌*◌, ◌≤◌, length};
 ghost use Rattle.parties.specs.protocol.Measures.{passes};
-ghost use Rattle.parties.specs.protocol.Client.{readClient};
-ghost use Rattle.parties.specs.protocol.ClientEvents.{roomSize};
-ghost use Rattle.parties.specs.client.End.{stepEnd};
-ghost use Rattle.parties.specs.client.Record.{recordOf, is_some};
-ghost use Rattle.parties.specs.client.Receive.{receivedEnd};
+ghost use Rattle.parties.specs.protocol.Client.{read_client};
+ghost use Rattle.parties.specs.protocol.ClientEvents.{room_size};
+ghost use Rattle.parties.specs.client.End.{step_end};
+ghost use Rattle.parties.specs.client.Record.{record_of, is_some};
+ghost use Rattle.parties.specs.client.Receive.{received_end};
 
 use crate::client::acknowledge::acknowledge;
 use crate::client::reply::{missing, reply};
@@ -22,9 +22,9 @@ pub fn receive(
     room: &mut [u8],
     out: &mut [u8],
 ) -> ClientAnswer
-    requires { (passes s ≡ true) × (1 ≤ i) × (i ≤ s.n) × (is_some (readClient s (recordOf p area.old)) ≡ true) × (roomSize s ≤ length room.old)
+    requires { (passes s ≡ true) × (1 ≤ i) × (i ≤ s.n) × (is_some (read_client s (record_of p area.old)) ≡ true) × (room_size s ≤ length room.old)
         × (s.k * s.f - 4 ≤ length out.old) }
-    ensures { stepEnd p result area.new room.new out.new ≡ receivedEnd s i (recordOf p area.old) message.now room.old out.old }
+    ensures { step_end p result area.new room.new out.new ≡ received_end s i (record_of p area.old) message.now room.old out.old }
 {
     let told = tell(s, message);
     match told {

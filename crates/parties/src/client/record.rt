@@ -2,7 +2,7 @@
 ghost use Rattle.std.specs.Prelude.{◌≡◌, cond};
 ghost use Rattle.parties.specs.protocol.Measures.{passes};
 ghost use Rattle.parties.specs.protocol.Answer.{refused};
-ghost use Rattle.parties.specs.protocol.ClientEvents.{clientFresh, startDeposit, startReading, updateAnswer, scanAnswer, clientMessage};
+ghost use Rattle.parties.specs.protocol.ClientEvents.{client_fresh, start_deposit, start_reading, update_answer, scan_answer, client_message};
 ghost use Rattle.parties.specs.client.Answer.{answered};
 
 use crate::client::lent;
@@ -21,8 +21,8 @@ fn brief(s: Measures) -> ClientAnswer
 
 // A fresh record is written.
 pub fn fresh(s: Measures, client: &mut [u8]) -> ClientAnswer
-    ensures { (answered result ≡ (clientFresh s client.old).answer)
-        × (client.new ≡ (clientFresh s client.old).client) }
+    ensures { (answered result ≡ (client_fresh s client.old).answer)
+        × (client.new ≡ (client_fresh s client.old).client) }
 {
     if client.len() < 5 {
         return brief(s);
@@ -35,8 +35,8 @@ pub fn fresh(s: Measures, client: &mut [u8]) -> ClientAnswer
 
 // The start of a deposit.
 pub fn deposit(s: Measures, own: usize, client: &mut [u8], page: &[u8]) -> ClientAnswer
-    ensures { (answered result ≡ (startDeposit s own client.old page.now).answer)
-        × (client.new ≡ (startDeposit s own client.old page.now).client) }
+    ensures { (answered result ≡ (start_deposit s own client.old page.now).answer)
+        × (client.new ≡ (start_deposit s own client.old page.now).client) }
 {
     if client.len() < 5 {
         return brief(s);
@@ -49,9 +49,9 @@ pub fn deposit(s: Measures, own: usize, client: &mut [u8], page: &[u8]) -> Clien
 
 // The start of a reading.
 pub fn read(s: Measures, own: usize, client: &mut [u8], room: &mut [u8]) -> ClientAnswer
-    ensures { (answered result ≡ (startReading s own client.old room.old).answer)
-        × (client.new ≡ (startReading s own client.old room.old).client)
-        × (room.new ≡ (startReading s own client.old room.old).room) }
+    ensures { (answered result ≡ (start_reading s own client.old room.old).answer)
+        × (client.new ≡ (start_reading s own client.old room.old).client)
+        × (room.new ≡ (start_reading s own client.old room.old).room) }
 {
     if client.len() < 5 {
         return brief(s);
@@ -64,9 +64,9 @@ pub fn read(s: Measures, own: usize, client: &mut [u8], room: &mut [u8]) -> Clie
 
 // The acknowledgement of an update.
 pub fn updated(s: Measures, own: usize, client: &mut [u8], room: &mut [u8]) -> ClientAnswer
-    ensures { (answered result ≡ (updateAnswer s own client.old room.old).answer)
-        × (client.new ≡ (updateAnswer s own client.old room.old).client)
-        × (room.new ≡ (updateAnswer s own client.old room.old).room) }
+    ensures { (answered result ≡ (update_answer s own client.old room.old).answer)
+        × (client.new ≡ (update_answer s own client.old room.old).client)
+        × (room.new ≡ (update_answer s own client.old room.old).room) }
 {
     if client.len() < 5 {
         return brief(s);
@@ -85,9 +85,9 @@ pub fn scanned(
     rows: &[u8],
     room: &mut [u8],
 ) -> ClientAnswer
-    ensures { (answered result ≡ (scanAnswer s own client.old rows.now room.old).answer)
-        × (client.new ≡ (scanAnswer s own client.old rows.now room.old).client)
-        × (room.new ≡ (scanAnswer s own client.old rows.now room.old).room) }
+    ensures { (answered result ≡ (scan_answer s own client.old rows.now room.old).answer)
+        × (client.new ≡ (scan_answer s own client.old rows.now room.old).client)
+        × (room.new ≡ (scan_answer s own client.old rows.now room.old).room) }
 {
     if client.len() < 5 {
         return brief(s);
@@ -108,10 +108,10 @@ pub fn receive(
     room: &mut [u8],
     out: &mut [u8],
 ) -> ClientAnswer
-    ensures { (answered result ≡ (clientMessage s own i client.old message.now room.old out.old).answer)
-        × (client.new ≡ (clientMessage s own i client.old message.now room.old out.old).client)
-        × (room.new ≡ (clientMessage s own i client.old message.now room.old out.old).room)
-        × (out.new ≡ (clientMessage s own i client.old message.now room.old out.old).out) }
+    ensures { (answered result ≡ (client_message s own i client.old message.now room.old out.old).answer)
+        × (client.new ≡ (client_message s own i client.old message.now room.old out.old).client)
+        × (room.new ≡ (client_message s own i client.old message.now room.old out.old).room)
+        × (out.new ≡ (client_message s own i client.old message.now room.old out.old).out) }
 {
     if client.len() < 5 {
         return brief(s);

@@ -2,17 +2,17 @@
 ghost use Rattle.std.specs.Prelude.{◌≡◌, true, not, cond, ◌&&◌, List, ℕ, ◌+◌, ◌-◌, ◌*◌, ◌<◌, ◌≤◌, length, take, drop};
 ghost use Rattle.std.proofs.Math.Option.{some, none};
 ghost use Rattle.std.proofs.Math.Seq.{paste};
-ghost use Rattle.coding.specs.Answer.{joinOutcome};
+ghost use Rattle.coding.specs.Answer.{join_outcome};
 ghost use Rattle.coding.specs.Join.{join as joinEnd};
 ghost use Rattle.coding.specs.Nodes.{all};
-ghost use Rattle.parties.specs.protocol.Format.{writeArea};
+ghost use Rattle.parties.specs.protocol.Format.{write_area};
 ghost use Rattle.parties.specs.protocol.Measures.{passes};
-ghost use Rattle.parties.specs.protocol.Nodes.{nodesIn, count as counting, stands as standing, withNode};
-ghost use Rattle.parties.specs.protocol.Reading.{sameBytes};
-ghost use Rattle.parties.specs.protocol.Client.{fetchingStep, workSize, readClient};
-ghost use Rattle.parties.specs.client.End.{stepEnd};
-ghost use Rattle.parties.specs.client.Record.{recordOf, workAt, is_some};
-ghost use Rattle.parties.specs.client.Reply.{repliedEnd, mapsAt, standingAt, countsAt, digestPlace, matchesAt, wentOn, cleared, mapped, areaPut, piecePut, lengthsWith};
+ghost use Rattle.parties.specs.protocol.Nodes.{nodes_in, count as counting, stands as standing, with_node};
+ghost use Rattle.parties.specs.protocol.Reading.{same_bytes};
+ghost use Rattle.parties.specs.protocol.Client.{fetching_step, work_size, read_client};
+ghost use Rattle.parties.specs.client.End.{step_end};
+ghost use Rattle.parties.specs.client.Record.{record_of, work_at, is_some};
+ghost use Rattle.parties.specs.client.Reply.{replied_end, maps_at, standing_at, counts_at, digest_place, matches_at, went_on, cleared, mapped, area_put, piece_put, lengths_with};
 
 use crate::client::draw::digest_piece;
 use crate::client::form::{work_at, work_size};
@@ -36,7 +36,7 @@ pub struct Standing {
 
 fn standing_at(area: &[u8], at: usize, maps: usize) -> Standing
     requires { (at + 7 ≤ length area.now) × (maps + 4 ≤ length area.now) }
-    ensures { result ≡ standingAt area.now at maps }
+    ensures { result ≡ standing_at area.now at maps }
 {
     let version = version_at(area, at);
     let named = u16_at(area, at + 5);
@@ -64,7 +64,7 @@ fn awaited(named: u16, counted: u16, i: usize) -> bool
 // The first reply of a named node with the picked version.
 fn counts(x: Standing, i: usize, v: Version) -> bool
     requires { (1 ≤ i) × (i ≤ 16) }
-    ensures { result ≡ countsAt x i v }
+    ensures { result ≡ counts_at x i v }
 {
     if !same_version(v, x.version) {
         return false;
@@ -74,7 +74,7 @@ fn counts(x: Standing, i: usize, v: Version) -> bool
 
 // Every named node's reply is counted.
 fn all_counted(named: u16, counted: u16) -> bool
-    ensures { result ≡ all (standing counted) (nodesIn named) }
+    ensures { result ≡ all (standing counted) (nodes_in named) }
 {
     let mut i = 0;
     while i < 16 {
@@ -88,7 +88,7 @@ fn all_counted(named: u16, counted: u16) -> bool
 
 fn same_bytes(d: [u8; 32], t: &[u8], at: usize) -> bool
     requires { at + 32 ≤ length t.now }
-    ensures { result ≡ sameBytes d (take 32 (drop at t.now)) }
+    ensures { result ≡ same_bytes d (take 32 (drop at t.now)) }
 {
     let mut l = 0;
     while l < 32 {
@@ -103,7 +103,7 @@ fn same_bytes(d: [u8; 32], t: &[u8], at: usize) -> bool
 // A piece of 1 to f bytes whose digest, as node i's of version v, stands at a place.
 fn matches(f: usize, v: Version, i: usize, piece: &[u8], area: &[u8], at: usize) -> bool
     requires { (i ≤ 16) × (at + 32 ≤ length area.now) }
-    ensures { result ≡ matchesAt f v i piece.now area.now at }
+    ensures { result ≡ matches_at f v i piece.now area.now at }
 {
     if piece.len() < 1 {
         return false;
@@ -117,9 +117,9 @@ fn matches(f: usize, v: Version, i: usize, piece: &[u8], area: &[u8], at: usize)
 
 // A reading that does not end with a page: it fails if every named node is counted, else its maps are kept.
 fn go_on(s: Measures, area: &mut [u8], named: u16, counted: u16, matching: u16) -> ClientAnswer
-    requires { (passes s ≡ true) × (workAt s + workSize s ≤ length area.old) }
-    ensures { (result ≡ wentOn (all (standing counted) (nodesIn named)))
-        × (area.new ≡ cond (all (standing counted) (nodesIn named)) (cleared s area.old) (mapped s counted matching area.old)) }
+    requires { (passes s ≡ true) × (work_at s + work_size s ≤ length area.old) }
+    ensures { (result ≡ went_on (all (standing counted) (nodes_in named)))
+        × (area.new ≡ cond (all (standing counted) (nodes_in named)) (cleared s area.old) (mapped s counted matching area.old)) }
 {
     let at = work_at(s);
     if all_counted(named, counted) {
@@ -136,7 +136,7 @@ fn go_on(s: Measures, area: &mut [u8], named: u16, counted: u16, matching: u16) 
 // A piece at the front of its area, and zeros after it.
 fn put_area(area: &mut [u8], at: usize, f: usize, piece: &[u8])
     requires { (at + f ≤ length area.old) × (length piece.now ≤ f) }
-    ensures { area.new ≡ paste area.old at (writeArea f (λ p. p) piece.now) f }
+    ensures { area.new ≡ paste area.old at (write_area f (λ p. p) piece.now) f }
 {
     let n = piece.len();
     copy(area, at, piece, 0, n);
@@ -146,7 +146,7 @@ fn put_area(area: &mut [u8], at: usize, f: usize, piece: &[u8])
 // A node's piece and its length, where the lengths start.
 fn put_piece(area: &mut [u8], at: usize, n: usize, f: usize, i: usize, piece: &[u8])
     requires { (n ≤ 16) × (f ≤ 4096) × (1 ≤ i) × (i ≤ n) × (at + 2 * n + n * f ≤ length area.old) × (length piece.now ≤ f) }
-    ensures { area.new ≡ piecePut at n f i piece.now area.old }
+    ensures { area.new ≡ piece_put at n f i piece.now area.old }
 {
     let len = piece.len();
     let place = at + 2 * n + (i - 1) * f;
@@ -157,7 +157,7 @@ fn put_piece(area: &mut [u8], at: usize, n: usize, f: usize, i: usize, piece: &[
 // The n lengths, of which node i's is another.
 fn lengths_with(area: &[u8], at: usize, n: usize, i: usize, len: u16) -> [u16; 16]
     requires { (n ≤ 16) × (1 ≤ i) × (i ≤ n) × (at + 2 * n ≤ length area.now) }
-    ensures { take n result ≡ lengthsWith area.now at n i len }
+    ensures { take n result ≡ lengths_with area.now at n i len }
 {
     let mut v = [0u16; 16];
     for j in 0..n {
@@ -196,8 +196,8 @@ fn join_with(
     out: &mut [u8],
 ) -> JoinAnswer
     requires { (passes s ≡ true) × (1 ≤ i) × (i ≤ s.n) × (at + 2 * s.n + s.n * s.f ≤ length area.old) × (length piece.now ≤ s.f) }
-    ensures { (joinOutcome result ≡ (joinEnd s.n s.k s.f matching (take (s.n * s.f) (drop (at + 2 * s.n) (areaPut at s.n s.f i piece.now area.old))) (lengthsWith area.old at s.n i (length piece.now)) out.old).outcome)
-        × (out.new ≡ (joinEnd s.n s.k s.f matching (take (s.n * s.f) (drop (at + 2 * s.n) (areaPut at s.n s.f i piece.now area.old))) (lengthsWith area.old at s.n i (length piece.now)) out.old).out)
+    ensures { (join_outcome result ≡ (joinEnd s.n s.k s.f matching (take (s.n * s.f) (drop (at + 2 * s.n) (area_put at s.n s.f i piece.now area.old))) (lengths_with area.old at s.n i (length piece.now)) out.old).outcome)
+        × (out.new ≡ (joinEnd s.n s.k s.f matching (take (s.n * s.f) (drop (at + 2 * s.n) (area_put at s.n s.f i piece.now area.old))) (lengths_with area.old at s.n i (length piece.now)) out.old).out)
         × (area.new ≡ area.old) }
 {
     let n = s.n;
@@ -225,11 +225,11 @@ fn finish(
     piece: &[u8],
     out: &mut [u8],
 ) -> ClientAnswer
-    requires { (passes s ≡ true) × (1 ≤ i) × (i ≤ s.n) × (is_some (readClient s (recordOf p area.old)) ≡ true) × (s.k * s.f - 4 ≤ length out.old)
-        × (p.step ≡ fetchingStep) × (x ≡ standingAt area.old (workAt s) (mapsAt s)) × (countsAt x i v ≡ true)
-        × (matchesAt s.f x.version i piece.now area.old (digestPlace (workAt s) x.named i) ≡ true)
-        × (s.k ≤ counting (withNode x.matching i)) }
-    ensures { (room : List ℕ) → stepEnd p result area.new room out.new ≡ repliedEnd s i v (some piece.now) (recordOf p area.old) room out.old }
+    requires { (passes s ≡ true) × (1 ≤ i) × (i ≤ s.n) × (is_some (read_client s (record_of p area.old)) ≡ true) × (s.k * s.f - 4 ≤ length out.old)
+        × (p.step ≡ fetching_step) × (x ≡ standing_at area.old (work_at s) (maps_at s)) × (counts_at x i v ≡ true)
+        × (matches_at s.f x.version i piece.now area.old (digest_place (work_at s) x.named i) ≡ true)
+        × (s.k ≤ counting (with_node x.matching i)) }
+    ensures { (room : List ℕ) → step_end p result area.new room out.new ≡ replied_end s i v (some piece.now) (record_of p area.old) room out.old }
 {
     let at = work_at(s);
     let size = work_size(s);
@@ -255,9 +255,9 @@ fn reply_counted(
     piece: &[u8],
     out: &mut [u8],
 ) -> ClientAnswer
-    requires { (passes s ≡ true) × (1 ≤ i) × (i ≤ s.n) × (is_some (readClient s (recordOf p area.old)) ≡ true) × (s.k * s.f - 4 ≤ length out.old)
-        × (p.step ≡ fetchingStep) × (x ≡ standingAt area.old (workAt s) (mapsAt s)) × (countsAt x i v ≡ true) }
-    ensures { (room : List ℕ) → stepEnd p result area.new room out.new ≡ repliedEnd s i v (some piece.now) (recordOf p area.old) room out.old }
+    requires { (passes s ≡ true) × (1 ≤ i) × (i ≤ s.n) × (is_some (read_client s (record_of p area.old)) ≡ true) × (s.k * s.f - 4 ≤ length out.old)
+        × (p.step ≡ fetching_step) × (x ≡ standing_at area.old (work_at s) (maps_at s)) × (counts_at x i v ≡ true) }
+    ensures { (room : List ℕ) → step_end p result area.new room out.new ≡ replied_end s i v (some piece.now) (record_of p area.old) room out.old }
 {
     let at = work_at(s);
     let place = at + 7 + 32 * rank(x.named, i);
@@ -284,8 +284,8 @@ pub fn reply(
     piece: &[u8],
     out: &mut [u8],
 ) -> ClientAnswer
-    requires { (passes s ≡ true) × (1 ≤ i) × (i ≤ s.n) × (is_some (readClient s (recordOf p area.old)) ≡ true) × (s.k * s.f - 4 ≤ length out.old) }
-    ensures { (room : List ℕ) → stepEnd p result area.new room out.new ≡ repliedEnd s i v (some piece.now) (recordOf p area.old) room out.old }
+    requires { (passes s ≡ true) × (1 ≤ i) × (i ≤ s.n) × (is_some (read_client s (record_of p area.old)) ≡ true) × (s.k * s.f - 4 ≤ length out.old) }
+    ensures { (room : List ℕ) → step_end p result area.new room out.new ≡ replied_end s i v (some piece.now) (record_of p area.old) room out.old }
 {
     if p.step != FETCHING {
         return ClientAnswer::Waits;
@@ -300,8 +300,8 @@ pub fn reply(
 
 // A node's reply that it holds no piece of a version.
 pub fn missing(s: Measures, i: usize, v: Version, p: Phase, area: &mut [u8]) -> ClientAnswer
-    requires { (passes s ≡ true) × (1 ≤ i) × (i ≤ s.n) × (is_some (readClient s (recordOf p area.old)) ≡ true) }
-    ensures { (room out : List ℕ) → stepEnd p result area.new room out ≡ repliedEnd s i v none (recordOf p area.old) room out }
+    requires { (passes s ≡ true) × (1 ≤ i) × (i ≤ s.n) × (is_some (read_client s (record_of p area.old)) ≡ true) }
+    ensures { (room out : List ℕ) → step_end p result area.new room out ≡ replied_end s i v none (record_of p area.old) room out }
 {
     if p.step != FETCHING {
         return ClientAnswer::Waits;

@@ -1,6 +1,6 @@
 // The steps of a client's record: where its operation stands, by what it waits for.
 ghost use Rattle.std.specs.Prelude.{◌≡◌};
-ghost use Rattle.parties.specs.client.Step.{phaseAfter};
+ghost use Rattle.parties.specs.client.Step.{phase_after};
 
 use crate::{ClientAnswer, Phase};
 
@@ -24,7 +24,7 @@ pub(crate) const FETCHING: u8 = 7;
 
 // Where the rows of a scan or a message lead: the answer says which step comes next.
 pub(crate) fn phase_after(p: Phase, a: ClientAnswer) -> Phase
-    ensures { result ≡ phaseAfter p a }
+    ensures { result ≡ phase_after p a }
 {
     let reading = p.reading;
     let step = match a {

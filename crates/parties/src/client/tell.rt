@@ -1,7 +1,7 @@
 // Messages to a client: their forms.
 ghost use Rattle.std.specs.Prelude.{◌≡◌, ◌≤◌, length, get_or};
-ghost use Rattle.parties.specs.protocol.Message.{storedTag, replyTag, readToClient};
-ghost use Rattle.parties.specs.client.Tell.{toldBy};
+ghost use Rattle.parties.specs.protocol.Message.{stored_tag, reply_tag, read_to_client};
+ghost use Rattle.parties.specs.client.Tell.{told_by};
 
 use crate::protocol::tags::{FREED, REPLY, STORED};
 use crate::records::version::{proper_at, version_alone, version_at};
@@ -22,8 +22,8 @@ pub enum Told {
 
 // A version alone.
 fn stored(s: Measures, b: &[u8]) -> Told
-    requires { (1 ≤ length b.now) × (get_or b.now 0 0 ≡ storedTag) }
-    ensures { toldBy b.now result ≡ readToClient s b.now }
+    requires { (1 ≤ length b.now) × (get_or b.now 0 0 ≡ stored_tag) }
+    ensures { told_by b.now result ≡ read_to_client s b.now }
 {
     if !version_alone(s, b) {
         return Told::Broken;
@@ -33,8 +33,8 @@ fn stored(s: Measures, b: &[u8]) -> Told
 
 // A version, then a 1 and a piece, or a 0 alone.
 fn replied(s: Measures, b: &[u8]) -> Told
-    requires { (1 ≤ length b.now) × (get_or b.now 0 0 ≡ replyTag) }
-    ensures { toldBy b.now result ≡ readToClient s b.now }
+    requires { (1 ≤ length b.now) × (get_or b.now 0 0 ≡ reply_tag) }
+    ensures { told_by b.now result ≡ read_to_client s b.now }
 {
     if b.len() < 7 {
         return Told::Broken;
@@ -57,7 +57,7 @@ fn replied(s: Measures, b: &[u8]) -> Told
 }
 
 pub fn tell(s: Measures, b: &[u8]) -> Told
-    ensures { toldBy b.now result ≡ readToClient s b.now }
+    ensures { told_by b.now result ≡ read_to_client s b.now }
 {
     if b.len() < 1 {
         return Told::Broken;

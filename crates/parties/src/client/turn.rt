@@ -1,9 +1,9 @@
 // Events at a client, by value.
 ghost use Rattle.std.specs.Prelude.{◌≡◌, ◌+◌, ◌*◌, ◌≤◌, length};
 ghost use Rattle.parties.specs.declared.ClientAnswer.{ClientAnswer};
-ghost use Rattle.parties.specs.protocol.ClientEvents.{clientFresh, startDeposit, startReading, updateAnswer, scanAnswer, clientMessage};
+ghost use Rattle.parties.specs.protocol.ClientEvents.{client_fresh, start_deposit, start_reading, update_answer, scan_answer, client_message};
 ghost use Rattle.parties.specs.client.Answer.{answered};
-ghost use Rattle.parties.specs.client.Record.{recordOf, marked};
+ghost use Rattle.parties.specs.client.Record.{record_of, marked};
 
 use crate::client::form::{area_size, work_at};
 use crate::client::gate::{
@@ -44,8 +44,8 @@ fn refuse(p: Phase, r: Refusal) -> Turned
 
 // A fresh record: idle, all pointers and versions none, all indices 0.
 pub fn fresh_client(p: Phase, s: Measures, area: &mut [u8]) -> Turned
-    ensures { (answered result.answer ≡ (clientFresh s (recordOf p area.old)).answer)
-        × (recordOf result.phase area.new ≡ (clientFresh s (recordOf p area.old)).client) }
+    ensures { (answered result.answer ≡ (client_fresh s (record_of p area.old)).answer)
+        × (record_of result.phase area.new ≡ (client_fresh s (record_of p area.old)).client) }
 {
     if !s.pass() {
         return refuse(p, Refusal::Measures);
@@ -70,8 +70,8 @@ pub fn fresh_client(p: Phase, s: Measures, area: &mut [u8]) -> Turned
 
 // The start of a deposit: the page is kept, a scan is asked for.
 pub fn start_deposit(p: Phase, s: Measures, own: usize, area: &mut [u8], page: &[u8]) -> Turned
-    ensures { (answered result.answer ≡ (startDeposit s own (recordOf p area.old) page.now).answer)
-        × (recordOf result.phase area.new ≡ (startDeposit s own (recordOf p area.old) page.now).client) }
+    ensures { (answered result.answer ≡ (start_deposit s own (record_of p area.old) page.now).answer)
+        × (record_of result.phase area.new ≡ (start_deposit s own (record_of p area.old) page.now).client) }
 {
     let enough = area_long(s, area.len());
     let g = admit(s, enough, own < s.m, p, area);
@@ -100,9 +100,9 @@ pub fn start_deposit(p: Phase, s: Measures, own: usize, area: &mut [u8], page: &
 
 // The start of a reading: the reading index goes up, and the directory is to have it.
 pub fn start_reading(p: Phase, s: Measures, own: usize, area: &mut [u8], room: &mut [u8]) -> Turned
-    ensures { (answered result.answer ≡ (startReading s own (recordOf p area.old) room.old).answer)
-        × (recordOf result.phase area.new ≡ (startReading s own (recordOf p area.old) room.old).client)
-        × (room.new ≡ (startReading s own (recordOf p area.old) room.old).room) }
+    ensures { (answered result.answer ≡ (start_reading s own (record_of p area.old) room.old).answer)
+        × (record_of result.phase area.new ≡ (start_reading s own (record_of p area.old) room.old).client)
+        × (room.new ≡ (start_reading s own (record_of p area.old) room.old).room) }
 {
     let enough = area_and_room_long(s, area.len(), room.len());
     let g = admit(s, enough, own < s.m, p, area);
@@ -130,9 +130,9 @@ pub fn start_reading(p: Phase, s: Measures, own: usize, area: &mut [u8], room: &
 
 // The directory took an update: the scan after it is asked for.
 pub fn update_answer(p: Phase, s: Measures, own: usize, area: &mut [u8], room: &mut [u8]) -> Turned
-    ensures { (answered result.answer ≡ (updateAnswer s own (recordOf p area.old) room.old).answer)
-        × (recordOf result.phase area.new ≡ (updateAnswer s own (recordOf p area.old) room.old).client)
-        × (room.new ≡ (updateAnswer s own (recordOf p area.old) room.old).room) }
+    ensures { (answered result.answer ≡ (update_answer s own (record_of p area.old) room.old).answer)
+        × (record_of result.phase area.new ≡ (update_answer s own (record_of p area.old) room.old).client)
+        × (room.new ≡ (update_answer s own (record_of p area.old) room.old).room) }
 {
     let enough = area_and_room_long(s, area.len(), room.len());
     let g = admit(s, enough, own < s.m, p, area);
@@ -170,9 +170,9 @@ pub fn scan_answer(
     rows: &[u8],
     room: &mut [u8],
 ) -> Turned
-    ensures { (answered result.answer ≡ (scanAnswer s own (recordOf p area.old) rows.now room.old).answer)
-        × (recordOf result.phase area.new ≡ (scanAnswer s own (recordOf p area.old) rows.now room.old).client)
-        × (room.new ≡ (scanAnswer s own (recordOf p area.old) rows.now room.old).room) }
+    ensures { (answered result.answer ≡ (scan_answer s own (record_of p area.old) rows.now room.old).answer)
+        × (record_of result.phase area.new ≡ (scan_answer s own (record_of p area.old) rows.now room.old).client)
+        × (room.new ≡ (scan_answer s own (record_of p area.old) rows.now room.old).room) }
 {
     let enough = area_rows_and_room_long(s, area.len(), rows.len(), room.len());
     let g = admit(s, enough, own < s.m, p, area);
@@ -201,10 +201,10 @@ pub fn message(
     room: &mut [u8],
     out: &mut [u8],
 ) -> Turned
-    ensures { (answered result.answer ≡ (clientMessage s own i (recordOf p area.old) message.now room.old out.old).answer)
-        × (recordOf result.phase area.new ≡ (clientMessage s own i (recordOf p area.old) message.now room.old out.old).client)
-        × (room.new ≡ (clientMessage s own i (recordOf p area.old) message.now room.old out.old).room)
-        × (out.new ≡ (clientMessage s own i (recordOf p area.old) message.now room.old out.old).out) }
+    ensures { (answered result.answer ≡ (client_message s own i (record_of p area.old) message.now room.old out.old).answer)
+        × (record_of result.phase area.new ≡ (client_message s own i (record_of p area.old) message.now room.old out.old).client)
+        × (room.new ≡ (client_message s own i (record_of p area.old) message.now room.old out.old).room)
+        × (out.new ≡ (client_message s own i (record_of p area.old) message.now room.old out.old).out) }
 {
     let enough = area_room_and_output_long(s, area.len(), room.len(), out.len());
     let within = numbered(s, own, i);

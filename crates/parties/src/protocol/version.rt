@@ -1,7 +1,7 @@
 // Each counter has its own comparison and successor.
 ghost use Rattle.std.specs.Prelude.{◌≡◌, ◌+◌, ltb};
-ghost use Rattle.parties.specs.protocol.Version.{below, isNoVersion, nextSequence, nextIndex};
-ghost use Rattle.parties.specs.protocol.Message.{properVersion};
+ghost use Rattle.parties.specs.protocol.Version.{below, is_no_version, next_sequence, next_index};
+ghost use Rattle.parties.specs.protocol.Message.{proper_version};
 
 use crate::{Measures, NextIndex, NextSequence, ReadingIndex, Sequence, Version};
 
@@ -26,7 +26,7 @@ impl Sequence {
     }
 
     pub fn next(self) -> NextSequence
-        ensures { result ≡ nextSequence self }
+        ensures { result ≡ next_sequence self }
     {
         if self.0 < LAST {
             NextSequence::Drawn(Sequence(self.0 + 1))
@@ -44,7 +44,7 @@ impl ReadingIndex {
     }
 
     pub fn next(self) -> NextIndex
-        ensures { result ≡ nextIndex self }
+        ensures { result ≡ next_index self }
     {
         if self.0 < LAST {
             NextIndex::Raised(ReadingIndex(self.0 + 1))
@@ -71,7 +71,7 @@ impl Version {
 
     // A drawn version has a sequence of at least 1, and a client below m.
     pub fn proper(self, s: Measures) -> bool
-        ensures { result ≡ properVersion s self }
+        ensures { result ≡ proper_version s self }
     {
         if !NO_SEQUENCE.below(self.sequence) {
             return false;
@@ -80,7 +80,7 @@ impl Version {
     }
 
     pub fn is_none(self) -> bool
-        ensures { result ≡ isNoVersion self }
+        ensures { result ≡ is_no_version self }
     {
         if NO_SEQUENCE.below(self.sequence) {
             return false;

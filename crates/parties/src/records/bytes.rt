@@ -3,7 +3,7 @@ ghost use Rattle.std.specs.Prelude.{◌≡◌, ◌+◌, ◌-◌, ◌<◌, ◌≤
 ghost use Rattle.std.proofs.Math.Option.{some};
 ghost use Rattle.std.proofs.Math.Seq.{paste};
 ghost use Rattle.coding.specs.Nodes.{all};
-ghost use Rattle.parties.specs.protocol.Format.{readNumber, writeNumber};
+ghost use Rattle.parties.specs.protocol.Format.{read_number, write_number};
 
 fn wide16(b: u8) -> u16
     ensures { (result ≡ b) × (result < 256) }
@@ -20,7 +20,7 @@ fn wide32(b: u8) -> u32
 // The number in the two bytes at a place.
 pub(crate) fn u16_at(t: &[u8], at: usize) -> u16
     requires { at + 2 ≤ length t.now }
-    ensures { readNumber 2 (drop at t.now) ≡ some (record { value = result; rest = drop (at + 2) t.now }) }
+    ensures { read_number 2 (drop at t.now) ≡ some (record { value = result; rest = drop (at + 2) t.now }) }
 {
     let a = wide16(t[at]);
     let b = wide16(t[at + 1]);
@@ -30,7 +30,7 @@ pub(crate) fn u16_at(t: &[u8], at: usize) -> u16
 // The number in the four bytes at a place.
 pub(crate) fn u32_at(t: &[u8], at: usize) -> u32
     requires { at + 4 ≤ length t.now }
-    ensures { readNumber 4 (drop at t.now) ≡ some (record { value = result; rest = drop (at + 4) t.now }) }
+    ensures { read_number 4 (drop at t.now) ≡ some (record { value = result; rest = drop (at + 4) t.now }) }
 {
     let a = wide32(t[at]);
     let b = wide32(t[at + 1]);
@@ -90,7 +90,7 @@ pub(crate) fn clear(t: &mut [u8], from: usize, to: usize)
 
 pub(crate) fn put_u16(t: &mut [u8], at: usize, v: u16)
     requires { at + 2 ≤ length t.old }
-    ensures { t.new ≡ paste t.old at (writeNumber 2 v) 2 }
+    ensures { t.new ≡ paste t.old at (write_number 2 v) 2 }
 {
     t[at] = (v / 256 % 256) as u8;
     t[at + 1] = (v % 256) as u8;
@@ -98,7 +98,7 @@ pub(crate) fn put_u16(t: &mut [u8], at: usize, v: u16)
 
 pub(crate) fn put_u32(t: &mut [u8], at: usize, v: u32)
     requires { at + 4 ≤ length t.old }
-    ensures { t.new ≡ paste t.old at (writeNumber 4 v) 4 }
+    ensures { t.new ≡ paste t.old at (write_number 4 v) 4 }
 {
     t[at] = (v / 256 / 256 / 256 % 256) as u8;
     t[at + 1] = (v / 256 / 256 % 256) as u8;

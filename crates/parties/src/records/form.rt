@@ -1,10 +1,10 @@
 // Form tests: whether a record at a place of some bytes keeps its form, and where it ends.
 ghost use Rattle.std.specs.Prelude.{◌≡◌, true, ◌+◌, ◌*◌, ◌^◌, ◌≤◌, ltb, length, drop};
-ghost use Rattle.parties.specs.protocol.Measures.{passes, pointerSize, rowSize};
+ghost use Rattle.parties.specs.protocol.Measures.{passes, pointer_size, row_size};
 ghost use Rattle.parties.specs.protocol.Nodes.{count};
-ghost use Rattle.parties.specs.protocol.Format.{readMany};
+ghost use Rattle.parties.specs.protocol.Format.{read_many};
 ghost use Rattle.parties.specs.protocol.Directory.{Field};
-ghost use Rattle.parties.specs.records.Form.{rest, Formed, pointerBy, properFront, allowedFront, afterIf, Indexed, Parted, OwnParted, Recorded, Rowed, Tabled, Judged};
+ghost use Rattle.parties.specs.records.Form.{rest, Formed, pointer_by, proper_front, allowed_front, after_if, Indexed, Parted, OwnParted, Recorded, Rowed, Tabled, Judged};
 
 use crate::records::bytes::{u16_at, zero_run};
 use crate::records::nodes::count;
@@ -95,7 +95,7 @@ pub(crate) fn within(map: u16, n: usize) -> bool
 // A pointer is none, or has a proper version and t + k nodes.
 fn proper(s: Measures, v: Version, map: u16, nodes: usize) -> bool
     requires { (passes s ≡ true) × (nodes ≡ count map) }
-    ensures { result ≡ properFront s v map }
+    ensures { result ≡ proper_front s v map }
 {
     if v.is_none() {
         return map == 0;
@@ -112,7 +112,7 @@ fn proper(s: Measures, v: Version, map: u16, nodes: usize) -> bool
 // Proper, and none or of this client.
 fn owned(s: Measures, own: usize, v: Version, map: u16, nodes: usize) -> bool
     requires { (passes s ≡ true) × (nodes ≡ count map) }
-    ensures { result ≡ allowedFront s (Rule.Owner own) v map }
+    ensures { result ≡ allowed_front s (Rule.Owner own) v map }
 {
     if !proper(s, v, map, nodes) {
         return false;
@@ -126,7 +126,7 @@ fn owned(s: Measures, own: usize, v: Version, map: u16, nodes: usize) -> bool
 // By its length alone a pointer may be any.
 fn allowed(s: Measures, rule: Rule, v: Version, map: u16, nodes: usize) -> bool
     requires { (passes s ≡ true) × (nodes ≡ count map) }
-    ensures { result ≡ allowedFront s rule v map }
+    ensures { result ≡ allowed_front s rule v map }
 {
     match rule {
         Rule::Length => true,
@@ -138,7 +138,7 @@ fn allowed(s: Measures, rule: Rule, v: Version, map: u16, nodes: usize) -> bool
 // Seven bytes, and a digest for each node of the map.
 pub(crate) fn pointer(s: Measures, rule: Rule, t: &[u8], at: usize) -> Form
     requires { (passes s ≡ true) × (at ≤ length t.now) }
-    ensures { Formed t.now at (rest (pointerBy s rule (drop at t.now))) result }
+    ensures { Formed t.now at (rest (pointer_by s rule (drop at t.now))) result }
 {
     let left = t.len() - at;
     if left < 7 {
@@ -159,7 +159,7 @@ pub(crate) fn pointer(s: Measures, rule: Rule, t: &[u8], at: usize) -> Form
 
 pub(crate) fn pointers(s: Measures, rule: Rule, n: usize, t: &[u8], at: usize) -> Form
     requires { (passes s ≡ true) × (at ≤ length t.now) }
-    ensures { Formed t.now at (rest (readMany (pointerBy s rule) n (drop at t.now))) result }
+    ensures { Formed t.now at (rest (read_many (pointer_by s rule) n (drop at t.now))) result }
 {
     let mut p = at;
     for i in 0..n {
@@ -174,7 +174,7 @@ pub(crate) fn pointers(s: Measures, rule: Rule, n: usize, t: &[u8], at: usize) -
 // A field of n pointers, if its bit stands.
 fn pointers_if(s: Measures, rule: Rule, stands: bool, n: usize, t: &[u8], at: usize) -> Form
     requires { (passes s ≡ true) × (at ≤ length t.now) }
-    ensures { Formed t.now at (afterIf (pointerBy s rule) (Field.pointers n) stands (drop at t.now)) result }
+    ensures { Formed t.now at (after_if (pointer_by s rule) (Field.pointers n) stands (drop at t.now)) result }
 {
     if !stands {
         return Form::Sound(at);
@@ -262,7 +262,7 @@ pub(crate) fn whole_record(s: Measures, own: usize, t: &[u8]) -> Record
 // The longest pointer: a version, a map and t + k digests.
 pub(crate) fn pointer_size(s: Measures) -> usize
     requires { passes s ≡ true }
-    ensures { result ≡ pointerSize s }
+    ensures { result ≡ pointer_size s }
 {
     7 + 32 * (s.t + s.k)
 }
@@ -270,7 +270,7 @@ pub(crate) fn pointer_size(s: Measures) -> usize
 // The bytes of a directory row.
 pub(crate) fn row_size(s: Measures) -> usize
     requires { passes s ≡ true }
-    ensures { result ≡ rowSize s }
+    ensures { result ≡ row_size s }
 {
     let size = pointer_size(s);
     1 + (s.m + 1) * size + 4 * s.m + 4
@@ -278,7 +278,7 @@ pub(crate) fn row_size(s: Measures) -> usize
 
 // The row of a client, of so many bytes.
 fn row(s: Measures, size: usize, own: usize, t: &[u8], at: usize) -> Table
-    requires { (passes s ≡ true) × (size ≡ rowSize s) × (at + rowSize s ≤ length t.now) }
+    requires { (passes s ≡ true) × (size ≡ row_size s) × (at + row_size s ≤ length t.now) }
     ensures { Rowed s own t.now at result }
 {
     if t[at] != ROW_MAP {
@@ -296,7 +296,7 @@ fn row(s: Measures, size: usize, own: usize, t: &[u8], at: usize) -> Table
 
 // The whole table, in one pass: a row that breaks its form is told before a pointer of another client, wherever they stand.
 pub(crate) fn rows(s: Measures, size: usize, t: &[u8]) -> Table
-    requires { (passes s ≡ true) × (size ≡ rowSize s) × (s.m * rowSize s ≤ length t.now) }
+    requires { (passes s ≡ true) × (size ≡ row_size s) × (s.m * row_size s ≤ length t.now) }
     ensures { Tabled s t.now result }
 {
     let many = s.m;
@@ -316,7 +316,7 @@ pub(crate) fn rows(s: Measures, size: usize, t: &[u8]) -> Table
 
 // Of a table, or of rows handed over, with no record beside it: 4, then 14.
 pub(crate) fn directory(s: Measures, size: usize, t: &[u8]) -> Verdict
-    requires { (passes s ≡ true) × (size ≡ rowSize s) × (s.m * rowSize s ≤ length t.now) }
+    requires { (passes s ≡ true) × (size ≡ row_size s) × (s.m * row_size s ≤ length t.now) }
     ensures { Judged s t.now result }
 {
     let Table::Sound(all) = rows(s, size, t) else {

@@ -1,7 +1,7 @@
 // Bit maps of nodes: bit i - 1 is node i's.
 ghost use Rattle.std.specs.Prelude.{◌≡◌, cond, ◌&&◌, ◌-◌, ◌≤◌, ◌<◌, ◌/◌, ◌%◌, ◌^◌, leb, length};
-ghost use Rattle.coding.specs.Nodes.{nodesOf};
-ghost use Rattle.parties.specs.protocol.Nodes.{stands as standing, count as counted, withNode};
+ghost use Rattle.coding.specs.Nodes.{nodes_of};
+ghost use Rattle.parties.specs.protocol.Nodes.{stands as standing, count as counted, with_node};
 
 fn bit(map: u16, i: usize) -> usize
     requires { i < 16 }
@@ -31,7 +31,7 @@ pub fn count(map: u16) -> usize
 // How many nodes below i a map names.
 pub(crate) fn rank(map: u16, i: usize) -> usize
     requires { (1 ≤ i) × (i ≤ 16) }
-    ensures { result ≡ length (nodesOf map (i - 1)) }
+    ensures { result ≡ length (nodes_of map (i - 1)) }
 {
     let end = i - 1;
     let mut n = 0;
@@ -43,7 +43,7 @@ pub(crate) fn rank(map: u16, i: usize) -> usize
 
 pub(crate) fn with_node(map: u16, i: usize) -> u16
     requires { (1 ≤ i) × (i ≤ 16) }
-    ensures { result ≡ withNode map i }
+    ensures { result ≡ with_node map i }
 {
     map | (1u16 << (i - 1))
 }
@@ -63,7 +63,7 @@ pub fn has_node(map: u16, i: usize) -> bool
 
 // Node i is added; a number that is no node's changes nothing.
 pub fn add_node(map: u16, i: usize) -> u16
-    ensures { result ≡ cond (leb 1 i && leb i 16) (withNode map i) map }
+    ensures { result ≡ cond (leb 1 i && leb i 16) (with_node map i) map }
 {
     if i < 1 {
         return map;

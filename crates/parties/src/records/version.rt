@@ -1,15 +1,15 @@
 // A version in five bytes.
 ghost use Rattle.std.specs.Prelude.{◌≡◌, ◌+◌, ◌≤◌, length};
-ghost use Rattle.parties.specs.protocol.Pointer.{writeVersion};
-ghost use Rattle.parties.specs.protocol.Reading.{sameVersion};
-ghost use Rattle.parties.specs.records.Places.{versionAt, properAt, versionAlone};
+ghost use Rattle.parties.specs.protocol.Pointer.{write_version};
+ghost use Rattle.parties.specs.protocol.Reading.{same_version};
+ghost use Rattle.parties.specs.records.Places.{version_at, proper_at, version_alone};
 
 use crate::records::bytes::u32_at;
 use crate::{Measures, Sequence, Version};
 
 // Neither is below the other.
 pub(crate) fn same_version(a: Version, b: Version) -> bool
-    ensures { result ≡ sameVersion a b }
+    ensures { result ≡ same_version a b }
 {
     if a.below(b) {
         return false;
@@ -20,7 +20,7 @@ pub(crate) fn same_version(a: Version, b: Version) -> bool
 // The version in the five bytes at a place.
 pub(crate) fn version_at(t: &[u8], at: usize) -> Version
     requires { at + 5 ≤ length t.now }
-    ensures { result ≡ versionAt t.now at }
+    ensures { result ≡ version_at t.now at }
 {
     let q = u32_at(t, at);
     Version {
@@ -31,7 +31,7 @@ pub(crate) fn version_at(t: &[u8], at: usize) -> Version
 
 // The five bytes of a version.
 pub(crate) fn version_bytes(v: Version) -> [u8; 5]
-    ensures { result ≡ writeVersion v }
+    ensures { result ≡ write_version v }
 {
     let q = v.sequence.0;
     [
@@ -46,14 +46,14 @@ pub(crate) fn version_bytes(v: Version) -> [u8; 5]
 // A version that a message or a place names is proper.
 pub(crate) fn proper_at(s: Measures, b: &[u8], at: usize) -> bool
     requires { at + 5 ≤ length b.now }
-    ensures { result ≡ properAt s b.now at }
+    ensures { result ≡ proper_at s b.now at }
 {
     version_at(b, at).proper(s)
 }
 
 // A version alone.
 pub(crate) fn version_alone(s: Measures, b: &[u8]) -> bool
-    ensures { result ≡ versionAlone s b.now }
+    ensures { result ≡ version_alone s b.now }
 {
     if b.len() != 6 {
         return false;

@@ -3,14 +3,14 @@ use mathlib.Core.Path.{◌≡◌, refl, sym, ◌∙◌}
 use native.Mathlib.Omega.{arith}
 use Prim.Native.Nat.{◌≤◌, ◌<◌, ◌-◌}
 use lib.ListN.{length, drop}
-use Rattle.vectors.specs.Bytes.{checksumFrom}
+use Rattle.vectors.specs.Bytes.{checksum_from}
 use Rattle.vectors.proofs.BytesLaws.{sum_more, sum-all}
 use borrow.Author.Rules.{rules}
 use Rattle.vectors.proofs.checksum.Statement.{statement}
 use Rattle.vectors.proofs.checksum.Tie as tie
 
 abbrev invariant-loop : tie.invariant-loop
-invariant-loop s h₀ i₀ h i = (i ≤ length s) × (h < 4294967296) × (checksumFrom h (drop i s) ≡ checksumFrom 0 s)
+invariant-loop s h₀ i₀ h i = (i ≤ length s) × (h < 4294967296) × (checksum_from h (drop i s) ≡ checksum_from 0 s)
 
 abbrev decreases-loop : tie.decreases-loop
 decreases-loop s h₀ i₀ h i = length s - i

@@ -3,20 +3,20 @@ use Prim.Native.Nat.{◌≤◌, ◌-◌}
 use mathlib.Core.Path.{◌≡◌, refl}
 use native.Mathlib.Omega.{arith}
 use lib.ListN.{length, take, length-set}
-use Rattle.vectors.specs.Bytes.{poisonOf}
-use Rattle.vectors.proofs.BytesLaws.{poison-none, poison-more, poison-all}
+use Rattle.vectors.specs.Bytes.{poison_of}
+use Rattle.vectors.proofs.BytesLaws.{poison_none, poison_more, poison_all}
 use borrow.Author.Rules.{rules}
 use Rattle.vectors.proofs.poison.Statement.{statement}
 use Rattle.vectors.proofs.poison.Tie as tie
 
 abbrev invariant-loop : tie.invariant-loop
-invariant-loop s₀ i₀ s i = (i ≤ length s₀) × (length s ≡ length s₀) × (take i s ≡ poisonOf i)
+invariant-loop s₀ i₀ s i = (i ≤ length s₀) × (length s ≡ length s₀) × (take i s ≡ poison_of i)
 
 abbrev decreases-loop : tie.decreases-loop
 decreases-loop s₀ i₀ s i = length s₀ - i
 
 loop-holds : tie.Need-loop-init invariant-loop decreases-loop
-loop-holds c = (omega arith, refl, poison-none c.args.s.now)
+loop-holds c = (omega arith, refl, poison_none c.args.s.now)
 
 mul-s : tie.Need-overflow-mul-s invariant-loop decreases-loop
 mul-s c = search rules
@@ -41,14 +41,14 @@ loop-again c =
     let h = c.before.loop.invariant in (
       omega arith,
       simp length-set h.1,
-      poison-more _ _ (omega arith) h.2,
+      poison_more _ _ (omega arith) h.2,
     )
 
 same_length : tie.Need-same-length invariant-loop decreases-loop
 same_length c = search rules
 
 returns : tie.Need-returns invariant-loop decreases-loop
-returns c = poison-all _ c.before.loop.i _ (omega arith) c.before.loop.invariant.1 c.before.loop.invariant.2
+returns c = poison_all _ c.before.loop.i _ (omega arith) c.before.loop.invariant.1 c.before.loop.invariant.2
 
 pub poison-spec : {M : Type 1} → statement M
 poison-spec =

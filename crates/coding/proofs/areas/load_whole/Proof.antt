@@ -1,6 +1,6 @@
 -- The first l lanes are filled.
 use Rattle.std.proofs.Common.{◌+◌, ◌-◌, get_or, refl, arith}
-use Rattle.coding.proofs.BytesLaws.{Lanes, lanes-none, lanes-more, lanes_at}
+use Rattle.coding.proofs.BytesLaws.{Lanes, lanes_none, lanes_more, lanes_at}
 use Rattle.coding.proofs.areas.load_whole.Statement.{statement}
 use Rattle.coding.proofs.areas.load_whole.Tie as tie
 
@@ -11,7 +11,7 @@ abbrev decreases-loop : tie.decreases-loop
 decreases-loop room at v₀ l₀ v l = 16 - l
 
 loop-holds : tie.Need-loop-init invariant-loop decreases-loop
-loop-holds c = lanes-none _ _ refl
+loop-holds c = lanes_none _ _ refl
 
 add-v : tie.Need-overflow-add-v invariant-loop decreases-loop
 add-v c = omega arith
@@ -29,7 +29,7 @@ loop-less : tie.Need-loop-smaller invariant-loop decreases-loop
 loop-less c = omega arith
 
 loop-again : tie.Need-loop-preserved invariant-loop decreases-loop
-loop-again c = lanes-more _ _ _ c.before.before.loop.invariant _ refl (omega arith)
+loop-again c = lanes_more _ _ _ c.before.before.loop.invariant _ refl (omega arith)
 
 returns : tie.Need-returns invariant-loop decreases-loop
 returns c = λ l h. lanes_at _ _ _ c.before.loop.invariant _ l c.loop-test.false h

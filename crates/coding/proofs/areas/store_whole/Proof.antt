@@ -1,6 +1,6 @@
 -- The first l lanes stand in the room.
 use Rattle.std.proofs.Common.{◌≡◌, ◌-◌, length, arith, rules}
-use Rattle.coding.proofs.BytesLaws.{Pasted, pasted-none, pasted-more, pasted_length, pasted-all}
+use Rattle.coding.proofs.BytesLaws.{Pasted, pasted_none, pasted_more, pasted_length, pasted_all}
 use Rattle.coding.proofs.areas.store_whole.Statement.{statement}
 use Rattle.coding.proofs.areas.store_whole.Tie as tie
 
@@ -11,7 +11,7 @@ abbrev decreases-loop : tie.decreases-loop
 decreases-loop room₀ at v l₀ room l = 16 - l
 
 loop-holds : tie.Need-loop-init invariant-loop decreases-loop
-loop-holds c = pasted-none _ _ _ _
+loop-holds c = pasted_none _ _ _ _
 
 array-read-room : tie.Need-array-read-room invariant-loop decreases-loop
 array-read-room c = omega arith
@@ -33,7 +33,7 @@ loop-less c = omega arith
 loop-again : tie.Need-loop-preserved invariant-loop decreases-loop
 loop-again c =
     let l : length c.before.before.args.t3 ≡ 16 = search rules in
-    pasted-more c.before.before.args.room.now c.before.before.args.at c.before.before.args.t3 16 c.before.before.requires (omega arith) _ _ c.before.loop.invariant c.loop-test.true
+    pasted_more c.before.before.args.room.now c.before.before.args.at c.before.before.args.t3 16 c.before.before.requires (omega arith) _ _ c.before.loop.invariant c.loop-test.true
 
 same_length : tie.Need-same-length invariant-loop decreases-loop
 same_length c =
@@ -43,7 +43,7 @@ same_length c =
 returns : tie.Need-returns invariant-loop decreases-loop
 returns c =
     let l : length c.before.before.args.t3 ≡ 16 = search rules in
-    pasted-all c.before.before.args.room.now c.before.before.args.at c.before.before.args.t3 16 c.before.before.requires (omega arith) _ _ c.before.loop.invariant c.loop-test.false
+    pasted_all c.before.before.args.room.now c.before.before.args.at c.before.before.args.t3 16 c.before.before.requires (omega arith) _ _ c.before.loop.invariant c.loop-test.false
 
 pub store-whole-spec : {M : Type 1} → statement M
 store-whole-spec =

@@ -1,10 +1,10 @@
 use Rattle.std.proofs.Common.{refl}
-use Rattle.coding.specs.Tables.{expTable}
+use Rattle.coding.specs.Tables.{exp_table}
 use Rattle.coding.proofs.field.exp_table.Statement.{statement}
 use Rattle.coding.proofs.field.exp_table.Tie as tie
 
 returns : tie.Need-returns
-unfolding expTable
+unfolding exp_table
 returns c = refl
 
 pub exp-table-spec : {M : Type 1} → statement M

@@ -1,5 +1,5 @@
 use Rattle.std.proofs.Common.{◌∙◌, arith, rules}
-use Rattle.coding.proofs.FrameLaws.{lane-page}
+use Rattle.coding.proofs.FrameLaws.{lane_page}
 use Rattle.coding.proofs.frame.gather.Statement.{statement}
 use Rattle.coding.proofs.frame.gather.Tie as tie
 
@@ -16,7 +16,7 @@ returns : tie.Need-returns
 returns c =
     λ l h.
     c.gather-inside.ensures l (omega arith)
-    ∙ lane-page c.before.before.before.before.args.page.now c.before.before.before.before.args.from
+    ∙ lane_page c.before.before.before.before.args.page.now c.before.before.before.before.args.from
     c.before.before.before.before.args.k l c.before.before.if1.true
 
 gather-edge-requires : tie.Need-gather-edge-requires

@@ -2,7 +2,7 @@
 use Rattle.std.proofs.Common.{◌≡◌, ◌+◌, ◌-◌, ◌≤◌, length, get_or, not-suc-le-zero, arith, length-set, rules}
 use Rattle.coding.specs.Field.{◌⊕◌, product}
 use Rattle.coding.specs.Grid.{Added}
-use Rattle.coding.proofs.GridLaws.{halves-more}
+use Rattle.coding.proofs.GridLaws.{halves_more}
 use Rattle.coding.proofs.grid.add_row.Statement.{statement}
 use Rattle.coding.proofs.grid.add_row.Tie as tie
 
@@ -60,7 +60,7 @@ loop-again c =
     let a = c.before.before.before.before.args in (
       search rules,
       simp length-set l.invariant.1,
-      halves-more (λ t. get_or a.t1 t 0 ⊕ product a.f (get_or a.t3 t 0)) (λ t. get_or a.t1 (16 + t) 0 ⊕ product a.f (get_or a.t3 (16 + t) 0))
+      halves_more (λ t. get_or a.t1 t 0 ⊕ product a.f (get_or a.t3 t 0)) (λ t. get_or a.t1 (16 + t) 0 ⊕ product a.f (get_or a.t3 (16 + t) 0))
           l.t l.out c.before.added.result c.added2.result (omega arith) l.invariant.1 l.invariant.2 c.before.added.ensures
           c.added2.ensures,
     )

@@ -1,7 +1,7 @@
 -- The loop keeps, for any nodes that the grid was built of, what `GridLaws` says of c reduced columns.
 use Rattle.std.proofs.Common.{◌≡◌, ℕ, ◌-◌, ◌<◌, ◌≤◌, List, [], length, get_or, add-one, arith, w8, Fits, rules}
 use Rattle.coding.specs.Grid.{Powers}
-use Rattle.coding.proofs.GridLaws.{Nodes, Upto, start, pivot-nonzero, reduced, inverted}
+use Rattle.coding.proofs.GridLaws.{Nodes, Upto, start, pivot_nonzero, reduced, inverted}
 use Rattle.coding.proofs.grid.invert.Statement.{statement}
 use Rattle.coding.proofs.grid.invert.Tie as tie
 
@@ -42,7 +42,7 @@ reduce-requires c κs =
     let l = c.before.before.before.loop in (
       search rules,
       search rules,
-      pivot-nonzero s.args.k s.args.nodes (nodes-ok s) l.c l.m (omega arith) (l.invariant.1 s.args.nodes (nodes-ok s) b.build.ensures),
+      pivot_nonzero s.args.k s.args.nodes (nodes-ok s) l.c l.m (omega arith) (l.invariant.1 s.args.nodes (nodes-ok s) b.build.ensures),
       search rules,
       search rules,
     )

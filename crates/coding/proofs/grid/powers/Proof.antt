@@ -1,8 +1,8 @@
 -- The loop has filled the first t powers, and the right half is still 0.
 use Rattle.std.proofs.Common.{◌≡◌, ℕ, ◌+◌, ◌-◌, ◌<◌, ◌≤◌, length, get_or, refl, ap, ◌∙◌, not-suc-le-zero, add-one, arith, length-set, get_or-set_other, rules}
 use Rattle.coding.specs.Field.{product, power as pow}
-use Rattle.coding.proofs.BytesLaws.{zeros-at, stored_more}
-use Rattle.coding.proofs.GridLaws.{powers-done}
+use Rattle.coding.proofs.BytesLaws.{zeros_at, stored_more}
+use Rattle.coding.proofs.GridLaws.{powers_done}
 use Rattle.coding.proofs.grid.powers.Statement.{statement}
 use Rattle.coding.proofs.grid.powers.Tie as tie
 
@@ -19,7 +19,7 @@ decreases-loop x s k exp log row₀ power₀ t₀ row power t = k - t
 
 loop-holds : tie.Need-loop-init invariant-loop decreases-loop
 unfolding pow
-loop-holds c = (search rules, search rules, refl, λ i h. absurd (not-suc-le-zero h), λ i. zeros-at 32 (16 + i))
+loop-holds c = (search rules, search rules, refl, λ i h. absurd (not-suc-le-zero h), λ i. zeros_at 32 (16 + i))
 
 array-write-row : tie.Need-array-write-row invariant-loop decreases-loop
 array-write-row c = search rules
@@ -55,7 +55,7 @@ returns : tie.Need-returns invariant-loop decreases-loop
 returns c =
     let l = c.before.loop in
     let a = c.before.before.args in
-    powers-done a.k a.x a.s l.row (search rules) (search rules) l.invariant.1 (λ t h. l.invariant.3 t (omega arith)) l.invariant.4
+    powers_done a.k a.x a.s l.row (search rules) (search rules) l.invariant.1 (λ t h. l.invariant.3 t (omega arith)) l.invariant.4
 
 pub powers-spec : {M : Type 1} → statement M
 powers-spec =

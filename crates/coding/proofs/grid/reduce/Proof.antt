@@ -1,6 +1,6 @@
 -- The pivot and the rows that it cleared, as `scale` and `clear_rows` ensure them.
 use Rattle.std.proofs.Common.{rules}
-use Rattle.coding.proofs.GridLaws.{rows-reduced}
+use Rattle.coding.proofs.GridLaws.{rows_reduced}
 use Rattle.coding.proofs.grid.reduce.Statement.{statement}
 use Rattle.coding.proofs.grid.reduce.Tie as tie
 
@@ -31,7 +31,7 @@ clear-rows-requires c κs = search rules
 returns : tie.Need-returns
 returns c =
     let a = c.before.before.before.before.before.args in
-    rows-reduced a.k a.c c.before.before.before.inv.result a.t1 c.clear-rows.result c.before.scale.result (search rules)
+    rows_reduced a.k a.c c.before.before.before.inv.result a.t1 c.clear-rows.result c.before.scale.result (search rules)
     c.before.before.before.inv.ensures c.before.scale.ensures c.clear-rows.ensures
 
 pub reduce-spec : {M : Type 1} → statement M

@@ -1,7 +1,7 @@
 -- A row added to zeros.
 use Rattle.std.proofs.Common.{ℕ, ◌+◌, get_or, ap, ◌∙◌, rules}
 use Rattle.coding.specs.Field.{◌⊕◌, product}
-use Rattle.coding.proofs.BytesLaws.{zeros-at}
+use Rattle.coding.proofs.BytesLaws.{zeros_at}
 use Rattle.coding.proofs.grid.scale.Statement.{statement}
 use Rattle.coding.proofs.grid.scale.Tie as tie
 
@@ -12,8 +12,8 @@ returns : tie.Need-returns
 returns c =
     let a = c.before.args in
     λ t h. (
-      (c.add_row.ensures t h).0 ∙ ap (λ (v : ℕ). v ⊕ product a.f (get_or a.row t 0)) (zeros-at 32 t),
-      (c.add_row.ensures t h).1 ∙ ap (λ (v : ℕ). v ⊕ product a.f (get_or a.row (16 + t) 0)) (zeros-at 32 (16 + t)),
+      (c.add_row.ensures t h).0 ∙ ap (λ (v : ℕ). v ⊕ product a.f (get_or a.row t 0)) (zeros_at 32 t),
+      (c.add_row.ensures t h).1 ∙ ap (λ (v : ℕ). v ⊕ product a.f (get_or a.row (16 + t) 0)) (zeros_at 32 (16 + t)),
     )
 
 pub scale-spec : {M : Type 1} → statement M

@@ -3,8 +3,8 @@ use borrow.Author.Tests.{not-true, not-false}
 use Rattle.coding.specs.Pieces.{proper}
 use Rattle.coding.specs.Answer.{Outcome}
 use Rattle.coding.proofs.MeasureLaws.{proper-measures, measures-small}
-use Rattle.coding.proofs.JoinEndLaws.{join-measures, join-short-room, join-short-lens, join-short-out, join-above}
-use Rattle.coding.proofs.JoinEndLaws.{answered, answered-refusal}
+use Rattle.coding.proofs.JoinEndLaws.{join-measures, join-short-room, join_short_lens, join-short-out, join_above}
+use Rattle.coding.proofs.JoinEndLaws.{answered, answered_refusal}
 use Rattle.coding.proofs.join.join.Statement.{statement}
 use Rattle.coding.proofs.join.join.Tie as tie
 
@@ -15,7 +15,7 @@ returns : tie.Need-returns
 returns c =
     let a = c.before.before.before.before.before.args in
     let m = c.before.proper-measures in
-    answered-refusal a.n a.k a.f a.present a.room.now a.lens.now a.out.now (λ i. (c.before.before.before.before.shared-slice-known.given i).fits) (Outcome.refuses 1)
+    answered_refusal a.n a.k a.f a.present a.room.now a.lens.now a.out.now (λ i. (c.before.before.before.before.shared-slice-known.given i).fits) (Outcome.refuses 1)
     (join-measures a.n a.k a.f a.present a.room.now a.lens.now a.out.now (sym m.ensures ∙ not-true m.result c.if1.true))
 
 mul-if2 : tie.Need-overflow-mul-if2
@@ -29,7 +29,7 @@ returns-2 c =
     let a = c.before.before.before.before.before.before.args in
     let m = c.before.before.proper-measures in
     let p : proper a.n a.k a.f ≡ true = sym m.ensures ∙ not-false m.result c.before.if1.false in
-    answered-refusal a.n a.k a.f a.present a.room.now a.lens.now a.out.now (λ i. (c.before.before.before.before.before.shared-slice-known.given i).fits) (Outcome.refuses 2)
+    answered_refusal a.n a.k a.f a.present a.room.now a.lens.now a.out.now (λ i. (c.before.before.before.before.before.shared-slice-known.given i).fits) (Outcome.refuses 2)
     (join-short-room a.n a.k a.f a.present a.room.now a.lens.now a.out.now p c.if2.true)
 
 returns-3 : tie.Need-returns-3
@@ -37,8 +37,8 @@ returns-3 c =
     let a = c.before.before.before.before.before.before.before.args in
     let m = c.before.before.before.proper-measures in
     let p : proper a.n a.k a.f ≡ true = sym m.ensures ∙ not-false m.result c.before.before.if1.false in
-    answered-refusal a.n a.k a.f a.present a.room.now a.lens.now a.out.now (λ i. (c.before.before.before.before.before.before.shared-slice-known.given i).fits) (Outcome.refuses 2)
-    (join-short-lens a.n a.k a.f a.present a.room.now a.lens.now a.out.now p c.before.if2.false c.if3.true)
+    answered_refusal a.n a.k a.f a.present a.room.now a.lens.now a.out.now (λ i. (c.before.before.before.before.before.before.shared-slice-known.given i).fits) (Outcome.refuses 2)
+    (join_short_lens a.n a.k a.f a.present a.room.now a.lens.now a.out.now p c.before.if2.false c.if3.true)
 
 mul-if4 : tie.Need-overflow-mul-if4
 mul-if4 c =
@@ -57,7 +57,7 @@ returns-4 c =
     let a = c.before.before.before.before.before.before.before.before.args in
     let m = c.before.before.before.before.proper-measures in
     let p : proper a.n a.k a.f ≡ true = sym m.ensures ∙ not-false m.result c.before.before.before.if1.false in
-    answered-refusal a.n a.k a.f a.present a.room.now a.lens.now a.out.now (λ i. (c.before.before.before.before.before.before.before.shared-slice-known.given i).fits) (Outcome.refuses 2)
+    answered_refusal a.n a.k a.f a.present a.room.now a.lens.now a.out.now (λ i. (c.before.before.before.before.before.before.before.shared-slice-known.given i).fits) (Outcome.refuses 2)
     (join-short-out a.n a.k a.f a.present a.room.now a.lens.now a.out.now p c.before.before.if2.false c.before.if3.false c.if4.true)
 
 within-requires : tie.Need-within-requires
@@ -72,8 +72,8 @@ returns-5 c =
     let m = c.before.before.before.before.before.before.proper-measures in
     let p : proper a.n a.k a.f ≡ true = sym m.ensures ∙ not-false m.result c.before.before.before.before.before.if1.false in
     let w = c.before.within in
-    answered-refusal a.n a.k a.f a.present a.room.now a.lens.now a.out.now (λ i. (c.before.before.before.before.before.before.before.before.before.shared-slice-known.given i).fits) (Outcome.refuses 4)
-    (join-above a.n a.k a.f a.present a.room.now a.lens.now a.out.now p c.before.before.before.before.if2.false c.before.before.before.if3.false c.before.before.if4.false
+    answered_refusal a.n a.k a.f a.present a.room.now a.lens.now a.out.now (λ i. (c.before.before.before.before.before.before.before.before.before.shared-slice-known.given i).fits) (Outcome.refuses 4)
+    (join_above a.n a.k a.f a.present a.room.now a.lens.now a.out.now p c.before.before.before.before.if2.false c.before.before.before.if3.false c.before.before.if4.false
     (ltb-false a.present (2 ^ a.n) (sym w.ensures ∙ not-true w.result c.if5.true)))
 
 join-present-requires : tie.Need-join-present-requires

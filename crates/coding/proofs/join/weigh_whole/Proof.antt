@@ -2,14 +2,14 @@
 use Rattle.std.proofs.Common.{◌≡◌, ℕ, ◌+◌, ◌-◌, ◌<◌, ◌≤◌, length, get_or, ◌∙◌, arith}
 use Rattle.coding.specs.Field.{product, sum}
 use Rattle.coding.specs.Lanes.{folded}
-use Rattle.coding.specs.Output.{byteIn}
+use Rattle.coding.specs.Output.{byte_in}
 use Rattle.coding.proofs.LaneLaws.{folded-none}
-use Rattle.coding.proofs.JoinLaws.{area-fits, weighed-more}
+use Rattle.coding.proofs.JoinLaws.{area_fits, weighed_more}
 use Rattle.coding.proofs.join.weigh_whole.Statement.{statement}
 use Rattle.coding.proofs.join.weigh_whole.Tie as tie
 
 abbrev invariant-loop : tie.invariant-loop
-invariant-loop k f j room row nodes sums₀ s₀ sums s = (s ≤ k) × ((l : ℕ) → l < 16 → folded sums l ≡ sum s (λ i. product (byteIn f room (j + l) (get_or nodes i 0)) (get_or row (16 + i) 0)))
+invariant-loop k f j room row nodes sums₀ s₀ sums s = (s ≤ k) × ((l : ℕ) → l < 16 → folded sums l ≡ sum s (λ i. product (byte_in f room (j + l) (get_or nodes i 0)) (get_or row (16 + i) 0)))
 
 abbrev decreases-loop : tie.decreases-loop
 decreases-loop k f j room row nodes sums₀ s₀ sums s = k - s
@@ -30,17 +30,17 @@ sub_at c = omega (arith, c.before.before.before.requires.3 c.before.loop.s c.loo
 mul_at : tie.Need-overflow-mul-at invariant-loop decreases-loop
 mul_at c =
     let w = c.before.before.before.requires.3 c.before.loop.s c.loop-test.true in
-    let a = area-fits (get_or c.before.before.before.args.t2 c.before.loop.s 0) c.before.before.before.args.f c.before.before.before.args.j 16 (length c.before.before.before.args.room.now) w.0 w.2 c.before.before.before.requires.2 in omega arith
+    let a = area_fits (get_or c.before.before.before.args.t2 c.before.loop.s 0) c.before.before.before.args.f c.before.before.before.args.j 16 (length c.before.before.before.args.room.now) w.0 w.2 c.before.before.before.requires.2 in omega arith
 
 add_at : tie.Need-overflow-add-at invariant-loop decreases-loop
 add_at c =
     let w = c.before.before.before.requires.3 c.before.loop.s c.loop-test.true in
-    let a = area-fits (get_or c.before.before.before.args.t2 c.before.loop.s 0) c.before.before.before.args.f c.before.before.before.args.j 16 (length c.before.before.before.args.room.now) w.0 w.2 c.before.before.before.requires.2 in omega arith
+    let a = area_fits (get_or c.before.before.before.args.t2 c.before.loop.s 0) c.before.before.before.args.f c.before.before.before.args.j 16 (length c.before.before.before.args.room.now) w.0 w.2 c.before.before.before.requires.2 in omega arith
 
 load-whole-requires : tie.Need-load-whole-requires invariant-loop decreases-loop
 load-whole-requires c κs =
     let w = c.before.before.before.requires.3 c.before.loop.s c.loop-test.true in
-    let a = area-fits (get_or c.before.before.before.args.t2 c.before.loop.s 0) c.before.before.before.args.f c.before.before.before.args.j 16 (length c.before.before.before.args.room.now) w.0 w.2 c.before.before.before.requires.2 in a
+    let a = area_fits (get_or c.before.before.before.args.t2 c.before.loop.s 0) c.before.before.before.args.f c.before.before.before.args.j 16 (length c.before.before.before.args.room.now) w.0 w.2 c.before.before.before.requires.2 in a
 
 add-spread : tie.Need-overflow-add-spread invariant-loop decreases-loop
 add-spread c = omega arith
@@ -62,7 +62,7 @@ loop-again c =
     let a = c.before.before.before.before.before.args in
     let o = c.before.before.before.loop in (
       omega arith,
-      weighed-more a.f a.room.now a.t2 a.t1 a.j 16 o.s (folded o.sums) (folded c.spread.result) c.before.load-whole.result
+      weighed_more a.f a.room.now a.t2 a.t1 a.j 16 o.s (folded o.sums) (folded c.spread.result) c.before.load-whole.result
           o.invariant.1 c.before.load-whole.ensures c.spread.ensures,
     )
 

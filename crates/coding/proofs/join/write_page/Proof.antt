@@ -2,7 +2,7 @@
 use Rattle.std.proofs.Common.{◌≡◌, ◌-◌, ◌≤◌, get_or, take, not-suc-le-zero, arith}
 use Rattle.coding.specs.Join.{joined}
 use Rattle.coding.specs.Output.{Placed}
-use Rattle.coding.proofs.OutputLaws.{placed-none, placed-then, placed-fewer}
+use Rattle.coding.proofs.OutputLaws.{placed_none, placed_then, placed_fewer}
 use Rattle.coding.proofs.JoinLaws.{Rows, rows_more, rows_all}
 use Rattle.coding.proofs.join.write_page.Statement.{statement}
 use Rattle.coding.proofs.join.write_page.Tie as tie
@@ -14,7 +14,7 @@ abbrev decreases-loop : tie.decreases-loop
 decreases-loop nodes k f columns len room out₀ grid r₀ out r = k - r
 
 loop-holds : tie.Need-loop-init invariant-loop decreases-loop
-loop-holds c = (omega arith, placed-none _ _ _ _ (λ q h s. not-suc-le-zero s.1))
+loop-holds c = (omega arith, placed_none _ _ _ _ (λ q h s. not-suc-le-zero s.1))
 
 mul-write-row : tie.Need-overflow-mul-write-row invariant-loop decreases-loop
 mul-write-row c = omega arith
@@ -43,7 +43,7 @@ loop-less c = omega arith
 loop-again : tie.Need-loop-preserved invariant-loop decreases-loop
 loop-again c = (
   omega arith,
-  placed-then _ _ _ _ _ _ _ _ (rows_more c.before.before.before.before.before.before.before.before.before.args.k c.before.before.before.before.before.before.before.before.before.args.columns c.before.before.before.before.before.before.loop.r) c.before.before.before.before.before.before.loop.invariant.1
+  placed_then _ _ _ _ _ _ _ _ (rows_more c.before.before.before.before.before.before.before.before.before.args.k c.before.before.before.before.before.before.before.before.before.args.columns c.before.before.before.before.before.before.loop.r) c.before.before.before.before.before.before.loop.invariant.1
       c.before.before.write-row.ensures,
 )
 
@@ -53,7 +53,7 @@ same_length c = c.before.loop.invariant.1.same
 returns : tie.Need-returns invariant-loop decreases-loop
 returns c =
     let e : c.before.loop.r ≡ c.before.before.before.before.args.k = omega arith in
-    placed-fewer _ _ _ _ _ _ (λ p h. rows_all c.before.before.before.before.args.k c.before.before.before.before.args.columns p c.before.before.before.before.requires.0 h) (rw e at c.before.loop.invariant.1)
+    placed_fewer _ _ _ _ _ _ (λ p h. rows_all c.before.before.before.before.args.k c.before.before.before.before.args.columns p c.before.before.before.before.requires.0 h) (rw e at c.before.loop.invariant.1)
 
 pub write-page-spec : {M : Type 1} → statement M
 write-page-spec =

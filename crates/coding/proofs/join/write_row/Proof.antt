@@ -2,8 +2,8 @@
 use Rattle.std.proofs.Common.{◌≡◌, ℕ, ◌+◌, ◌-◌, ◌*◌, ◌≤◌, length, get_or, take, ap, ◌∙◌, not-suc-le-zero, add-mul, mul-le-mul, arith, length-take-le, rules}
 use Rattle.coding.specs.Join.{joined}
 use Rattle.coding.specs.Output.{Placed, Stride}
-use Rattle.coding.proofs.OutputLaws.{placed-none, placed-then}
-use Rattle.coding.proofs.JoinLaws.{weighed, stride-join}
+use Rattle.coding.proofs.OutputLaws.{placed_none, placed_then}
+use Rattle.coding.proofs.JoinLaws.{weighed, stride_join}
 use Rattle.coding.proofs.join.write_row.Statement.{statement}
 use Rattle.coding.proofs.join.write_row.Tie as tie
 
@@ -14,7 +14,7 @@ abbrev decreases-loop : tie.decreases-loop
 decreases-loop row r nodes k f columns len room out₀ j₀ out j = columns - j
 
 loop-holds : tie.Need-loop-init invariant-loop decreases-loop
-loop-holds c = (omega arith, placed-none _ _ _ _ (λ q h s. not-suc-le-zero s.1))
+loop-holds c = (omega arith, placed_none _ _ _ _ (λ q h s. not-suc-le-zero s.1))
 
 sub-block : tie.Need-overflow-sub-block invariant-loop decreases-loop
 sub-block c = omega arith
@@ -54,7 +54,7 @@ loop-again c =
     let n : length c.before.before.before.before.before.before.before.before.before.before.args.nodes ≡ 16 = search rules in
     let t : length (take c.before.before.before.before.before.before.before.before.before.before.args.k c.before.before.before.before.before.before.before.before.before.before.args.nodes) ≡ c.before.before.before.before.before.before.before.before.before.before.args.k = length-take-le c.before.before.before.before.before.before.before.before.before.before.args.k c.before.before.before.before.before.before.before.before.before.before.args.nodes (omega arith) in (
       omega arith,
-      placed-then _ _ _ _ _ _ _ _ (stride-join c.before.before.before.before.before.before.before.before.before.before.args.r c.before.before.before.before.before.before.before.before.before.before.args.k c.before.before.before.before.before.before.before.loop.j c.before.before.before.before.before.block.result) c.before.before.before.before.before.before.before.loop.invariant.1
+      placed_then _ _ _ _ _ _ _ _ (stride_join c.before.before.before.before.before.before.before.before.before.before.args.r c.before.before.before.before.before.before.before.before.before.before.args.k c.before.before.before.before.before.before.before.loop.j c.before.before.before.before.before.block.result) c.before.before.before.before.before.before.before.loop.invariant.1
           (c.before.before.scatter.ensures _
           (λ l h.
           let e : c.before.before.before.before.before.before.before.before.before.before.args.r + (c.before.before.before.before.before.before.before.loop.j + l) * c.before.before.before.before.before.before.before.before.before.before.args.k ≡ c.before.before.before.before.before.before.before.loop.j * c.before.before.before.before.before.before.before.before.before.before.args.k + c.before.before.before.before.before.before.before.before.before.before.args.r + l * c.before.before.before.before.before.before.before.before.before.before.args.k =

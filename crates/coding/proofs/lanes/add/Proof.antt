@@ -1,7 +1,7 @@
 use Rattle.std.proofs.Common.{◌≡◌, ℕ, ◌-◌, ◌<◌, ◌≤◌, length, get_or, refl, ◌∙◌, ap₂, arith, length-set, rules}
 use lib.ListN.{get_or-eq_default}
 use Rattle.coding.specs.Field.{◌⊕◌}
-use Rattle.coding.proofs.LaneLaws.{lanes-filled}
+use Rattle.coding.proofs.LaneLaws.{lanes_filled}
 use Rattle.coding.proofs.BytesLaws.{stored_more}
 use Rattle.coding.proofs.lanes.add.Statement.{statement}
 use Rattle.coding.proofs.lanes.add.Tie as tie
@@ -48,7 +48,7 @@ returns c =
     let w = c.before.before.args.t2 in
     let hv : length v ≡ 16 = search rules in
     let hw : length w ≡ 16 = search rules in
-    lanes-filled (λ k. get_or v k 0 ⊕ get_or w k 0) c.before.loop.r 16 c.before.loop.invariant.1
+    lanes_filled (λ k. get_or v k 0 ⊕ get_or w k 0) c.before.loop.r 16 c.before.loop.invariant.1
     (λ k p. ap₂ (λ (x y : ℕ). x ⊕ y) (get_or-eq_default v 0 (omega arith)) (get_or-eq_default w 0 (omega arith)))
     (λ k p. c.before.loop.invariant.2 k (omega arith))
 

@@ -1,5 +1,5 @@
 use Rattle.std.proofs.Common.{get_or, ◌∙◌, arith, w8, Fits, rules}
-use Rattle.coding.proofs.LaneLaws.{added-odd, added-even}
+use Rattle.coding.proofs.LaneLaws.{added-odd, added_even}
 use Rattle.coding.proofs.lanes.added.Statement.{statement}
 use Rattle.coding.proofs.lanes.added.Tie as tie
 
@@ -15,7 +15,7 @@ returns c l =
 returns-2 : tie.Need-returns-2
 returns-2 c l =
     let a = c.before.args in
-    added-even (get_or a.v l 0) (get_or a.w l 0) a.c (omega arith)
+    added_even (get_or a.v l 0) (get_or a.w l 0) a.c (omega arith)
 
 pub added-spec : {M : Type 1} → statement M
 added-spec = tie.close (tie.spec add-requires returns returns-2)

@@ -1,8 +1,8 @@
 use Rattle.std.proofs.Common.{◌≡◌, ℕ, ◌-◌, ◌<◌, ◌≤◌, length, get_or, ap, ◌∙◌, arith, length-set, rules}
 use lib.ListN.{get_or-eq_default}
 use Rattle.coding.specs.Field.{product}
-use Rattle.coding.proofs.FieldLaws.{zero-product}
-use Rattle.coding.proofs.LaneLaws.{lanes-filled}
+use Rattle.coding.proofs.FieldLaws.{zero_product}
+use Rattle.coding.proofs.LaneLaws.{lanes_filled}
 use Rattle.coding.proofs.BytesLaws.{stored_more}
 use Rattle.coding.proofs.lanes.double.Statement.{statement}
 use Rattle.coding.proofs.lanes.double.Tie as tie
@@ -45,8 +45,8 @@ returns : tie.Need-returns invariant-loop decreases-loop
 returns c =
     let v = c.before.before.args.t1 in
     let h : length v ≡ 16 = search rules in
-    lanes-filled (λ k. product (get_or v k 0) 2) c.before.loop.r 16 c.before.loop.invariant.1
-    (λ k p. ap (λ (x : ℕ). product x 2) (get_or-eq_default v 0 (omega arith)) ∙ zero-product 2)
+    lanes_filled (λ k. product (get_or v k 0) 2) c.before.loop.r 16 c.before.loop.invariant.1
+    (λ k p. ap (λ (x : ℕ). product x 2) (get_or-eq_default v 0 (omega arith)) ∙ zero_product 2)
     (λ k p. c.before.loop.invariant.2 k (omega arith))
 
 pub double-spec : {M : Type 1} → statement M

@@ -2,7 +2,7 @@
 use Rattle.std.proofs.Common.{◌≡◌, ℕ, ◌-◌, ◌≤◌, [], get_or, sym, ap, ◌∙◌, arith, rules}
 use Rattle.coding.specs.Field.{◌⊕◌, product}
 use Rattle.coding.specs.Lanes.{horner}
-use Rattle.coding.proofs.BytesLaws.{zeros-at}
+use Rattle.coding.proofs.BytesLaws.{zeros_at}
 use Rattle.coding.proofs.LaneLaws.{horner-none, horner-more}
 use Rattle.coding.proofs.lanes.fold.Statement.{statement}
 use Rattle.coding.proofs.lanes.fold.Tie as tie
@@ -16,7 +16,7 @@ decreases-loop sums r₀ b₀ r b = 8 - b
 loop-holds : tie.Need-loop-init invariant-loop decreases-loop
 loop-holds c = (
   search rules,
-  λ l. zeros-at 16 l ∙ sym (horner-none (λ i. get_or (get_or c.args.t1 (7 - i) []) l 0)),
+  λ l. zeros_at 16 l ∙ sym (horner-none (λ i. get_or (get_or c.args.t1 (7 - i) []) l 0)),
 )
 
 double-requires : tie.Need-double-requires invariant-loop decreases-loop

@@ -1,7 +1,7 @@
 use Rattle.std.proofs.Common.{◌≡◌, ℕ, ◌-◌, ◌/◌, ◌^◌, ◌<◌, ◌≤◌, List, get_or, ap, ◌∙◌, subst, ⊎_elim, arith, w8, Fits, rules}
 use Rattle.coding.specs.Field.{◌⊕◌, product}
-use Rattle.coding.proofs.FieldLaws.{product-byte}
-use Rattle.coding.proofs.BytesLaws.{zeros-at}
+use Rattle.coding.proofs.FieldLaws.{product_byte}
+use Rattle.coding.proofs.BytesLaws.{zeros_at}
 use Rattle.coding.proofs.LaneLaws.{turn_odd, turn_even, ended, half-below}
 use Rattle.coding.proofs.lanes.add.Reads as add_reads
 use Rattle.coding.proofs.lanes.double.Reads as double-reads
@@ -26,7 +26,7 @@ loop-holds c =
       search rules,
       search rules,
       λ k. let b : Fits w8 (get_or v k 0) = search rules in b.fits,
-      λ k. ap (λ (x : ℕ). x ⊕ product (get_or v k 0) c.args.c) (zeros-at 16 k),
+      λ k. ap (λ (x : ℕ). x ⊕ product (get_or v k 0) c.args.c) (zeros_at 16 k),
     )
 
 add-requires : tie.Need-add-requires invariant-loop decreases-loop
@@ -67,7 +67,7 @@ loop-again c =
       search rules,
       omega arith,
       half-below loop.rest 8 loop.counter (search rules) loop.invariant.2,
-      λ k. rw (c.double.ensures k) (product-byte (get_or loop.term k 0) 2),
+      λ k. rw (c.double.ensures k) (product_byte (get_or loop.term k 0) 2),
       λ k. ap (λ (x : ℕ). get_or c.before.before.if1.sum k 0 ⊕ product x (loop.rest / 2)) (c.double.ensures k)
           ∙ turn c.before.before k,
     )

@@ -2,7 +2,7 @@
 use Rattle.std.proofs.Common.{◌≡◌, ℕ, ◌-◌, ◌/◌, ◌%◌, ◌^◌, ◌<◌, ◌≤◌, [], length, get_or, ap, ◌∙◌, not-suc-le-zero, arith, length-set, rules}
 use Rattle.coding.specs.Field.{◌⊕◌, product}
 use Rattle.coding.proofs.BytesLaws.{stored_more}
-use Rattle.coding.proofs.LaneLaws.{spread-sum, next_bit}
+use Rattle.coding.proofs.LaneLaws.{spread_sum, next_bit}
 use Rattle.coding.proofs.lanes.spread.Statement.{statement}
 use Rattle.coding.proofs.lanes.spread.Tie as tie
 
@@ -54,7 +54,7 @@ returns : tie.Need-returns invariant-loop decreases-loop
 returns c l =
     let o = c.before.loop in
     let a = c.before.before.args in
-    spread-sum (λ b. get_or (get_or a.t1 b []) l 0) (λ b. get_or (get_or o.r b []) l 0) (get_or a.v l 0) a.c (omega arith)
+    spread_sum (λ b. get_or (get_or a.t1 b []) l 0) (λ b. get_or (get_or o.r b []) l 0) (get_or a.v l 0) a.c (omega arith)
     (λ b h. o.invariant.3 b (omega arith) l)
 
 pub spread-spec : {M : Type 1} → statement M

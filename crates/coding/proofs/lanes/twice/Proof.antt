@@ -1,5 +1,5 @@
 use Rattle.std.proofs.Common.{rules}
-use Rattle.coding.proofs.LaneLaws.{twice-rule}
+use Rattle.coding.proofs.LaneLaws.{twice_rule}
 use Rattle.coding.proofs.lanes.twice.Statement.{statement}
 use Rattle.coding.proofs.lanes.twice.Tie as tie
 
@@ -10,7 +10,7 @@ mul-result-2 : tie.Need-overflow-mul-result-2
 mul-result-2 c = search rules
 
 returns : tie.Need-returns
-returns c = twice-rule c.args.x (search rules)
+returns c = twice_rule c.args.x (search rules)
 
 pub twice_spec : {M : Type 1} → statement M
 twice_spec = tie.close (tie.spec mul-result mul-result-2 returns)

@@ -1,6 +1,6 @@
 -- The nodes from 1 to i are listed.
 use Rattle.std.proofs.Common.{◌≡◌, ◌-◌, ◌≤◌, refl, arith}
-use Rattle.coding.specs.Nodes.{nodesOf, Named}
+use Rattle.coding.specs.Nodes.{nodes_of, Named}
 use Rattle.coding.proofs.nodes.named.Statement.{statement}
 use Rattle.coding.proofs.nodes.named.Tie as tie
 
@@ -11,7 +11,7 @@ abbrev decreases-loop : tie.decreases-loop
 decreases-loop map n nodes₀ i₀ nodes i = n - i
 
 loop-holds : tie.Need-loop-init invariant-loop decreases-loop
-unfolding nodesOf
+unfolding nodes_of
 loop-holds c = (omega arith, record { many = refl; first = refl })
 
 with-node-requires : tie.Need-with-node-requires invariant-loop decreases-loop
@@ -24,7 +24,7 @@ loop-less : tie.Need-loop-smaller invariant-loop decreases-loop
 loop-less c = omega arith
 
 loop-again : tie.Need-loop-preserved invariant-loop decreases-loop
-loop-again c = (omega arith, c.with-node.ensures)
+loop-again c = (omega arith, c.with_node_lem.ensures)
 
 returns : tie.Need-returns invariant-loop decreases-loop
 returns c = let e : c.before.loop.i ≡ c.before.before.args.n = omega arith in rw e at c.before.loop.invariant.1

@@ -1,7 +1,7 @@
 -- The test of the lengths from the second on is that of those from s on.
 use Rattle.std.proofs.Common.{◌≡◌, ℕ, ◌+◌, ◌-◌, ◌<◌, ◌≤◌, Bool, ◌&&◌, eqb, length, get_or, take, drop, sym, refl, ap, ◌∙◌, arith, length-take-le, get_or-take, rules, eq-eqb, ne_eqb}
 use Rattle.coding.specs.Nodes.{all, sound}
-use Rattle.coding.proofs.NodesLaws.{all-step, all_end, sound-low, sound-high, sound-rest}
+use Rattle.coding.proofs.NodesLaws.{all-step, all_end, sound_low, sound-high, sound-rest}
 use Rattle.coding.proofs.nodes.sound_lengths.Statement.{statement}
 use Rattle.coding.proofs.nodes.sound_lengths.Tie as tie
 
@@ -25,7 +25,7 @@ returns-2 c =
     let n : length xs ≡ c.before.before.before.before.args.count = length-take-le c.before.before.before.before.args.count c.before.before.before.before.args.nodes (omega arith) in
     let z : 0 < c.before.before.before.before.args.count = omega arith in
     let f : get_or xs 0 0 ≡ get_or c.before.before.before.before.args.nodes 0 0 = get_or-take c.before.before.before.before.args.count c.before.before.before.before.args.nodes 0 0 z in
-    sym (sound-low c.before.before.before.before.args.f c.before.before.before.before.args.lens.now xs (omega arith) c.before.length-of.result (c.before.length-of.ensures ∙ ap (λ (x : ℕ). get_or c.before.before.before.before.args.lens.now (x - 1) 0) (sym f)) c.if2.true)
+    sym (sound_low c.before.before.before.before.args.f c.before.before.before.before.args.lens.now xs (omega arith) c.before.length-of.result (c.before.length-of.ensures ∙ ap (λ (x : ℕ). get_or c.before.before.before.before.args.lens.now (x - 1) 0) (sym f)) c.if2.true)
 
 returns-3 : tie.Need-returns-3 invariant-loop decreases-loop
 returns-3 c =

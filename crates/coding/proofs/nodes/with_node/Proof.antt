@@ -1,6 +1,6 @@
 use Rattle.std.proofs.Common.{◌≡◌, length, sym, ◌∙◌, arith, rules}
 use borrow.Author.Tests.{not-true, not-false}
-use Rattle.coding.proofs.NodesLaws.{nodes-few, named-skip, named_more}
+use Rattle.coding.proofs.NodesLaws.{nodes-few, named_skip, named_more}
 use Rattle.coding.proofs.nodes.with_node.Statement.{statement}
 use Rattle.coding.proofs.nodes.with_node.Tie as tie
 
@@ -8,7 +8,7 @@ stands-requires : tie.Need-stands-requires
 stands-requires c κs = search rules
 
 returns : tie.Need-returns
-returns c = named-skip _ _ _ c.before.before.requires.1 (sym c.before.stands.ensures ∙ not-true c.before.stands.result c.if1.true)
+returns c = named_skip _ _ _ c.before.before.requires.1 (sym c.before.stands.ensures ∙ not-true c.before.stands.result c.if1.true)
 
 add-list : tie.Need-overflow-add-list
 add-list c = search rules

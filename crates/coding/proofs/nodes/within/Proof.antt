@@ -1,5 +1,5 @@
 use Rattle.std.proofs.Common.{rules}
-use Rattle.coding.proofs.NodesLaws.{shifted-out}
+use Rattle.coding.proofs.NodesLaws.{shifted_out}
 use Rattle.coding.proofs.nodes.within.Statement.{statement}
 use Rattle.coding.proofs.nodes.within.Tie as tie
 
@@ -10,7 +10,7 @@ shr-result : tie.Need-overflow-shr-result
 shr-result c = search rules
 
 returns : tie.Need-returns
-returns c = shifted-out c.args.map c.args.n
+returns c = shifted_out c.args.map c.args.n
 
 pub within-spec : {M : Type 1} → statement M
 within-spec = tie.close (tie.spec cast-result shr-result returns)

@@ -1,7 +1,7 @@
 -- The first l lanes are placed.
 use Rattle.std.proofs.Common.{◌≡◌, ◌+◌, ◌-◌, ◌*◌, ◌≤◌, mul-le-mul_right, arith, rules}
 use Rattle.coding.proofs.BytesLaws.{stride}
-use Rattle.coding.proofs.OutputLaws.{Scatter, scatter-none, scatter-more, scatter-all}
+use Rattle.coding.proofs.OutputLaws.{Scatter, scatter_none, scatter_more, scatter_all}
 use Rattle.coding.proofs.output.scatter_edge.Statement.{statement}
 use Rattle.coding.proofs.output.scatter_edge.Tie as tie
 
@@ -12,7 +12,7 @@ abbrev decreases-loop : tie.decreases-loop
 decreases-loop m from k len out₀ v at₀ l₀ out at l = m - l
 
 loop-holds : tie.Need-loop-init invariant-loop decreases-loop
-loop-holds c = (omega arith, scatter-none _ _ _ _ _ _)
+loop-holds c = (omega arith, scatter_none _ _ _ _ _ _)
 
 array-read-put : tie.Need-array-read-put invariant-loop decreases-loop
 array-read-put c = omega arith
@@ -34,14 +34,14 @@ loop-again : tie.Need-loop-preserved invariant-loop decreases-loop
 loop-again c =
     let e : c.before.before.before.before.before.loop.at ≡ c.before.before.before.before.before.before.before.args.from + c.before.before.before.before.before.loop.l * c.before.before.before.before.before.before.before.args.k = c.before.before.before.before.before.loop.invariant.0 in (
       omega (arith, stride c.before.before.before.before.before.loop.l c.before.before.before.before.before.before.before.args.k),
-      scatter-more _ _ _ _ _ _ _ _ _ c.before.before.before.before.before.loop.invariant.1 c.before.before.before.before.loop-test.true (search rules) (rw e at c.before.before.put.ensures),
+      scatter_more _ _ _ _ _ _ _ _ _ c.before.before.before.before.before.loop.invariant.1 c.before.before.before.before.loop-test.true (search rules) (rw e at c.before.before.put.ensures),
     )
 
 same_length : tie.Need-same-length invariant-loop decreases-loop
 same_length c = c.before.loop.invariant.1.same
 
 returns : tie.Need-returns invariant-loop decreases-loop
-returns c = scatter-all _ _ _ _ _ _ _ _ c.before.loop.invariant.1 c.loop-test.false
+returns c = scatter_all _ _ _ _ _ _ _ _ c.before.loop.invariant.1 c.loop-test.false
 
 pub scatter-edge-spec : {M : Type 1} → statement M
 scatter-edge-spec =

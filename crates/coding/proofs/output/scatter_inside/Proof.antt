@@ -1,7 +1,7 @@
 -- The first l lanes are placed.
 use Rattle.std.proofs.Common.{◌≡◌, ◌+◌, ◌-◌, ◌*◌, ◌<◌, ◌≤◌, get_or, sym, ap, ◌∙◌, mul-le-mul_right, arith, length-set}
 use Rattle.coding.proofs.BytesLaws.{stride}
-use Rattle.coding.proofs.OutputLaws.{Scatter, scatter-none, scatter-more, scatter-all, placed-put}
+use Rattle.coding.proofs.OutputLaws.{Scatter, scatter_none, scatter_more, scatter_all, placed_put}
 use Rattle.coding.proofs.output.scatter_inside.Statement.{statement}
 use Rattle.coding.proofs.output.scatter_inside.Tie as tie
 
@@ -15,7 +15,7 @@ sub_at : tie.Need-overflow-sub-at invariant-loop decreases-loop
 sub_at c = omega arith
 
 loop-holds : tie.Need-loop-init invariant-loop decreases-loop
-loop-holds c = (omega arith, scatter-none _ _ _ _ _ _)
+loop-holds c = (omega arith, scatter_none _ _ _ _ _ _)
 
 array-read-out : tie.Need-array-read-out invariant-loop decreases-loop
 array-read-out c = omega arith
@@ -43,16 +43,16 @@ loop-again c =
     let e : 4 + at ≡ c.before.before.args.from + l * c.before.before.args.k = omega (arith, c.before.loop.invariant.0) in
     let q : at < c.before.before.args.len = omega (arith, mul-le-mul_right c.before.before.args.k h) in (
       omega (arith, stride l c.before.before.args.k),
-      scatter-more _ _ _ _ _ _ _ _ _ c.before.loop.invariant.1 c.loop-test.true (length-set c.before.loop.out at (get_or c.before.before.args.t1 l 0))
+      scatter_more _ _ _ _ _ _ _ _ _ c.before.loop.invariant.1 c.loop-test.true (length-set c.before.loop.out at (get_or c.before.before.args.t1 l 0))
           (λ g z.
-          rw e at (placed-put g c.before.before.args.len c.before.loop.out at (get_or c.before.before.args.t1 l 0) q (omega (arith, c.before.loop.invariant.1.same)) (z ∙ ap g (sym e)))),
+          rw e at (placed_put g c.before.before.args.len c.before.loop.out at (get_or c.before.before.args.t1 l 0) q (omega (arith, c.before.loop.invariant.1.same)) (z ∙ ap g (sym e)))),
     )
 
 same_length : tie.Need-same-length invariant-loop decreases-loop
 same_length c = c.before.loop.invariant.1.same
 
 returns : tie.Need-returns invariant-loop decreases-loop
-returns c = scatter-all _ _ _ _ _ _ _ _ c.before.loop.invariant.1 c.loop-test.false
+returns c = scatter_all _ _ _ _ _ _ _ _ c.before.loop.invariant.1 c.loop-test.false
 
 pub scatter-inside-spec : {M : Type 1} → statement M
 scatter-inside-spec =

@@ -1,5 +1,5 @@
 use Rattle.std.proofs.Common.{◌≡◌, ◌+◌, ◌-◌, length, drop, sym, ◌∙◌, le_of_eq, arith, length-drop, length-take-le, take_all, rules}
-use Rattle.coding.proofs.PlacedLaws.{digest-is, short-piece, long-piece}
+use Rattle.coding.proofs.PlacedLaws.{digest_is, short-piece, long-piece}
 use Rattle.coding.proofs.placed.digest_placed.Statement.{statement}
 use Rattle.coding.proofs.placed.digest_placed.Tie as tie
 
@@ -28,7 +28,7 @@ returns c =
     let five : length a.version ≡ 5 = search rules in
     let block : length b.result ≡ 64 = search rules in
     let whole = short-piece a.version a.node a.piece.now b.result five block b.ensures (omega arith) in
-    rw whole at c.digest.ensures ∙ digest-is a.version a.node a.piece.now
+    rw whole at c.digest.ensures ∙ digest_is a.version a.node a.piece.now
 
 sub-digest-after : tie.Need-overflow-sub-digest-after
 sub-digest-after c = search rules
@@ -50,7 +50,7 @@ returns-2 c =
     let block : length b.result ≡ 64 = search rules in
     let whole = long-piece a.version a.node a.piece.now b.result five block b.ensures (omega arith) in
     let rest = take_all (length a.piece.now - 58) (drop 58 a.piece.now) (le_of_eq (length-drop 58 a.piece.now)) in
-    rw (rest, whole) at c.digest-after.ensures ∙ digest-is a.version a.node a.piece.now
+    rw (rest, whole) at c.digest-after.ensures ∙ digest_is a.version a.node a.piece.now
 
 pub digest-placed-spec : {M : Type 1} → statement M
 digest-placed-spec =

@@ -1,12 +1,12 @@
 use Rattle.std.proofs.Common.{◌≡◌, ℕ, ◌-◌, ◌<◌, ◌≤◌, length, refl, arith, rules}
 use Rattle.coding.specs.Sha256.{◌!◌}
-use Rattle.coding.specs.Placed.{digestInput}
+use Rattle.coding.specs.Placed.{digest_input}
 use Rattle.coding.proofs.Sha256Laws.{each_turn}
 use Rattle.coding.proofs.placed.first_block.Statement.{statement}
 use Rattle.coding.proofs.placed.first_block.Tie as tie
 
 abbrev invariant-loop : tie.invariant-loop
-invariant-loop version node piece b₀ j₀ b j = (j ≤ 64) × (length b ≡ 64) × ((k : ℕ) → k < j → b ! k ≡ digestInput version node piece ! k)
+invariant-loop version node piece b₀ j₀ b j = (j ≤ 64) × (length b ≡ 64) × ((k : ℕ) → k < j → b ! k ≡ digest_input version node piece ! k)
 
 abbrev decreases-loop : tie.decreases-loop
 decreases-loop version node piece b₀ j₀ b j = 64 - j
@@ -30,7 +30,7 @@ loop-again : tie.Need-loop-preserved invariant-loop decreases-loop
 loop-again c =
     let a = c.before.before.before.before.args in
     let l = c.before.before.loop in
-    let f : ℕ → ℕ = λ k. digestInput a.version a.node a.piece.now ! k in
+    let f : ℕ → ℕ = λ k. digest_input a.version a.node a.piece.now ! k in
     (search rules, search rules, each_turn f l.b l.j _ (omega arith) l.invariant.2 c.placed-byte.ensures)
 
 returns : tie.Need-returns invariant-loop decreases-loop

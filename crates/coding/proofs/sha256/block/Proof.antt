@@ -1,5 +1,5 @@
 use Rattle.std.proofs.Common.{◌≡◌, ◌-◌, ◌≤◌, length, take, refl, arith, rules}
-use Rattle.coding.proofs.Sha256Laws.{block-turn}
+use Rattle.coding.proofs.Sha256Laws.{block_turn}
 use Rattle.coding.specs.Sha256.{words}
 use Rattle.coding.proofs.sha256.block.Statement.{statement}
 use Rattle.coding.proofs.sha256.block.Tie as tie
@@ -39,7 +39,7 @@ loop-again : tie.Need-loop-preserved invariant-loop decreases-loop
 loop-again c = (
   search rules,
   search rules,
-  block-turn _ _ _ _ _ (omega arith) c.before.before.loop.invariant.2 c.word.ensures,
+  block_turn _ _ _ _ _ (omega arith) c.before.before.loop.invariant.2 c.word.ensures,
 )
 
 returns : tie.Need-returns invariant-loop decreases-loop

@@ -1,5 +1,5 @@
 use Rattle.std.proofs.Common.{◌≡◌, ◌-◌, ◌/◌, ◌≤◌, length, refl, arith, rules}
-use Rattle.coding.proofs.Sha256Laws.{hash-turn}
+use Rattle.coding.proofs.Sha256Laws.{hash_turn}
 use Rattle.coding.specs.Sha256.{hash}
 use Rattle.coding.proofs.sha256.blocks.Statement.{statement}
 use Rattle.coding.proofs.sha256.blocks.Tie as tie
@@ -33,7 +33,7 @@ loop-again : tie.Need-loop-preserved invariant-loop decreases-loop
 loop-again c =
     let s = c.before.before.before.before.before.args.s.now in (
       search rules,
-      hash-turn _ s _ _ _ _ c.before.before.before.loop.invariant.1 c.before.block.ensures c.compress.ensures,
+      hash_turn _ s _ _ _ _ c.before.before.before.loop.invariant.1 c.before.block.ensures c.compress.ensures,
     )
 
 returns : tie.Need-returns invariant-loop decreases-loop

@@ -1,6 +1,6 @@
 use Rattle.std.proofs.Common.{◌≡◌, ◌≤◌, length, sym, refl, ◌∙◌, arith, length-take-le, rules}
 use Rattle.coding.specs.Sha256.{K, H₀}
-use Rattle.coding.proofs.Sha256Laws.{length-padding, digest-law}
+use Rattle.coding.proofs.Sha256Laws.{length-padding, digest_law}
 use Rattle.coding.proofs.sha256.digest_both.Statement.{statement}
 use Rattle.coding.proofs.sha256.digest_both.Tie as tie
 
@@ -50,7 +50,7 @@ returns c =
     let l : length t.result ≡ 128 = search rules in
     c.joined.ensures
     ∙ rw (c.before.blocks4.ensures, c.before.before.before.before.before.before.before.blocks3.ensures, c.before.before.before.before.before.before.before.before.before.blocks2.ensures)
-    (digest-law a.front.now a.s.now t.result n.result _ c.before.before.before.before.before.before.before.before.before.before.before.before.before.requires n.ensures (omega arith) l t.ensures)
+    (digest_law a.front.now a.s.now t.result n.result _ c.before.before.before.before.before.before.before.before.before.before.before.before.before.requires n.ensures (omega arith) l t.ensures)
 
 pub digest-both-spec : {M : Type 1} → statement M
 digest-both-spec =

@@ -1,5 +1,5 @@
 use Rattle.std.proofs.Common.{◌+◌, arith, rules}
-use Rattle.coding.proofs.Sha256Laws.{round-turn}
+use Rattle.coding.proofs.Sha256Laws.{round_turn}
 use Rattle.coding.proofs.sha256.eight_rounds.Statement.{statement}
 use Rattle.coding.proofs.sha256.eight_rounds.Tie as tie
 
@@ -53,14 +53,14 @@ returns c =
     λ h e.
     let w = c.before.before.before.before.before.before.before.before.args.w.now in
     let t = c.before.before.before.before.before.before.before.before.args.t in
-    let e1 = round-turn w h _ _ t (t + 1) (omega arith) e c.before.before.before.before.before.before.before.round.ensures in
-    let e2 = round-turn w h _ _ (t + 1) (t + 2) (omega arith) e1 c.before.before.before.before.before.before.round2.ensures in
-    let e3 = round-turn w h _ _ (t + 2) (t + 3) (omega arith) e2 c.before.before.before.before.before.round3.ensures in
-    let e4 = round-turn w h _ _ (t + 3) (t + 4) (omega arith) e3 c.before.before.before.before.round4.ensures in
-    let e5 = round-turn w h _ _ (t + 4) (t + 5) (omega arith) e4 c.before.before.before.round5.ensures in
-    let e6 = round-turn w h _ _ (t + 5) (t + 6) (omega arith) e5 c.before.before.round6.ensures in
-    let e7 = round-turn w h _ _ (t + 6) (t + 7) (omega arith) e6 c.before.round7.ensures in
-    round-turn w h _ _ (t + 7) (t + 8) (omega arith) e7 c.round8.ensures
+    let e1 = round_turn w h _ _ t (t + 1) (omega arith) e c.before.before.before.before.before.before.before.round.ensures in
+    let e2 = round_turn w h _ _ (t + 1) (t + 2) (omega arith) e1 c.before.before.before.before.before.before.round2.ensures in
+    let e3 = round_turn w h _ _ (t + 2) (t + 3) (omega arith) e2 c.before.before.before.before.before.round3.ensures in
+    let e4 = round_turn w h _ _ (t + 3) (t + 4) (omega arith) e3 c.before.before.before.before.round4.ensures in
+    let e5 = round_turn w h _ _ (t + 4) (t + 5) (omega arith) e4 c.before.before.before.round5.ensures in
+    let e6 = round_turn w h _ _ (t + 5) (t + 6) (omega arith) e5 c.before.before.round6.ensures in
+    let e7 = round_turn w h _ _ (t + 6) (t + 7) (omega arith) e6 c.before.round7.ensures in
+    round_turn w h _ _ (t + 7) (t + 8) (omega arith) e7 c.round8.ensures
 
 pub eight-rounds-spec : {M : Type 1} → statement M
 eight-rounds-spec =

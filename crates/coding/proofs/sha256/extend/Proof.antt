@@ -1,5 +1,5 @@
 use Rattle.std.proofs.Common.{arith, rules}
-use Rattle.coding.proofs.Sha256Laws.{extend-law}
+use Rattle.coding.proofs.Sha256Laws.{extend_law}
 use Rattle.coding.proofs.sha256.extend.Statement.{statement}
 use Rattle.coding.proofs.sha256.extend.Tie as tie
 
@@ -51,7 +51,7 @@ element-write-w c = search rules
 returns : tie.Need-returns
 returns c =
     let w = c.before.before.before.before.before.args.w.now in
-    (extend-law w c.before.before.before.before.before.args.t _ (search rules) (omega arith) c.scheduled.ensures, search rules)
+    (extend_law w c.before.before.before.before.before.args.t _ (search rules) (omega arith) c.scheduled.ensures, search rules)
 
 pub extend-spec : {M : Type 1} → statement M
 extend-spec =

@@ -1,5 +1,5 @@
 use Rattle.std.proofs.Common.{◌≡◌, ℕ, ◌-◌, ◌<◌, ◌≤◌, length, sym, refl, ◌∙◌, arith, ext_get_or, rules}
-use Rattle.coding.proofs.Sha256Laws.{each_turn, joined_at, length-joined}
+use Rattle.coding.proofs.Sha256Laws.{each_turn, joined_at_lem, length-joined}
 use Rattle.coding.specs.Sha256.{◌!◌, joined}
 use Rattle.coding.proofs.sha256.joined.Statement.{statement}
 use Rattle.coding.proofs.sha256.joined.Tie as tie
@@ -45,7 +45,7 @@ loop-again c =
       search rules,
       search rules,
       each_turn (λ k. joined h ! k) c.before.before.loop.b j _ (omega arith) c.before.before.loop.invariant.2
-          (c.byte.ensures ∙ sym (joined_at h j (omega arith))),
+          (c.byte.ensures ∙ sym (joined_at_lem h j (omega arith))),
     )
 
 returns : tie.Need-returns invariant-loop decreases-loop

@@ -1,6 +1,6 @@
 use Rattle.std.proofs.Common.{◌≡◌, ℕ, ◌+◌, ◌-◌, ◌*◌, ◌/◌, ◌%◌, ◌<◌, ◌≤◌, ◌++◌, length, sym, ◌∙◌, arith, length-set, rules}
 use Rattle.coding.specs.Sha256.{◌!◌, padding}
-use Rattle.coding.proofs.Sha256Laws.{each_turn, length-padding, last-start, last-length}
+use Rattle.coding.proofs.Sha256Laws.{each_turn, length-padding, last_start, last-length}
 use Rattle.coding.proofs.sha256.last.Statement.{statement}
 use Rattle.coding.proofs.sha256.last.Tie as tie
 
@@ -28,7 +28,7 @@ loop-holds c =
       omega arith,
       omega arith,
       length-set b.result (length a.s.now % 64) 0x80 ∙ l,
-      last-start a.s.now a.n a.end c.before.before.requires.0 b.result l b.ensures,
+      last_start a.s.now a.n a.end c.before.before.requires.0 b.result l b.ensures,
     )
 
 sub-byte : tie.Need-overflow-sub-byte invariant-loop decreases-loop

@@ -1,7 +1,7 @@
 use Rattle.std.proofs.Common.{◌≡◌, ℕ, ◌+◌, ◌-◌, ◌*◌, ◌/◌, ◌%◌, ◌<◌, ◌≤◌, length, refl, ◌∙◌, arith, get_or-set_other, rules}
 use Rattle.coding.specs.Sha256.{◌!◌}
-use Rattle.coding.proofs.BytesLaws.{zeros-at}
-use Rattle.coding.proofs.Sha256Laws.{each_turn, rest-law}
+use Rattle.coding.proofs.BytesLaws.{zeros_at}
+use Rattle.coding.proofs.Sha256Laws.{each_turn, rest_law}
 use Rattle.coding.proofs.sha256.rest.Statement.{statement}
 use Rattle.coding.proofs.sha256.rest.Tie as tie
 
@@ -16,7 +16,7 @@ mul-from : tie.Need-overflow-mul-from invariant-loop decreases-loop
 mul-from c = search rules
 
 loop-holds : tie.Need-loop-init invariant-loop decreases-loop
-loop-holds c = (omega arith, refl, λ k l. absurd (omega arith), λ k l. zeros-at 128 k)
+loop-holds c = (omega arith, refl, λ k l. absurd (omega arith), λ k l. zeros_at 128 k)
 
 add-b : tie.Need-overflow-add-b invariant-loop decreases-loop
 add-b c = search rules
@@ -49,7 +49,7 @@ returns c =
     let s = c.before.before.args.s.now in
     let l = c.before.loop in
     let e : l.j ≡ length s % 64 = omega arith in
-    rest-law s l.b (length s / 64 * 64) l.j (omega arith) l.invariant.2 l.invariant.3
+    rest_law s l.b (length s / 64 * 64) l.j (omega arith) l.invariant.2 l.invariant.3
 
 pub rest-spec : {M : Type 1} → statement M
 rest-spec =

@@ -1,5 +1,5 @@
 use Rattle.std.proofs.Common.{◌≡◌, ◌+◌, ◌-◌, ◌%◌, ◌≤◌, length, take, sym, refl, ◌∙◌, arith, take_all, rules}
-use Rattle.coding.proofs.Sha256Laws.{schedule-turn}
+use Rattle.coding.proofs.Sha256Laws.{schedule_turn}
 use Rattle.coding.specs.Sha256.{schedule}
 use Rattle.coding.proofs.sha256.schedule.Statement.{statement}
 use Rattle.coding.proofs.sha256.schedule.Tie as tie
@@ -51,10 +51,10 @@ loop-again c =
     let w2 = c.before.before.before.before.extend2.new.0 in
     let w3 = c.before.before.extend3.new.0 in
     let e1 =
-    schedule-turn m start.loop.w w1 t (t + 1) (omega arith) (omega arith) start.loop.invariant.4 c.before.before.before.before.before.before.extend.ensures.0 in
-    let e2 = schedule-turn m w1 w2 (t + 1) (t + 2) (omega arith) (omega arith) e1 c.before.before.before.before.extend2.ensures.0 in
-    let e3 = schedule-turn m w2 w3 (t + 2) (t + 3) (omega arith) (omega arith) e2 c.before.before.extend3.ensures.0 in
-    let e4 = schedule-turn m w3 c.extend4.new.0 (t + 3) (t + 4) (omega arith) (omega arith) e3 c.extend4.ensures.0 in
+    schedule_turn m start.loop.w w1 t (t + 1) (omega arith) (omega arith) start.loop.invariant.4 c.before.before.before.before.before.before.extend.ensures.0 in
+    let e2 = schedule_turn m w1 w2 (t + 1) (t + 2) (omega arith) (omega arith) e1 c.before.before.before.before.extend2.ensures.0 in
+    let e3 = schedule_turn m w2 w3 (t + 2) (t + 3) (omega arith) (omega arith) e2 c.before.before.extend3.ensures.0 in
+    let e4 = schedule_turn m w3 c.extend4.new.0 (t + 3) (t + 4) (omega arith) (omega arith) e3 c.extend4.ensures.0 in
     (search rules, search rules, search rules, c.extend4.ensures.1, e4)
 
 returns : tie.Need-returns invariant-loop decreases-loop

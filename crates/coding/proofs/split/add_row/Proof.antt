@@ -1,8 +1,8 @@
 -- The areas below i have the row in their sums.
 use Rattle.std.proofs.Common.{ℕ, ◌+◌, ◌-◌, ◌*◌, get_or, ap, ◌∙◌, le_refl, arith}
 use Rattle.coding.specs.Field.{◌⊕◌, product}
-use Rattle.coding.proofs.BytesLaws.{length-tabulate, get_d_tabulate}
-use Rattle.coding.proofs.AreasLaws.{Walk, walk_none, walk-fits, walk-room, walk_kept, walk_more, walk-all}
+use Rattle.coding.proofs.BytesLaws.{length-tabulate, get_or-tabulate}
+use Rattle.coding.proofs.AreasLaws.{Walk, walk_none, walk_fits, walk_room, walk_kept, walk_more, walk_all}
 use Rattle.coding.proofs.split.add_row.Statement.{statement}
 use Rattle.coding.proofs.split.add_row.Tie as tie
 
@@ -25,10 +25,10 @@ cast-turn : tie.Need-overflow-cast-turn invariant-loop decreases-loop
 cast-turn c = omega arith
 
 turn-requires : tie.Need-turn-requires invariant-loop decreases-loop
-turn-requires c κs = (walk-room _ _ _ _ _ _ _ _ _ c.before.before.before.before.requires.0 c.before.before.before.before.requires.4 c.before.before.loop.invariant c.before.loop-test.true, c.before.before.before.before.requires.1)
+turn-requires c κs = (walk_room _ _ _ _ _ _ _ _ _ c.before.before.before.before.requires.0 c.before.before.before.before.requires.4 c.before.before.loop.invariant c.before.loop-test.true, c.before.before.before.before.requires.1)
 
 add_at : tie.Need-overflow-add-at invariant-loop decreases-loop
-add_at c = omega (arith, walk-fits _ _ _ _ _ _ _ _ _ c.before.before.before.before.before.before.before.requires.0 c.before.before.before.before.before.before.before.requires.4 c.before.before.before.before.before.loop.invariant c.before.before.before.before.loop-test.true)
+add_at c = omega (arith, walk_fits _ _ _ _ _ _ _ _ _ c.before.before.before.before.before.before.before.requires.0 c.before.before.before.before.before.before.before.requires.4 c.before.before.before.before.before.loop.invariant c.before.before.before.before.loop-test.true)
 
 add-i : tie.Need-overflow-add-i invariant-loop decreases-loop
 add-i c = omega arith
@@ -42,15 +42,15 @@ loop-again c =
     (walk_more _ _ _ _ _ _ _ _ _ c.before.before.before.before.before.before.before.requires.0 c.before.before.before.before.before.before.before.requires.4 c.before.before.before.before.before.loop.invariant c.before.before.before.before.loop-test.true
     _ (rw length-tabulate (le_refl _))
     (λ l h.
-    get_d_tabulate c.before.before.before.before.before.before.before.args.m _ l 0 h
+    get_or-tabulate c.before.before.before.before.before.before.before.args.m _ l 0 h
     ∙ ap (λ (x : ℕ). product x (c.before.before.before.before.before.before.before.args.first + c.before.before.before.before.before.loop.i + 1) ⊕ get_or c.before.before.before.before.before.before.before.args.row l 0)
     (walk_kept _ _ _ _ _ _ _ _ _ c.before.before.before.before.before.before.before.requires.0 c.before.before.before.before.before.before.before.requires.4 c.before.before.before.before.before.loop.invariant l h)))
 
 same_length : tie.Need-same-length invariant-loop decreases-loop
-same_length c = (walk-all _ _ _ _ _ _ _ _ _ c.before.before.before.requires.0 c.before.before.before.requires.4 c.before.loop.invariant c.loop-test.false).same
+same_length c = (walk_all _ _ _ _ _ _ _ _ _ c.before.before.before.requires.0 c.before.before.before.requires.4 c.before.loop.invariant c.loop-test.false).same
 
 returns : tie.Need-returns invariant-loop decreases-loop
-returns c = walk-all _ _ _ _ _ _ _ _ _ c.before.before.before.requires.0 c.before.before.before.requires.4 c.before.loop.invariant c.loop-test.false
+returns c = walk_all _ _ _ _ _ _ _ _ _ c.before.before.before.requires.0 c.before.before.before.requires.4 c.before.loop.invariant c.loop-test.false
 
 pub add-row-spec : {M : Type 1} → statement M
 add-row-spec =

@@ -1,7 +1,7 @@
 -- The rows from r on stand in the sums.
 use Rattle.std.proofs.Common.{◌≡◌, ℕ, ◌+◌, ◌-◌, ◌<◌, ◌≤◌, get_or, sym, ap, ◌∙◌, mul-le-mul, arith}
 use Rattle.coding.specs.Field.{◌⊕◌}
-use Rattle.coding.proofs.BytesLaws.{zeros-at}
+use Rattle.coding.proofs.BytesLaws.{zeros_at}
 use Rattle.coding.proofs.SplitLaws.{rows, rows_none, row_more, rows_all}
 use Rattle.coding.proofs.split.cut_block.Statement.{statement}
 use Rattle.coding.proofs.split.cut_block.Tie as tie
@@ -13,7 +13,7 @@ abbrev decreases-loop : tie.decreases-loop
 decreases-loop x k j m page r₀ sums₀ r sums = r
 
 loop-holds : tie.Need-loop-init invariant-loop decreases-loop
-loop-holds c = (omega arith, λ l h. zeros-at 16 l ∙ sym (rows_none _ _ _ _))
+loop-holds c = (omega arith, λ l h. zeros_at 16 l ∙ sym (rows_none _ _ _ _))
 
 sub-r : tie.Need-overflow-sub-r invariant-loop decreases-loop
 sub-r c = omega arith

@@ -1,12 +1,12 @@
 -- The first j bytes of the piece stand at the front of the room.
 use Rattle.std.proofs.Common.{◌≡◌, ◌-◌, ◌≤◌, length, arith, rules}
-use Rattle.coding.specs.Pieces.{pieceByte, frame}
+use Rattle.coding.specs.Pieces.{piece_byte, frame}
 use Rattle.coding.proofs.BytesLaws.{Front, front-none, front_length, front-more}
 use Rattle.coding.proofs.split.cut_piece.Statement.{statement}
 use Rattle.coding.proofs.split.cut_piece.Tie as tie
 
 abbrev invariant-loop : tie.invariant-loop
-invariant-loop x k len page room₀ j₀ room j = (j ≤ len) × Front room₀ (pieceByte k (frame k page) x) room j
+invariant-loop x k len page room₀ j₀ room j = (j ≤ len) × Front room₀ (piece_byte k (frame k page) x) room j
 
 abbrev decreases-loop : tie.decreases-loop
 decreases-loop x k len page room₀ j₀ room j = len - j

@@ -3,7 +3,7 @@ use borrow.Author.Tests.{not-true, not-false}
 use Rattle.coding.specs.Split.{SplitEnd}
 use Rattle.coding.proofs.MeasureLaws.{proper-measures, measures-small}
 use Rattle.coding.proofs.FrameLaws.{columns-within}
-use Rattle.coding.proofs.SplitLaws.{split-measures, split-short, split-long, split_done, written-unique}
+use Rattle.coding.proofs.SplitLaws.{split-measures, split-short, split-long, split_done, written_unique}
 use Rattle.coding.proofs.split.split.Statement.{statement}
 use Rattle.coding.proofs.split.split.Tie as tie
 
@@ -52,7 +52,7 @@ returns-4 c =
     let l = columns-within _ _ _ p.parts.0 p.frame c.before.before.before.before.before.if3.false in
     let e = split_done _ _ _ c.before.before.before.before.before.before.before.before.before.before.before.args.page.now c.before.before.before.before.before.before.before.before.before.before.before.args.room.now (sym c.before.before.before.before.before.before.before.before.proper-measures.ensures ∙ not-false c.before.before.before.before.before.before.before.before.proper-measures.result c.before.before.before.before.before.before.before.if1.false) c.before.before.before.before.before.before.if2.false c.before.before.before.before.before.if3.false in (
       rw c.before.before.before.before.piece-length.ensures (sym (ap (λ (s : SplitEnd). s.outcome) e)),
-      written-unique _ _ c.before.before.before.before.before.before.before.before.before.before.before.args.page.now _ _ _ p.longest.0 l c.before.before.before.before.before.before.if2.false
+      written_unique _ _ c.before.before.before.before.before.before.before.before.before.before.before.args.page.now _ _ _ p.longest.0 l c.before.before.before.before.before.before.if2.false
           (rw c.before.before.before.before.piece-length.ensures at c.before.before.write-areas.ensures)
           ∙ sym (ap (λ (s : SplitEnd). s.room) e),
     )

@@ -1,6 +1,6 @@
 -- The areas below i have the row.
 use Rattle.std.proofs.Common.{◌≡◌, ◌-◌, ◌≤◌, length, get_or, refl, arith, rules}
-use Rattle.coding.proofs.AreasLaws.{Walk, walk_none, walk-fits, walk-room, walk_more, walk-all}
+use Rattle.coding.proofs.AreasLaws.{Walk, walk_none, walk_fits, walk_room, walk_more, walk_all}
 use Rattle.coding.proofs.split.start_row.Statement.{statement}
 use Rattle.coding.proofs.split.start_row.Tie as tie
 
@@ -14,10 +14,10 @@ loop-holds : tie.Need-loop-init invariant-loop decreases-loop
 loop-holds c = walk_none _ _ _ _ _ _
 
 store-requires : tie.Need-store-requires invariant-loop decreases-loop
-store-requires c κs = (walk-room _ _ _ _ _ _ _ _ _ c.before.before.before.before.requires.0 c.before.before.before.before.requires.4 c.before.before.loop.invariant c.before.loop-test.true, c.before.before.before.before.requires.1)
+store-requires c κs = (walk_room _ _ _ _ _ _ _ _ _ c.before.before.before.before.requires.0 c.before.before.before.before.requires.4 c.before.before.loop.invariant c.before.loop-test.true, c.before.before.before.before.requires.1)
 
 add_at : tie.Need-overflow-add-at invariant-loop decreases-loop
-add_at c = omega (arith, walk-fits _ _ _ _ _ _ _ _ _ c.before.before.before.before.before.before.before.requires.0 c.before.before.before.before.before.before.before.requires.4 c.before.before.before.before.before.loop.invariant c.before.before.before.before.loop-test.true)
+add_at c = omega (arith, walk_fits _ _ _ _ _ _ _ _ _ c.before.before.before.before.before.before.before.requires.0 c.before.before.before.before.before.before.before.requires.4 c.before.before.before.before.before.loop.invariant c.before.before.before.before.loop-test.true)
 
 add-i : tie.Need-overflow-add-i invariant-loop decreases-loop
 add-i c = omega arith
@@ -34,10 +34,10 @@ loop-again c =
     c.before.before.before.before.before.before.before.args.row (omega arith) (λ l h. refl))
 
 same_length : tie.Need-same-length invariant-loop decreases-loop
-same_length c = (walk-all _ _ _ _ _ _ _ _ _ c.before.before.before.requires.0 c.before.before.before.requires.4 c.before.loop.invariant c.loop-test.false).same
+same_length c = (walk_all _ _ _ _ _ _ _ _ _ c.before.before.before.requires.0 c.before.before.before.requires.4 c.before.loop.invariant c.loop-test.false).same
 
 returns : tie.Need-returns invariant-loop decreases-loop
-returns c = walk-all _ _ _ _ _ _ _ _ _ c.before.before.before.requires.0 c.before.before.before.requires.4 c.before.loop.invariant c.loop-test.false
+returns c = walk_all _ _ _ _ _ _ _ _ _ c.before.before.before.requires.0 c.before.before.before.requires.4 c.before.loop.invariant c.loop-test.false
 
 pub start-row-spec : {M : Type 1} → statement M
 start-row-spec =

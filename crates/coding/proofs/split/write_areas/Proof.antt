@@ -1,7 +1,7 @@
 use Rattle.std.proofs.Common.{◌≡◌, ℕ, ◌+◌, ◌-◌, ◌*◌, ◌≤◌, length, drop, refl, ap, ◌∙◌, mul-le-mul_right, add-mul, zero-add, arith, length-drop, length-take-le, rules}
-use Rattle.coding.specs.Pieces.{pieceByte, frame}
+use Rattle.coding.specs.Pieces.{piece_byte, frame}
 use Rattle.coding.proofs.AreasLaws.{columns-rest}
-use Rattle.coding.proofs.SplitLaws.{columns-ext}
+use Rattle.coding.proofs.SplitLaws.{columns_ext}
 use Rattle.coding.proofs.split.write_areas.Statement.{statement}
 use Rattle.coding.proofs.split.write_areas.Tie as tie
 
@@ -13,8 +13,8 @@ same_length c = search rules
 
 returns : tie.Need-returns
 returns c =
-    columns-ext _ _ _ _ _ _ _ _
-    (λ i l hi hl. ap (λ (x : ℕ). pieceByte c.before.before.before.before.before.before.before.args.k (frame c.before.before.before.before.before.before.before.args.k c.before.before.before.before.before.before.before.args.page.now) (x + 1) l) (zero-add i))
+    columns_ext _ _ _ _ _ _ _ _
+    (λ i l hi hl. ap (λ (x : ℕ). piece_byte c.before.before.before.before.before.before.before.args.k (frame c.before.before.before.before.before.before.before.args.k c.before.before.before.before.before.before.before.args.page.now) (x + 1) l) (zero-add i))
     c.before.before.write-pieces.ensures
 
 write-pieces-requires-2 : tie.Need-write-pieces-requires-2
@@ -67,10 +67,10 @@ returns-2 c =
     let m : 8 * c.before.before.before.before.before.before.before.before.before.before.before.args.f ≤ length c.before.before.before.before.before.before.before.before.before.before.before.args.room.now = omega (arith, mul-le-mul_right c.before.before.before.before.before.before.before.before.before.before.before.args.f h) in
     let e : 8 + (c.before.before.before.before.before.before.before.before.before.before.before.args.n - 8) ≡ c.before.before.before.before.before.before.before.before.before.before.before.args.n = omega arith in
     rw e at
-    (columns-rest 8 (c.before.before.before.before.before.before.before.before.before.before.before.args.n - 8) c.before.before.before.before.before.before.before.before.before.before.before.args.f c.before.before.before.before.before.before.before.before.before.before.before.args.len (λ i l. pieceByte c.before.before.before.before.before.before.before.before.before.before.before.args.k (frame c.before.before.before.before.before.before.before.before.before.before.before.args.k c.before.before.before.before.before.before.before.before.before.before.before.args.page.now) (i + 1) l) _ c.before.before.before.before.before.before.before.before.before.before.before.args.room.now _ _
+    (columns-rest 8 (c.before.before.before.before.before.before.before.before.before.before.before.args.n - 8) c.before.before.before.before.before.before.before.before.before.before.before.args.f c.before.before.before.before.before.before.before.before.before.before.before.args.len (λ i l. piece_byte c.before.before.before.before.before.before.before.before.before.before.before.args.k (frame c.before.before.before.before.before.before.before.before.before.before.before.args.k c.before.before.before.before.before.before.before.before.before.before.before.args.page.now) (i + 1) l) _ c.before.before.before.before.before.before.before.before.before.before.before.args.room.now _ _
     c.before.before.before.before.before.before.before.before.before.before.before.requires.0 (omega (arith, c.before.before.before.before.before.before.write-pieces2.ensures.same)) (λ i l. refl)
-    (columns-ext 8 _ _ _ _ _ _ _
-    (λ i l hi hl. ap (λ (x : ℕ). pieceByte c.before.before.before.before.before.before.before.before.before.before.before.args.k (frame c.before.before.before.before.before.before.before.before.before.before.before.args.k c.before.before.before.before.before.before.before.before.before.before.before.args.page.now) (x + 1) l) (zero-add i))
+    (columns_ext 8 _ _ _ _ _ _ _
+    (λ i l hi hl. ap (λ (x : ℕ). piece_byte c.before.before.before.before.before.before.before.before.before.before.before.args.k (frame c.before.before.before.before.before.before.before.before.before.before.before.args.k c.before.before.before.before.before.before.before.before.before.before.before.args.page.now) (x + 1) l) (zero-add i))
     c.before.before.before.before.before.before.write-pieces2.ensures)
     c.before.before.write-pieces3.ensures)
 

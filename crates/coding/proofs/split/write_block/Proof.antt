@@ -1,7 +1,7 @@
 -- The rows from r on stand in the sums.
 use Rattle.std.proofs.Common.{◌≡◌, ◌+◌, ◌-◌, ◌<◌, ◌≤◌, ◌∙◌, mul-le-mul, arith}
-use Rattle.coding.proofs.AreasLaws.{columns-stay, columns-again}
-use Rattle.coding.proofs.SplitLaws.{Rows, block_start, block_more, block-all}
+use Rattle.coding.proofs.AreasLaws.{columns_stay, columns_again}
+use Rattle.coding.proofs.SplitLaws.{Rows, block_start, block_more, block_all}
 use Rattle.coding.proofs.split.write_block.Statement.{statement}
 use Rattle.coding.proofs.split.write_block.Tie as tie
 
@@ -38,7 +38,7 @@ start-row-requires c κs = omega arith
 loop-holds : tie.Need-loop-init invariant-loop decreases-loop
 loop-holds c = (
   omega arith,
-  columns-stay _ _ _ _ _ _ _
+  columns_stay _ _ _ _ _ _ _
       (block_start _ _ _ _ c.before.before.before.before.before.before.before.args.page.now _ _ c.before.before.before.before.gather-whole.result _ _ c.before.before.before.before.before.before.before.requires.5 (λ l h. c.before.before.before.before.gather-whole.ensures l (omega arith))
       c.before.before.start-row.ensures),
 )
@@ -84,8 +84,8 @@ same_length c = c.before.loop.invariant.1.same ∙ c.before.before.before.before
 returns : tie.Need-returns invariant-loop decreases-loop
 returns c =
     let z : c.before.loop.r ≡ 0 = omega arith in
-    block-all _ _ _ _ c.before.before.before.before.before.before.before.before.before.args.page.now _ _ _ _ (λ i. (c.before.before.before.before.before.before.before.before.shared-slice-known.given i).fits)
-    (columns-again _ _ _ _ _ _ _ _ _ c.before.before.before.before.start-row.ensures (rw z at c.before.loop.invariant.1))
+    block_all _ _ _ _ c.before.before.before.before.before.before.before.before.before.args.page.now _ _ _ _ (λ i. (c.before.before.before.before.before.before.before.before.shared-slice-known.given i).fits)
+    (columns_again _ _ _ _ _ _ _ _ _ c.before.before.before.before.start-row.ensures (rw z at c.before.loop.invariant.1))
 
 pub write-block-spec : {M : Type 1} → statement M
 write-block-spec =

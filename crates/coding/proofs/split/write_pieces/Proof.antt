@@ -1,13 +1,13 @@
 -- The columns below j stand in every area.
 use Rattle.std.proofs.Common.{◌≡◌, ◌+◌, ◌-◌, ◌≤◌, refl, zero-add, arith}
-use Rattle.coding.specs.Pieces.{pieceByte, frame}
+use Rattle.coding.specs.Pieces.{piece_byte, frame}
 use Rattle.coding.specs.Areas.{Columns}
 use Rattle.coding.proofs.AreasLaws.{columns-empty, columns-join}
 use Rattle.coding.proofs.split.write_pieces.Statement.{statement}
 use Rattle.coding.proofs.split.write_pieces.Tie as tie
 
 abbrev invariant-loop : tie.invariant-loop
-invariant-loop first n k f len page room₀ j₀ room j = (j ≤ len) × Columns n f 0 j (λ i l. pieceByte k (frame k page) (first + i + 1) l) room₀ room
+invariant-loop first n k f len page room₀ j₀ room j = (j ≤ len) × Columns n f 0 j (λ i l. piece_byte k (frame k page) (first + i + 1) l) room₀ room
 
 abbrev decreases-loop : tie.decreases-loop
 decreases-loop first n k f len page room₀ j₀ room j = len - j

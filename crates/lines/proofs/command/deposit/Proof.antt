@@ -1,6 +1,6 @@
 use mathlib.Core.Path.{sym}
 use borrow.Author.Tests.{eq-eqb, ne_eqb}
-use Rattle.lines.proofs.CommandLaws.{is-number, no_number}
+use Rattle.lines.proofs.CommandLaws.{is_number_lem, no_number}
 use borrow.Author.Rules.{rules}
 use Rattle.lines.proofs.command.deposit.Statement.{statement}
 use Rattle.lines.proofs.command.deposit.Tie as tie
@@ -24,10 +24,10 @@ enum_told : tie.Need-enum-told
 enum_told c = search rules
 
 returns-3 : tie.Need-returns-3
-returns-3 c = let l = c.before.before.before.before.before.before.before.args.l in sym (simp (eq-eqb l.words 3 c.before.before.before.before.if1.false, is-number l 0 c.before.before.before.if2.false, c.before.p.given.1))
+returns-3 c = let l = c.before.before.before.before.before.before.before.args.l in sym (simp (eq-eqb l.words 3 c.before.before.before.before.if1.false, is_number_lem l 0 c.before.before.before.if2.false, c.before.p.given.1))
 
 returns-4 : tie.Need-returns-4
-returns-4 c = let l = c.before.before.before.before.before.before.args.l in sym (simp (eq-eqb l.words 3 c.before.before.before.if1.false, is-number l 0 c.before.before.if2.false, c.enum_told.given.1))
+returns-4 c = let l = c.before.before.before.before.before.before.args.l in sym (simp (eq-eqb l.words 3 c.before.before.before.if1.false, is_number_lem l 0 c.before.before.if2.false, c.enum_told.given.1))
 
 pub deposit-spec : {M : Type 1} → statement M
 deposit-spec =

@@ -1,6 +1,6 @@
 use mathlib.Core.Path.{sym}
 use borrow.Author.Tests.{eq-eqb, ne_eqb}
-use Rattle.lines.proofs.CommandLaws.{is-number, no_number}
+use Rattle.lines.proofs.CommandLaws.{is_number_lem, no_number}
 use borrow.Author.Rules.{rules}
 use Rattle.lines.proofs.command.read.Statement.{statement}
 use Rattle.lines.proofs.command.read.Tie as tie
@@ -18,7 +18,7 @@ array-read-t6 : tie.Need-array-read-t6
 array-read-t6 c = search rules
 
 returns-3 : tie.Need-returns-3
-returns-3 c = let l = c.before.before.before.before.args.l in sym (simp (eq-eqb l.words 2 c.before.if1.false, is-number l 0 c.if2.false))
+returns-3 c = let l = c.before.before.before.before.args.l in sym (simp (eq-eqb l.words 2 c.before.if1.false, is_number_lem l 0 c.if2.false))
 
 pub read_spec : {M : Type 1} → statement M
 read_spec = tie.close (tie.spec returns array-read-if2 returns-2 array-read-t6 returns-3)

@@ -1,5 +1,5 @@
 use mathlib.Core.Path.{refl}
-use Rattle.lines.proofs.ReadLaws.{letter-told, page-more}
+use Rattle.lines.proofs.ReadLaws.{letter_told, page-more}
 use borrow.Author.Rules.{rules}
 use Rattle.lines.proofs.read.letter.Statement.{statement}
 use Rattle.lines.proofs.read.letter.Tie as tie
@@ -30,7 +30,7 @@ returns c =
     let a = c.before.before.before.before.before.before.before.before.before.before.before.before.args in
     let n = c.before.before.before.before.before.before.nibble.ensures in
     let k = c.before.before.before.put.ensures in (
-      letter-told a.r _ _ _ _ refl refl refl c.before.before.before.before.before.before.before.before.before.packed-with.ensures c.before.before.before.before.before.before.before.before.count.ensures c.before.before.before.before.before.before.before.value-with.ensures n c.before.before.before.before.before.hex-with.ensures refl refl k.0,
+      letter_told a.r _ _ _ _ refl refl refl c.before.before.before.before.before.before.before.before.before.packed-with.ensures c.before.before.before.before.before.before.before.before.count.ensures c.before.before.before.before.before.before.before.value-with.ensures n c.before.before.before.before.before.hex-with.ensures refl refl k.0,
       page-more a.r a.b _ a.page.now _ n k.1,
     )
 

@@ -1,28 +1,28 @@
 use borrow.Author.Tests.{not-true, not-false, lt-ltb, le-ltb}
 use borrow.Author.Rules.{rules}
 use lib.ListN.{length}
-use Rattle.lines.proofs.ReadLaws.{put-none, put_one}
+use Rattle.lines.proofs.ReadLaws.{put_none, put_one}
 use Rattle.lines.proofs.read.put.Statement.{statement}
 use Rattle.lines.proofs.read.put.Tie as tie
 
 returns : tie.Need-returns
 returns c =
-    let a = c.before.args in put-none a.odd a.high a.n a.bytes a.page.now (simp (not-true a.odd c.if1.true))
+    let a = c.before.args in put_none a.odd a.high a.n a.bytes a.page.now (simp (not-true a.odd c.if1.true))
 
 returns-2 : tie.Need-returns-2
 returns-2 c =
     let a = c.before.before.args in
-    put-none a.odd a.high a.n a.bytes a.page.now (simp (not-false a.odd c.before.if1.false, le-ltb a.bytes (length a.page.now) c.if2.true))
+    put_none a.odd a.high a.n a.bytes a.page.now (simp (not-false a.odd c.before.if1.false, le-ltb a.bytes (length a.page.now) c.if2.true))
 
 returns-3 : tie.Need-returns-3
 returns-3 c =
     let a = c.before.before.before.args in
-    put-none a.odd a.high a.n a.bytes a.page.now (simp (not-false a.odd c.before.before.if1.false, lt-ltb a.bytes (length a.page.now) c.before.if2.false, le-ltb a.high 16 c.if3.true))
+    put_none a.odd a.high a.n a.bytes a.page.now (simp (not-false a.odd c.before.before.if1.false, lt-ltb a.bytes (length a.page.now) c.before.if2.false, le-ltb a.high 16 c.if3.true))
 
 returns-4 : tie.Need-returns-4
 returns-4 c =
     let a = c.before.before.before.before.args in
-    put-none a.odd a.high a.n a.bytes a.page.now (simp (not-false a.odd c.before.before.before.if1.false, lt-ltb a.bytes (length a.page.now) c.before.before.if2.false, lt-ltb a.high 16 c.before.if3.false, le-ltb a.n 16 c.if4.true))
+    put_none a.odd a.high a.n a.bytes a.page.now (simp (not-false a.odd c.before.before.before.if1.false, lt-ltb a.bytes (length a.page.now) c.before.before.if2.false, lt-ltb a.high 16 c.before.if3.false, le-ltb a.n 16 c.if4.true))
 
 mul-page : tie.Need-overflow-mul-page
 mul-page c = search rules

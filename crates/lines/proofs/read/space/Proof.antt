@@ -1,4 +1,4 @@
-use Rattle.lines.proofs.ReadLaws.{space-told}
+use Rattle.lines.proofs.ReadLaws.{space_told}
 use borrow.Author.Rules.{rules}
 use Rattle.lines.proofs.read.space.Statement.{statement}
 use Rattle.lines.proofs.read.space.Tie as tie
@@ -16,7 +16,7 @@ numbers-with-requires : tie.Need-numbers-with-requires
 numbers-with-requires c κs = search rules
 
 returns : tie.Need-returns
-returns c = space-told c.before.before.before.before.before.args.r _ _ _ _ c.before.before.before.count.ensures c.before.before.name-from.ensures c.before.number-from.ensures c.numbers-with.ensures
+returns c = space_told c.before.before.before.before.before.args.r _ _ _ _ c.before.before.before.count.ensures c.before.before.name-from.ensures c.before.number-from.ensures c.numbers-with.ensures
 
 pub space-spec : {M : Type 1} → statement M
 space-spec =

@@ -1,7 +1,7 @@
 use mathlib.Core.Path.{refl}
 use native.Mathlib.Omega.{arith}
 use borrow.Author.Rules.{rules}
-use Rattle.lines.proofs.TextLaws.{put_full, put-fits}
+use Rattle.lines.proofs.TextLaws.{put_full, put_fits}
 use Rattle.lines.proofs.text.bytes.Statement.{statement}
 use Rattle.lines.proofs.text.bytes.Tie as tie
 
@@ -25,7 +25,7 @@ same_length c = search rules
 
 returns-3 : tie.Need-returns-3
 returns-3 c =
-    let a = c.before.before.before.before.before.before.before.before.args in put-fits a.text.now a.at a.b.now _ _ (omega arith) refl c.before.before.copy.ensures
+    let a = c.before.before.before.before.before.before.before.before.args in put_fits a.text.now a.at a.b.now _ _ (omega arith) refl c.before.before.copy.ensures
 
 pub bytes-spec : {M : Type 1} → statement M
 bytes-spec =

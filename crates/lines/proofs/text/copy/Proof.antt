@@ -4,7 +4,7 @@ use Prim.Native.Nat.{◌-◌, ◌≤◌}
 use native.Mathlib.Omega.{arith}
 use lib.ListN.{length, take, length-set}
 use Rattle.lines.specs.Text.{over}
-use Rattle.lines.proofs.TextLaws.{over_none, copy_more, copy-all}
+use Rattle.lines.proofs.TextLaws.{over_none, copy_more, copy_all}
 use Rattle.lines.proofs.text.copy.Statement.{statement}
 use Rattle.lines.proofs.text.copy.Tie as tie
 
@@ -40,7 +40,7 @@ same_length : tie.Need-same-length invariant-loop decreases-loop
 same_length c = c.before.loop.invariant.1
 
 returns : tie.Need-returns invariant-loop decreases-loop
-returns c = copy-all _ _ _ c.before.loop.i _ (omega arith) c.before.loop.invariant.2
+returns c = copy_all _ _ _ c.before.loop.i _ (omega arith) c.before.loop.invariant.2
 
 pub copy_spec : {M : Type 1} → statement M
 copy_spec =

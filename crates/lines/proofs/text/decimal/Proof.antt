@@ -1,5 +1,5 @@
 use borrow.Author.Rules.{rules}
-use Rattle.lines.proofs.TextLaws.{decimal-put}
+use Rattle.lines.proofs.TextLaws.{decimal_put}
 use Rattle.lines.proofs.text.decimal.Statement.{statement}
 use Rattle.lines.proofs.text.decimal.Tie as tie
 
@@ -19,7 +19,7 @@ same_length : tie.Need-same-length
 same_length c = search rules
 
 returns : tie.Need-returns
-returns c = decimal-put _ _ _ _ _ _ _ c.before.before.before.before.before.decimal.ensures.1.0 c.before.before.before.before.before.decimal.ensures.1.1 c.before.before.bytes.ensures
+returns c = decimal_put _ _ _ _ _ _ _ c.before.before.before.before.before.decimal.ensures.1.0 c.before.before.before.before.before.decimal.ensures.1.1 c.before.before.bytes.ensures
 
 pub decimal-spec : {M : Type 1} → statement M
 decimal-spec =

@@ -1,8 +1,8 @@
 -- The parts are put one after another, the last at z.
 use native.Mathlib.Omega.{arith}
-use Rattle.lines.specs.Sentences.{depositedLine}
+use Rattle.lines.specs.Sentences.{deposited_line}
 use Rattle.lines.proofs.LengthLaws.{deposited-size}
-use Rattle.lines.proofs.SentencesLaws.{adds_one, adds-join, adds-more, line-fits, line-full, deposited-parts}
+use Rattle.lines.proofs.SentencesLaws.{adds_one, adds_join, adds_more, line-fits, line_full, deposited-parts}
 use borrow.Author.Rules.{rules}
 use Rattle.lines.proofs.text.deposited.Statement.{statement}
 use Rattle.lines.proofs.text.deposited.Tie as tie
@@ -21,7 +21,7 @@ add-if1-2 c = search rules
 
 returns : tie.Need-returns
 returns c =
-    let a = c.before.before.before.before.args in line-full a.text.now (depositedLine a.c a.sequence) (omega (arith, deposited-size a.c a.sequence))
+    let a = c.before.before.before.before.args in line_full a.text.now (deposited_line a.c a.sequence) (omega (arith, deposited-size a.c a.sequence))
 
 slice-aggregate-bytes : tie.Need-slice-aggregate-bytes
 slice-aggregate-bytes c = search rules
@@ -48,11 +48,11 @@ returns-2 c =
     let x = y.before.before.before.before in
     let w = x.before.before.before.before in
     let a = adds_one _ _ _ _ _ w.bytes.ensures in
-    let b = adds-join a x.spaced.ensures in
-    let d = adds-join b y.spaced2.ensures in
+    let b = adds_join a x.spaced.ensures in
+    let d = adds_join b y.spaced2.ensures in
     let s = c.before.before.before.before.before.before.before.before.before.before.before.before.before.before.before.before.before.before.before.before.before.args in
     let o = c.before.before.before.before.before.before.before.before.before.before.before.before.before.before.before.before.before in
-    line-fits (depositedLine s.c s.sequence) _ (omega (arith, deposited-size s.c s.sequence, o.if1.false, o.before.width2.ensures.0, o.before.before.width.ensures.0)) (deposited-parts s.c s.sequence) (adds-more _ _ _ d z.byte.ensures)
+    line-fits (deposited_line s.c s.sequence) _ (omega (arith, deposited-size s.c s.sequence, o.if1.false, o.before.width2.ensures.0, o.before.before.width.ensures.0)) (deposited-parts s.c s.sequence) (adds_more _ _ _ d z.byte.ensures)
 
 pub deposited-spec : {M : Type 1} → statement M
 deposited-spec =

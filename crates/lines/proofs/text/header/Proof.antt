@@ -1,8 +1,8 @@
 -- The parts are put one after another, the last at z.
 use native.Mathlib.Omega.{arith}
-use Rattle.lines.specs.Sentences.{headerLine}
-use Rattle.lines.proofs.LengthLaws.{header-size}
-use Rattle.lines.proofs.SentencesLaws.{adds_one, adds-join, adds-more, line-fits, line-full, header-parts}
+use Rattle.lines.specs.Sentences.{header_line}
+use Rattle.lines.proofs.LengthLaws.{header_size}
+use Rattle.lines.proofs.SentencesLaws.{adds_one, adds_join, adds_more, line-fits, line_full, header_parts}
 use borrow.Author.Rules.{rules}
 use Rattle.lines.proofs.text.header.Statement.{statement}
 use Rattle.lines.proofs.text.header.Tie as tie
@@ -40,7 +40,7 @@ add-size-5 c = search rules
 returns : tie.Need-returns
 returns c =
     let a = c.before.before.before.before.before.before.before.args in
-    line-full a.text.now (headerLine a.m a.n a.k a.t a.f) (omega (arith, header-size a.m a.n a.k a.t a.f))
+    line_full a.text.now (header_line a.m a.n a.k a.t a.f) (omega (arith, header_size a.m a.n a.k a.t a.f))
 
 slice-aggregate-bytes : tie.Need-slice-aggregate-bytes
 slice-aggregate-bytes c = search rules
@@ -79,15 +79,15 @@ returns-2 c =
     let u = v.before.before.before.before in
     let t = u.before.before.before.before in
     let a = adds_one _ _ _ _ _ t.bytes.ensures in
-    let b = adds-join a u.spaced.ensures in
-    let d = adds-join b v.spaced2.ensures in
-    let e = adds-join d w.spaced3.ensures in
-    let f = adds-join e x.spaced4.ensures in
-    let g = adds-join f y.spaced5.ensures in
+    let b = adds_join a u.spaced.ensures in
+    let d = adds_join b v.spaced2.ensures in
+    let e = adds_join d w.spaced3.ensures in
+    let f = adds_join e x.spaced4.ensures in
+    let g = adds_join f y.spaced5.ensures in
     let s = c.before.before.before.before.before.before.before.before.before.before.before.before.before.before.before.before.before.before.before.before.before.before.before.before.before.before.before.before.before.before.before.before.before.before.before.before.args in
     let o = c.before.before.before.before.before.before.before.before.before.before.before.before.before.before.before.before.before.before.before.before.before.before.before.before.before.before.before.before.before in
     let p = o.before.before.before.before in
-    line-fits (headerLine s.m s.n s.k s.t s.f) _ (omega (arith, header-size s.m s.n s.k s.t s.f, o.if1.false, o.before.width5.ensures.0, o.before.before.width4.ensures.0, o.before.before.before.width3.ensures.0, p.width2.ensures.0, p.before.width.ensures.0)) (header-parts s.m s.n s.k s.t s.f) (adds-more _ _ _ g z.byte.ensures)
+    line-fits (header_line s.m s.n s.k s.t s.f) _ (omega (arith, header_size s.m s.n s.k s.t s.f, o.if1.false, o.before.width5.ensures.0, o.before.before.width4.ensures.0, o.before.before.before.width3.ensures.0, p.width2.ensures.0, p.before.width.ensures.0)) (header_parts s.m s.n s.k s.t s.f) (adds_more _ _ _ g z.byte.ensures)
 
 pub header-spec : {M : Type 1} → statement M
 header-spec =

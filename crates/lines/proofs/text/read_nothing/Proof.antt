@@ -1,8 +1,8 @@
 -- The parts are put one after another, the last at z.
 use native.Mathlib.Omega.{arith}
-use Rattle.lines.specs.Sentences.{nothingLine}
+use Rattle.lines.specs.Sentences.{nothing_line}
 use Rattle.lines.proofs.LengthLaws.{nothing-size}
-use Rattle.lines.proofs.SentencesLaws.{adds_one, adds-join, adds-more, line-fits, line-full, nothing-parts}
+use Rattle.lines.proofs.SentencesLaws.{adds_one, adds_join, adds_more, line-fits, line_full, nothing-parts}
 use borrow.Author.Rules.{rules}
 use Rattle.lines.proofs.text.read_nothing.Statement.{statement}
 use Rattle.lines.proofs.text.read_nothing.Tie as tie
@@ -15,7 +15,7 @@ add-if1 c = search rules
 
 returns : tie.Need-returns
 returns c =
-    let a = c.before.before.before.args in line-full a.text.now (nothingLine a.c) (omega (arith, nothing-size a.c))
+    let a = c.before.before.before.args in line_full a.text.now (nothing_line a.c) (omega (arith, nothing-size a.c))
 
 slice-aggregate-bytes : tie.Need-slice-aggregate-bytes
 slice-aggregate-bytes c = search rules
@@ -41,8 +41,8 @@ returns-2 c =
     let y = z.before.before.before.before.before in
     let x = y.before.before.before.before in
     let a = adds_one _ _ _ _ _ x.bytes.ensures in
-    let b = adds-join a y.spaced.ensures in
-    let s = c.before.before.before.before.before.before.before.before.before.before.before.before.before.before.before.before.before.args in line-fits (nothingLine s.c) _ (omega (arith, nothing-size s.c)) (nothing-parts s.c) (adds-more _ _ _ b z.bytes2.ensures)
+    let b = adds_join a y.spaced.ensures in
+    let s = c.before.before.before.before.before.before.before.before.before.before.before.before.before.before.before.before.before.args in line-fits (nothing_line s.c) _ (omega (arith, nothing-size s.c)) (nothing-parts s.c) (adds_more _ _ _ b z.bytes2.ensures)
 
 pub read-nothing-spec : {M : Type 1} → statement M
 read-nothing-spec =

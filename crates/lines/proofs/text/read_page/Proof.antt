@@ -3,9 +3,9 @@ use mathlib.Core.Path.{sym, ◌∙◌}
 use native.Mathlib.Omega.{arith}
 use lib.ListN.{length}
 use borrow.Author.Tests.{not-true, not-false, leb-true, leb-false}
-use Rattle.lines.specs.Sentences.{pageLine, shown}
+use Rattle.lines.specs.Sentences.{page_line, shown}
 use Rattle.lines.proofs.LengthLaws.{page-size}
-use Rattle.lines.proofs.SentencesLaws.{adds_one, adds-join, adds-more, line-fits, line-full, page-parts}
+use Rattle.lines.proofs.SentencesLaws.{adds_one, adds_join, adds_more, line-fits, line_full, page-parts}
 use borrow.Author.Rules.{rules}
 use Rattle.lines.proofs.text.read_page.Statement.{statement}
 use Rattle.lines.proofs.text.read_page.Tie as tie
@@ -31,7 +31,7 @@ add-rest-3 c = search rules
 returns : tie.Need-returns
 returns c =
     let a = c.before.before.before.before.before.before.args in
-    line-full a.text.now (pageLine a.c a.sequence a.writer a.page.now) (omega (arith, page-size a.c a.sequence a.writer a.page.now))
+    line_full a.text.now (page_line a.c a.sequence a.writer a.page.now) (omega (arith, page-size a.c a.sequence a.writer a.page.now))
 
 sub-show-fits : tie.Need-overflow-sub-show-fits
 sub-show-fits c = search rules
@@ -44,7 +44,7 @@ returns-2 c =
     let a = c.before.before.before.before.before.before.before.before.args in
     let f = c.before.show-fits in
     let h = leb-false (length (shown a.page.now)) _ (sym f.ensures ∙ not-true f.result c.if2.true) in
-    line-full a.text.now (pageLine a.c a.sequence a.writer a.page.now) (omega (arith, h, page-size a.c a.sequence a.writer a.page.now))
+    line_full a.text.now (page_line a.c a.sequence a.writer a.page.now) (omega (arith, h, page-size a.c a.sequence a.writer a.page.now))
 
 slice-aggregate-bytes : tie.Need-slice-aggregate-bytes
 slice-aggregate-bytes c = search rules
@@ -83,16 +83,16 @@ returns-3 c =
     let u = v.before.before.before.before in
     let t = u.before.before.before.before in
     let a = adds_one _ _ _ _ _ t.bytes.ensures in
-    let b = adds-join a u.spaced.ensures in
-    let d = adds-join b v.spaced2.ensures in
-    let e = adds-join d w.spaced3.ensures in
-    let f = adds-more _ _ _ e x.byte.ensures in
-    let g = adds-more _ _ _ f y.show.ensures in
+    let b = adds_join a u.spaced.ensures in
+    let d = adds_join b v.spaced2.ensures in
+    let e = adds_join d w.spaced3.ensures in
+    let f = adds_more _ _ _ e x.byte.ensures in
+    let g = adds_more _ _ _ f y.show.ensures in
     let s = c.before.before.before.before.before.before.before.before.before.before.before.before.before.before.before.before.before.before.before.before.before.before.before.before.before.before.before.before.before.before.before.before.before.before.before.before.before.args in
     let o = c.before.before.before.before.before.before.before.before.before.before.before.before.before.before.before.before.before.before.before.before.before.before.before.before.before.before.before.before.before in
     let p = o.before.before in
     let h = leb-true (length (shown s.page.now)) _ (sym o.before.show-fits.ensures ∙ not-false o.before.show-fits.result o.if2.false) in
-    line-fits (pageLine s.c s.sequence s.writer s.page.now) _ (omega (arith, h, page-size s.c s.sequence s.writer s.page.now, p.if1.false, p.before.width3.ensures.0, p.before.before.width2.ensures.0, p.before.before.before.width.ensures.0)) (page-parts s.c s.sequence s.writer s.page.now) (adds-more _ _ _ g z.byte2.ensures)
+    line-fits (page_line s.c s.sequence s.writer s.page.now) _ (omega (arith, h, page-size s.c s.sequence s.writer s.page.now, p.if1.false, p.before.width3.ensures.0, p.before.before.width2.ensures.0, p.before.before.before.width.ensures.0)) (page-parts s.c s.sequence s.writer s.page.now) (adds_more _ _ _ g z.byte2.ensures)
 
 pub read-page-spec : {M : Type 1} → statement M
 read-page-spec =

@@ -1,8 +1,8 @@
 -- The parts are put one after another, the last at z.
 use native.Mathlib.Omega.{arith}
-use Rattle.lines.specs.Sentences.{refusedLine}
+use Rattle.lines.specs.Sentences.{refused_line}
 use Rattle.lines.proofs.LengthLaws.{refused-size}
-use Rattle.lines.proofs.SentencesLaws.{adds_one, adds-join, adds-more, line-fits, line-full, refused-parts}
+use Rattle.lines.proofs.SentencesLaws.{adds_one, adds_join, adds_more, line-fits, line_full, refused-parts}
 use borrow.Author.Rules.{rules}
 use Rattle.lines.proofs.text.refused.Statement.{statement}
 use Rattle.lines.proofs.text.refused.Tie as tie
@@ -15,7 +15,7 @@ add-if1 c = search rules
 
 returns : tie.Need-returns
 returns c =
-    let a = c.before.before.before.args in line-full a.text.now (refusedLine a.x) (omega (arith, refused-size a.x))
+    let a = c.before.before.before.args in line_full a.text.now (refused_line a.x) (omega (arith, refused-size a.x))
 
 slice-aggregate-bytes : tie.Need-slice-aggregate-bytes
 slice-aggregate-bytes c = search rules
@@ -38,8 +38,8 @@ returns-2 c =
     let y = z.before.before.before.before in
     let x = y.before.before.before.before in
     let a = adds_one _ _ _ _ _ x.bytes.ensures in
-    let b = adds-join a y.spaced.ensures in
-    let s = c.before.before.before.before.before.before.before.before.before.before.before.before.before.before.before.before.args in line-fits (refusedLine s.x) _ (omega (arith, refused-size s.x)) (refused-parts s.x) (adds-more _ _ _ b z.byte.ensures)
+    let b = adds_join a y.spaced.ensures in
+    let s = c.before.before.before.before.before.before.before.before.before.before.before.before.before.before.before.before.args in line-fits (refused_line s.x) _ (omega (arith, refused-size s.x)) (refused-parts s.x) (adds_more _ _ _ b z.byte.ensures)
 
 pub refused-spec : {M : Type 1} → statement M
 refused-spec =

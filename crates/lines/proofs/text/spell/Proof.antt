@@ -3,13 +3,13 @@ use mathlib.Core.Path.{◌≡◌, sym}
 use Prim.Native.Nat.{◌-◌, ◌≤◌}
 use native.Mathlib.Omega.{arith}
 use lib.ListN.{length, take, length-set}
-use Rattle.lines.specs.Text.{over, hexOf}
+use Rattle.lines.specs.Text.{over, hex_of}
 use Rattle.lines.proofs.TextLaws.{hex-none, hex-more, hex-all}
 use Rattle.lines.proofs.text.spell.Statement.{statement}
 use Rattle.lines.proofs.text.spell.Tie as tie
 
 abbrev invariant-loop : tie.invariant-loop
-invariant-loop text₀ at b i₀ i-end text i = (i ≤ length b) × (length text ≡ length text₀) × (text ≡ over text₀ at (hexOf (take i b)))
+invariant-loop text₀ at b i₀ i-end text i = (i ≤ length b) × (length text ≡ length text₀) × (text ≡ over text₀ at (hex_of (take i b)))
 
 abbrev decreases-loop : tie.decreases-loop
 decreases-loop text₀ at b i₀ i-end text i = length b - i

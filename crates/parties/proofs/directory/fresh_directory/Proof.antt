@@ -7,10 +7,10 @@ use native.Mathlib.Omega.{arith}
 use borrow.Author.Tests.{not-true, not-false}
 use lib.ListN.{drop}
 use Rattle.parties.specs.protocol.Measures.{passes}
-use Rattle.parties.specs.protocol.Directory.{writeRow, fresh_row}
-use Rattle.parties.specs.protocol.DirectoryEvents.{directorySize}
-use Rattle.parties.proofs.records.SizeLaws.{row-bound, table-bound}
-use Rattle.parties.proofs.directory.RoomLaws.{built-length}
+use Rattle.parties.specs.protocol.Directory.{write_row, fresh_row}
+use Rattle.parties.specs.protocol.DirectoryEvents.{directory_size}
+use Rattle.parties.proofs.records.SizeLaws.{row_bound, table_bound}
+use Rattle.parties.proofs.directory.RoomLaws.{built_length}
 use Rattle.parties.proofs.directory.FreshLaws.{fresh-rows, fresh-measures, fresh-short, fresh-written}
 use Rattle.parties.proofs.directory.EndLaws.{ends-table}
 use Rattle.parties.proofs.directory.fresh_directory.Statement.{statement}
@@ -19,7 +19,7 @@ use Rattle.parties.proofs.directory.fresh_directory.Tie as tie
 good : (c : tie.Else1) → passes c.before.before.before.args.s ≡ true
 good c = let p = c.before.pass in sym p.ensures ∙ not-false p.result c.if1.false
 
-sized : (c : tie.After-struct-known) → c.before.before.before.before.before.args.s.m * c.before.row-size.result ≡ directorySize c.before.before.before.before.before.args.s
+sized : (c : tie.After-struct-known) → c.before.before.before.before.before.args.s.m * c.before.row-size.result ≡ directory_size c.before.before.before.before.before.args.s
 sized c = ap (λ (k : ℕ). c.before.before.before.before.before.args.s.m * k) c.before.row-size.ensures
 
 pass-requires : tie.Need-pass-requires
@@ -34,7 +34,7 @@ row-size-requires : tie.Need-row-size-requires
 row-size-requires c κs = good c
 
 mul-if2 : tie.Need-overflow-mul-if2
-mul-if2 c = omega (arith, sized c, table-bound c.before.before.before.before.before.args.s (good c.before.before))
+mul-if2 c = omega (arith, sized c, table_bound c.before.before.before.before.before.args.s (good c.before.before))
 
 returns-2 : tie.Need-returns-2
 returns-2 c =
@@ -54,7 +54,7 @@ repeat-requires c κs =
     let a = c.before.before.before.before.before.before.before.before.before.before.before.args in
     let r = c.before.before.before.before.before.before.before.row-size in
     let f = c.before.before.before.fresh-row in
-    (omega (arith, r.ensures, row-bound a.s (good c.before.before.before.before.before.before.before.before), built-length (writeRow (fresh_row a.s)) f.new.1.0 f.ensures), c.before.before.before.before.before.if2.false)
+    (omega (arith, r.ensures, row_bound a.s (good c.before.before.before.before.before.before.before.before), built_length (write_row (fresh_row a.s)) f.new.1.0 f.ensures), c.before.before.before.before.before.if2.false)
 
 same_length : tie.Need-same-length
 same_length c = search rules

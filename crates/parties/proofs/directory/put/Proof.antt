@@ -1,7 +1,7 @@
 use borrow.Author.Rules.{rules}
 use mathlib.Core.Path.{◌∙◌}
 use native.Mathlib.Omega.{arith}
-use Rattle.parties.proofs.directory.RebuildLaws.{put_record, put-row}
+use Rattle.parties.proofs.directory.RebuildLaws.{put_record, put_row}
 use Rattle.parties.proofs.directory.put.Statement.{statement}
 use Rattle.parties.proofs.directory.put.Tie as tie
 
@@ -38,7 +38,7 @@ copy-requires-2 : tie.Need-copy-requires-2
 copy-requires-2 c κs =
     let x = c.before.before.before.before.before.args in
     let p = c.before.before.before.before.before.requires in
-    let q = put-row x.room.now x.at x.fields.now x.a x.b x.table.now x.c x.d x.stands c.before.if1.false p.2 p.3 in
+    let q = put_row x.room.now x.at x.fields.now x.a x.b x.table.now x.c x.d x.stands c.before.if1.false p.2 p.3 in
     (omega (arith, q.0, p.4), omega (arith, p.2, p.3))
 
 sub-result-2 : tie.Need-overflow-sub-result-2
@@ -54,7 +54,7 @@ returns-2 : tie.Need-returns-2
 returns-2 c =
     let x = c.before.before.before.before.before.before.before.before.args in
     let p = c.before.before.before.before.before.before.before.before.requires in
-    let q = put-row x.room.now x.at x.fields.now x.a x.b x.table.now x.c x.d x.stands c.before.before.before.before.if1.false p.2 p.3 in
+    let q = put_row x.room.now x.at x.fields.now x.a x.b x.table.now x.c x.d x.stands c.before.before.before.before.if1.false p.2 p.3 in
     (q.0, c.before.before.copy2.ensures ∙ q.1)
 
 pub put_spec : {M : Type 1} → statement M

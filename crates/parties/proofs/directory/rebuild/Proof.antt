@@ -4,9 +4,9 @@ use mathlib.Core.List.{List, [], ◌∷◌, ◌++◌}
 use Prim.Native.Nat.{ℕ, ◌+◌, ◌≤◌}
 use native.Mathlib.Omega.{arith}
 use lib.ListN.{length, get_or, length-append, length-replicate}
-use Rattle.parties.specs.directory.Room.{longestRow, Built}
-use Rattle.parties.proofs.directory.RoomLaws.{built-length, built-map}
-use Rattle.parties.proofs.directory.RebuildLaws.{writtenPart, frozenPart, indicesPart, indexPart, renewed-length, renewed-parts, rebuild-more}
+use Rattle.parties.specs.directory.Room.{longest_row, Built}
+use Rattle.parties.proofs.directory.RoomLaws.{built_length, built_map}
+use Rattle.parties.proofs.directory.RebuildLaws.{written_part, frozen_part, indices_part, index_part, renewed-length, renewed-parts, rebuild_more}
 use Rattle.parties.proofs.directory.rebuild.Statement.{statement}
 use Rattle.parties.proofs.directory.rebuild.Tie as tie
 
@@ -15,26 +15,26 @@ abbrev map : tie.Start → ℕ
 map c = get_or c.args.fields.now 0 0
 
 abbrev w : tie.Start → List ℕ
-w c = writtenPart (map c) c.args.fields.now c.args.e c.args.table.now c.args.at c.args.f
+w c = written_part (map c) c.args.fields.now c.args.e c.args.table.now c.args.at c.args.f
 
 abbrev p : tie.Start → List ℕ
-p c = frozenPart (map c) c.args.fields.now c.args.e c.args.table.now c.args.f
+p c = frozen_part (map c) c.args.fields.now c.args.e c.args.table.now c.args.f
 
 abbrev i : tie.Start → List ℕ
-i c = indicesPart (map c) c.args.fields.now c.args.e c.args.table.now c.args.f
+i c = indices_part (map c) c.args.fields.now c.args.e c.args.table.now c.args.f
 
 abbrev j : tie.Start → List ℕ
-j c = indexPart (map c) c.args.fields.now c.args.e c.args.table.now c.args.f
+j c = index_part (map c) c.args.fields.now c.args.e c.args.table.now c.args.f
 
 -- all of them find room
-room : (c : tie.Start) → 1 + length (w c) + length (p c) + length (i c) + length (j c) ≤ longestRow
+room : (c : tie.Start) → 1 + length (w c) + length (p c) + length (i c) + length (j c) ≤ longest_row
 room c =
     omega (arith, c.requires.4, renewed-length (map c) c.args.fields.now c.args.e c.args.table.now c.args.at c.args.f)
 
 one : (c : tie.After-put) → let o = c.before.before.before.before.before.before in Built ((15 ∷ []) ++ w o) c.put.new.0 × (c.put.result ≡ 1 + length (w o))
 one c =
     let o = c.before.before.before.before.before.before in
-    let m = rebuild-more (15 ∷ []) _ (w o) 1 (built-map o.args.room.now o.requires.1) refl (omega (arith, room o)) in
+    let m = rebuild_more (15 ∷ []) _ (w o) 1 (built_map o.args.room.now o.requires.1) refl (omega (arith, room o)) in
     (rw c.put.ensures.1 m, c.put.ensures.0)
 
 two : (c : tie.After-put2) → let o = c.before.before.before.before.before.before.before.before.before.before in Built (((15 ∷ []) ++ w o) ++ p o) c.put2.new.0 × (c.put2.result ≡ 1 + length (w o) + length (p o))
@@ -42,7 +42,7 @@ two c =
     let o = c.before.before.before.before.before.before.before.before.before.before in
     let l = one c.before.before.before.before in
     let n : length ((15 ∷ []) ++ w o) ≡ c.before.before.before.before.put.result = omega (arith, l.1) in
-    let m = rebuild-more ((15 ∷ []) ++ w o) _ (p o) c.before.before.before.before.put.result l.0 n (omega (arith, room o, l.1)) in
+    let m = rebuild_more ((15 ∷ []) ++ w o) _ (p o) c.before.before.before.before.put.result l.0 n (omega (arith, room o, l.1)) in
     (rw c.put2.ensures.1 m, omega (arith, c.put2.ensures.0, l.1))
 
 three : (c : tie.After-put3) → let o = c.before.before.before.before.before.before.before.before.before.before.before.before.before.before in Built ((((15 ∷ []) ++ w o) ++ p o) ++ i o) c.put3.new.0
@@ -51,7 +51,7 @@ three c =
     let o = c.before.before.before.before.before.before.before.before.before.before.before.before.before.before in
     let l = two c.before.before.before.before in
     let n : length (((15 ∷ []) ++ w o) ++ p o) ≡ c.before.before.before.before.put2.result = omega (arith, l.1, length-append ((15 ∷ []) ++ w o) (p o)) in
-    let m = rebuild-more (((15 ∷ []) ++ w o) ++ p o) _ (i o) c.before.before.before.before.put2.result l.0 n (omega (arith, room o, l.1)) in
+    let m = rebuild_more (((15 ∷ []) ++ w o) ++ p o) _ (i o) c.before.before.before.before.put2.result l.0 n (omega (arith, room o, l.1)) in
     (rw c.put3.ensures.1 m, omega (arith, c.put3.ensures.0, l.1))
 
 four : (c : tie.After-put4) → let o = c.before.before.before.before.before.before.before.before.before.before.before.before.before.before.before.before.before.before in Built (((((15 ∷ []) ++ w o) ++ p o) ++ i o) ++ j o) c.put4.new.0
@@ -61,14 +61,14 @@ four c =
     let n : length ((((15 ∷ []) ++ w o) ++ p o) ++ i o) ≡ c.before.before.before.before.put3.result =
     omega (arith, l.1, length-append (((15 ∷ []) ++ w o) ++ p o) (i o), length-append ((15 ∷ []) ++ w o) (p o))
     in
-    let m = rebuild-more ((((15 ∷ []) ++ w o) ++ p o) ++ i o) _ (j o) c.before.before.before.before.put3.result l.0 n (omega (arith, room o, l.1)) in
+    let m = rebuild_more ((((15 ∷ []) ++ w o) ++ p o) ++ i o) _ (j o) c.before.before.before.before.put3.result l.0 n (omega (arith, room o, l.1)) in
     rw c.put4.ensures.1 m
 
 shared-slice-read-map : tie.Need-shared-slice-read-map
 shared-slice-read-map c = search rules
 
 slice-write-room : tie.Need-slice-write-room
-slice-write-room c = omega (arith, ap length c.before.before.before.before.requires.1, length-replicate {A = ℕ} longestRow 0)
+slice-write-room c = omega (arith, ap length c.before.before.before.before.requires.1, length-replicate {A = ℕ} longest_row 0)
 
 add-put : tie.Need-overflow-add-put
 add-put c = search rules
@@ -78,7 +78,7 @@ put-requires c κs =
     let o = c.before.before.before.before.before in
     let e = o.requires.2 in
     let f = o.requires.3 in
-    let l = built-length (15 ∷ []) _ (built-map o.args.room.now o.requires.1) in
+    let l = built_length (15 ∷ []) _ (built_map o.args.room.now o.requires.1) in
     (e.0, omega (arith, e), f.0, omega (arith, f), omega (arith, room o, l))
 
 put-requires-2 : tie.Need-put-requires-2
@@ -87,7 +87,7 @@ put-requires-2 c κs =
     let e = o.requires.2 in
     let f = o.requires.3 in
     let x = one c.before.before.before in
-    let l = built-length _ _ x.0 in (e.1, omega (arith, e), f.1, omega (arith, f), omega (arith, room o, l, x.1))
+    let l = built_length _ _ x.0 in (e.1, omega (arith, e), f.1, omega (arith, f), omega (arith, room o, l, x.1))
 
 put-requires-3 : tie.Need-put-requires-3
 put-requires-3 c κs =
@@ -95,7 +95,7 @@ put-requires-3 c κs =
     let e = o.requires.2 in
     let f = o.requires.3 in
     let x = two c.before.before.before in
-    let l = built-length _ _ x.0 in (e.2, omega (arith, e), f.2, omega (arith, f), omega (arith, room o, l, x.1))
+    let l = built_length _ _ x.0 in (e.2, omega (arith, e), f.2, omega (arith, f), omega (arith, room o, l, x.1))
 
 put-requires-4 : tie.Need-put-requires-4
 put-requires-4 c κs =
@@ -103,10 +103,10 @@ put-requires-4 c κs =
     let e = o.requires.2 in
     let f = o.requires.3 in
     let x = three c.before.before.before in
-    let l = built-length _ _ x.0 in (e.3, omega (arith, e), f.3, omega (arith, f), omega (arith, room o, l, x.1))
+    let l = built_length _ _ x.0 in (e.3, omega (arith, e), f.3, omega (arith, f), omega (arith, room o, l, x.1))
 
 same_length : tie.Need-same-length
-same_length c = built-length _ _ (four c.before.before) ∙ sym (ap length c.before.before.before.before.before.before.before.before.before.before.before.before.before.before.before.before.before.before.before.before.requires.1 ∙ length-replicate {A = ℕ} longestRow 0)
+same_length c = built_length _ _ (four c.before.before) ∙ sym (ap length c.before.before.before.before.before.before.before.before.before.before.before.before.before.before.before.before.before.before.before.before.requires.1 ∙ length-replicate {A = ℕ} longest_row 0)
 
 returns : tie.Need-returns
 returns c =

@@ -3,15 +3,15 @@ use mathlib.Core.Path.{refl, sym, subst}
 use Prim.Native.Nat.{◌+◌}
 use native.Mathlib.Omega.{arith}
 use lib.ListN.{drop}
-use Rattle.parties.specs.protocol.Measures.{rowSize}
-use Rattle.parties.specs.protocol.Pointer.{readPointer}
+use Rattle.parties.specs.protocol.Measures.{row_size}
+use Rattle.parties.specs.protocol.Pointer.{read_pointer}
 use Rattle.parties.specs.declared.records.form.Rule.{Rule}
 use Rattle.parties.specs.records.Form.{Ended}
 use Rattle.parties.specs.directory.Room.{Renewed}
-use Rattle.parties.proofs.records.SizeLaws.{row-bound}
-use Rattle.parties.proofs.records.RecordLaws.{parted-sound, parted-broken}
-use Rattle.parties.proofs.directory.RoomLaws.{built-length}
-use Rattle.parties.proofs.directory.UpdateEndLaws.{row-fields-sound, renewed-fits, renewed-end}
+use Rattle.parties.proofs.records.SizeLaws.{row_bound}
+use Rattle.parties.proofs.records.RecordLaws.{parted_sound, parted_broken}
+use Rattle.parties.proofs.directory.RoomLaws.{built_length}
+use Rattle.parties.proofs.directory.UpdateEndLaws.{row_fields_sound, renewed-fits, renewed_end}
 use Rattle.parties.proofs.directory.renew.Statement.{statement}
 use Rattle.parties.proofs.directory.renew.Tie as tie
 
@@ -34,13 +34,13 @@ returns : tie.Need-returns
 returns c = λ u r p q.
     let a = c.before.before.before.before.before.before.args in
     let f = c.before.before.field-ends in
-    absurd (row-fields-sound a.s a.table.now a.at (record { value = r; rest = drop (a.at + rowSize a.s) a.table.now }) (λ i. (c.before.before.before.before.slice-known.given i).fits) q
-    (parted-broken a.s Rule.Proper a.table.now (a.at + 1) 15 f.result f.ensures c.enum_told.given.1))
+    absurd (row_fields_sound a.s a.table.now a.at (record { value = r; rest = drop (a.at + row_size a.s) a.table.now }) (λ i. (c.before.before.before.before.slice-known.given i).fits) q
+    (parted_broken a.s Rule.Proper a.table.now (a.at + 1) 15 f.result f.ensures c.enum_told.given.1))
 
-ended : (c : tie.After-known-told) → let a = c.before.before.before.before.before.before.before.args in Ended a.s (readPointer a.s) a.table.now (a.at + 1) 15 c.before.f.given.0.0
+ended : (c : tie.After-known-told) → let a = c.before.before.before.before.before.before.before.args in Ended a.s (read_pointer a.s) a.table.now (a.at + 1) 15 c.before.f.given.0.0
 ended c =
     let a = c.before.before.before.before.before.before.before.args in
-    let f = c.before.before.before.field-ends in parted-sound a.s Rule.Proper a.table.now (a.at + 1) 15 f.result f.ensures c.before.f.given.0.0 c.before.f.given.1
+    let f = c.before.before.before.field-ends in parted_sound a.s Rule.Proper a.table.now (a.at + 1) 15 f.result f.ensures c.before.f.given.0.0 c.before.f.given.1
 
 slice-aggregate-rebuild : tie.Need-slice-aggregate-rebuild
 slice-aggregate-rebuild c = search rules
@@ -55,7 +55,7 @@ rebuild-requires c κs =
       p.3.2.ordered,
       e.ordered,
       renewed-fits a.s p.0 a.fields.now a.table.now a.at a.e c.before.before.before.f.given.0.0 (λ i. (c.before.before.before.before.before.before.before.before.shared-slice-known.given i).fits) (λ i. (c.before.before.before.before.before.before.before.slice-known.given i).fits)
-          p.3 e (drop (a.at + rowSize a.s) a.table.now) p.4,
+          p.3 e (drop (a.at + row_size a.s) a.table.now) p.4,
     )
 
 slice-aggregate-copy : tie.Need-slice-aggregate-copy
@@ -66,7 +66,7 @@ copy-requires c κs =
     let a = c.before.before.before.before.before.before.before.before.before.before.before.before.before.args in
     let p = c.before.before.before.before.before.before.before.before.before.before.before.before.before.requires in
     let r = c.before.before.before.rebuild in
-    (omega (arith, p.1, p.2), omega (arith, p.1, row-bound a.s p.0, built-length _ r.new.1.1.1.1.1.0 r.ensures))
+    (omega (arith, p.1, p.2), omega (arith, p.1, row_bound a.s p.0, built_length _ r.new.1.1.1.1.1.0 r.ensures))
 
 same-length-2 : tie.Need-same-length-2
 same-length-2 c = search rules
@@ -77,7 +77,7 @@ returns-2 c =
     let p = c.before.before.before.before.before.before.before.before.before.before.before.before.before.before.before.before.requires in
     let r = c.before.before.before.before.before.before.rebuild in
     subst (Renewed a.s a.at a.fields.now a.table.now) (sym c.before.before.copy.ensures)
-    (renewed-end a.s p.0 a.fields.now a.table.now a.at a.e c.before.before.before.before.before.before.before.before.before.before.f.given.0.0 (λ i. (c.before.before.before.before.before.before.before.before.before.before.before.before.before.before.before.shared-slice-known.given i).fits) (λ i. (c.before.before.before.before.before.before.before.before.before.before.before.before.before.before.slice-known.given i).fits)
+    (renewed_end a.s p.0 a.fields.now a.table.now a.at a.e c.before.before.before.before.before.before.before.before.before.before.f.given.0.0 (λ i. (c.before.before.before.before.before.before.before.before.before.before.before.before.before.before.before.shared-slice-known.given i).fits) (λ i. (c.before.before.before.before.before.before.before.before.before.before.before.before.before.before.slice-known.given i).fits)
     p.3 (ended c.before.before.before.before.before.before.before.before.before) r.new.1.1.1.1.1.0 r.ensures a.size p.1)
 
 pub renew-spec : {M : Type 1} → statement M

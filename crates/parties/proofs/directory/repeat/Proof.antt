@@ -5,20 +5,20 @@ use native.Mathlib.Omega.{arith}
 use lib.ListN.{length, take, drop, replicate}
 use lib.Seq.{length-take-le, paste}
 use Rattle.coding.proofs.BytesLaws.{stride}
-use Rattle.parties.specs.protocol.Format.{writeMany}
+use Rattle.parties.specs.protocol.Format.{write_many}
 use Rattle.parties.proofs.records.SizeLaws.{below_rows}
-use Rattle.parties.proofs.directory.RoomLaws.{many-pasted}
+use Rattle.parties.proofs.directory.RoomLaws.{many_pasted}
 use Rattle.parties.proofs.directory.repeat.Statement.{statement}
 use Rattle.parties.proofs.directory.repeat.Tie as tie
 
 abbrev invariant-loop : tie.invariant-loop
-invariant-loop rows size row table₀ at₀ i₀ table at i = (i ≤ rows) × (at ≡ i * size) × (length table ≡ length table₀) × (table ≡ writeMany (λ d. d) (replicate i (take size row)) ++ drop (i * size) table₀)
+invariant-loop rows size row table₀ at₀ i₀ table at i = (i ≤ rows) × (at ≡ i * size) × (length table ≡ length table₀) × (table ≡ write_many (λ d. d) (replicate i (take size row)) ++ drop (i * size) table₀)
 
 abbrev decreases-loop : tie.decreases-loop
 decreases-loop rows size row table₀ at₀ i₀ table at i = rows - i
 
 loop-holds : tie.Need-loop-init invariant-loop decreases-loop
-unfolding writeMany
+unfolding write_many
 loop-holds c =
     let a = c.before.before.args in
     let e : 0 * a.size ≡ 0 = omega arith in (omega arith, omega arith, refl, ap (λ (k : ℕ). drop k a.table.now) (sym e))
@@ -53,8 +53,8 @@ loop-again c =
       omega arith,
       y.auto.0 ∙ l.invariant.2,
       y.ensures ∙ ap (λ (k : ℕ). paste l.table k a.row.now a.size) e
-          ∙ many-pasted (λ d. d) x a.size l.i a.table.now l.table a.row.now (length-take-le a.size a.row.now c.before.before.before.before.before.before.before.before.requires.0) refl l.invariant.3
-          ∙ ap (λ (k : ℕ). writeMany (λ d. d) (replicate (l.i + 1) x) ++ drop k a.table.now) d,
+          ∙ many_pasted (λ d. d) x a.size l.i a.table.now l.table a.row.now (length-take-le a.size a.row.now c.before.before.before.before.before.before.before.before.requires.0) refl l.invariant.3
+          ∙ ap (λ (k : ℕ). write_many (λ d. d) (replicate (l.i + 1) x) ++ drop k a.table.now) d,
     )
 
 same_length : tie.Need-same-length invariant-loop decreases-loop
@@ -65,7 +65,7 @@ returns c =
     let a = c.before.before.before.before.args in
     let l = c.before.loop in
     let e : l.i ≡ a.rows = omega (arith, c.loop-test.false) in
-    l.invariant.3 ∙ ap (λ (k : ℕ). writeMany (λ d. d) (replicate k (take a.size a.row.now)) ++ drop (k * a.size) a.table.now) e
+    l.invariant.3 ∙ ap (λ (k : ℕ). write_many (λ d. d) (replicate k (take a.size a.row.now)) ++ drop (k * a.size) a.table.now) e
 
 pub repeat-spec : {M : Type 1} → statement M
 repeat-spec =

@@ -7,60 +7,60 @@ use Prim.Native.Nat.{ℕ, ◌+◌, ◌*◌, ◌≤◌}
 use native.Mathlib.Omega.{arith}
 use borrow.Author.Tests.{not-true, not-false}
 use lib.ListN.{length, drop}
-use Rattle.parties.specs.protocol.Measures.{passes, rowSize}
+use Rattle.parties.specs.protocol.Measures.{passes, row_size}
 use Rattle.parties.specs.protocol.Answer.{refuses}
-use Rattle.parties.specs.protocol.Directory.{readRow}
-use Rattle.parties.specs.protocol.DirectoryEvents.{directorySize, directoryUpdate}
+use Rattle.parties.specs.protocol.Directory.{read_row}
+use Rattle.parties.specs.protocol.DirectoryEvents.{directory_size, directory_update}
 use Rattle.parties.specs.declared.records.form.Record.{Record}
 use Rattle.parties.specs.declared.records.form.Table.{Table}
 use Rattle.parties.specs.records.Answer.{number}
 use Rattle.parties.specs.records.Form.{rest, Tabled, Recorded}
 use Rattle.parties.specs.directory.Room.{Renewed}
-use Rattle.parties.proofs.records.RecordLaws.{tabled-sound, tabled-broken}
+use Rattle.parties.proofs.records.RecordLaws.{tabled_sound, tabled_broken}
 use Rattle.parties.proofs.protocol.model.Cells.{and_none}
-use Rattle.parties.proofs.records.SizeLaws.{table-bound, below_rows}
+use Rattle.parties.proofs.records.SizeLaws.{table_bound, below_rows}
 use Rattle.parties.proofs.directory.EndLaws.{ends-table}
-use Rattle.parties.proofs.directory.UpdateEndLaws.{recorded-sound, recorded-broken, own-row-left, update-measures, update-short, update-number, update-broken-table, update-broken-record, update-foreign, update-done}
+use Rattle.parties.proofs.directory.UpdateEndLaws.{recorded_sound, recorded_broken, own_row_left, update-measures, update-short, update-number, update-broken-table, update_broken_record, update_foreign, update-done}
 use Rattle.parties.proofs.directory.update.Statement.{statement}
 use Rattle.parties.proofs.directory.update.Tie as tie
 
 good : (c : tie.Else1) → passes c.before.before.before.before.args.s ≡ true
 good c = let p = c.before.pass in sym p.ensures ∙ not-false p.result c.if1.false
 
-sized : (c : tie.After-struct-known) → c.before.before.before.before.before.before.args.s.m * c.before.row-size.result ≡ directorySize c.before.before.before.before.before.before.args.s
+sized : (c : tie.After-struct-known) → c.before.before.before.before.before.before.args.s.m * c.before.row-size.result ≡ directory_size c.before.before.before.before.before.before.args.s
 sized c = ap (λ (k : ℕ). c.before.before.before.before.before.before.args.s.m * k) c.before.row-size.ensures
 
-enough : (c : tie.Else2) → directorySize c.before.before.before.before.before.before.before.args.s ≤ length c.before.before.before.before.before.before.before.args.table.now
+enough : (c : tie.Else2) → directory_size c.before.before.before.before.before.before.before.args.s ≤ length c.before.before.before.before.before.before.before.args.table.now
 enough c = omega (arith, sized c.before, c.if2.false)
 
 -- the table reads
 read : (c : tie.After-known-told) → let a = c.before.before.before.before.before.before.before.before.before.before.before.before.before.before.args in Tabled a.s a.table.now (Table.Sound c.before.all.given.0.0)
 read c =
     let a = c.before.before.before.before.before.before.before.before.before.before.before.before.before.before.args in
-    let r = c.before.before.before.rows in tabled-sound a.s a.table.now r.result r.ensures c.before.all.given.0.0 c.before.all.given.1
+    let r = c.before.before.before.rows in tabled_sound a.s a.table.now r.result r.ensures c.before.all.given.0.0 c.before.all.given.1
 
 -- and so does the record
 recorded : (c : tie.After-known-told3) → let a = c.before.before.before.before.before.before.before.before.before.before.before.before.before.before.before.before.before.before.args in Recorded a.s a.own a.fields.now (Record.Sound c.before.e.given.0.0 c.before.e.given.0.1.0)
 recorded c =
     let a = c.before.before.before.before.before.before.before.before.before.before.before.before.before.before.before.before.before.before.args in
-    let r = c.before.before.before.whole-record in recorded-sound a.s a.own a.fields.now r.result r.ensures c.before.e.given.0.0 c.before.e.given.0.1.0 c.before.e.given.1
+    let r = c.before.before.before.whole-record in recorded_sound a.s a.own a.fields.now r.result r.ensures c.before.e.given.0.0 c.before.e.given.0.1.0 c.before.e.given.1
 
 -- a pointer is not its owner's
 foreign : (c : tie.After-known-told3) → let a = c.before.before.before.before.before.before.before.before.before.before.before.before.before.before.before.before.before.before.args in (c.before.before.before.before.before.all.given.0.0 && c.before.e.given.0.1.0) ≡ false
-    → directoryUpdate a.s a.own a.table.now a.fields.now ≡ record { answer = refuses 14; table = a.table.now; room = [] }
+    → directory_update a.s a.own a.table.now a.fields.now ≡ record { answer = refuses 14; table = a.table.now; room = [] }
 foreign c f =
     let a = c.before.before.before.before.before.before.before.before.before.before.before.before.before.before.before.before.before.before.args in
     let t = read c.before.before.before.before in
-    update-foreign a.s a.own a.table.now a.fields.now (good c.before.before.before.before.before.before.before.before.before.before.before.before.before.before) (enough c.before.before.before.before.before.before.before.before.before.before.before) c.before.before.before.before.before.before.before.before.before.if3.false
-    c.before.before.before.before.before.all.given.0.0 c.before.e.given.0.1.0 (drop (a.s.m * rowSize a.s) a.table.now) t.0 t.1
+    update_foreign a.s a.own a.table.now a.fields.now (good c.before.before.before.before.before.before.before.before.before.before.before.before.before.before) (enough c.before.before.before.before.before.before.before.before.before.before.before) c.before.before.before.before.before.before.before.before.before.if3.false
+    c.before.before.before.before.before.all.given.0.0 c.before.e.given.0.1.0 (drop (a.s.m * row_size a.s) a.table.now) t.0 t.1
     (λ i. (c.before.before.before.before.before.before.before.before.before.before.before.before.before.before.before.before.shared-slice-known.given i).fits) c.before.e.given.0.0 (recorded c) f
 
 -- the client's row stands within the table
-placed : (c : tie.After-known-told3) → let a = c.before.before.before.before.before.before.before.before.before.before.before.before.before.before.before.before.before.before.args in (a.own * c.before.before.before.before.before.before.before.before.before.before.before.before.before.row-size.result ≡ a.own * rowSize a.s) × (a.own * rowSize a.s + rowSize a.s ≤ length a.table.now)
+placed : (c : tie.After-known-told3) → let a = c.before.before.before.before.before.before.before.before.before.before.before.before.before.before.before.before.before.before.args in (a.own * c.before.before.before.before.before.before.before.before.before.before.before.before.before.row-size.result ≡ a.own * row_size a.s) × (a.own * row_size a.s + row_size a.s ≤ length a.table.now)
 placed c =
     let a = c.before.before.before.before.before.before.before.before.before.before.before.before.before.before.before.before.before.before.args in (
       ap (λ (k : ℕ). a.own * k) c.before.before.before.before.before.before.before.before.before.before.before.before.before.row-size.ensures,
-      omega (arith, enough c.before.before.before.before.before.before.before.before.before.before.before, below_rows a.own a.s.m (rowSize a.s) c.before.before.before.before.before.before.before.before.before.if3.false),
+      omega (arith, enough c.before.before.before.before.before.before.before.before.before.before.before, below_rows a.own a.s.m (row_size a.s) c.before.before.before.before.before.before.before.before.before.if3.false),
     )
 
 pass-requires : tie.Need-pass-requires
@@ -76,7 +76,7 @@ row-size-requires : tie.Need-row-size-requires
 row-size-requires c κs = good c
 
 mul-if2 : tie.Need-overflow-mul-if2
-mul-if2 c = omega (arith, sized c, table-bound c.before.before.before.before.before.before.args.s (good c.before.before))
+mul-if2 c = omega (arith, sized c, table_bound c.before.before.before.before.before.before.args.s (good c.before.before))
 
 returns-2 : tie.Need-returns-2
 returns-2 c =
@@ -105,7 +105,7 @@ returns-4 c =
     let a = c.before.before.before.before.before.before.before.before.before.before.before.before.before.args in
     let r = c.before.before.rows in
     ends-table _ _ (update-broken-table a.s a.own a.table.now a.fields.now (good c.before.before.before.before.before.before.before.before.before) (enough c.before.before.before.before.before.before) c.before.before.before.before.if3.false
-    (tabled-broken a.s a.table.now r.result r.ensures c.enum_told.given.1))
+    (tabled_broken a.s a.table.now r.result r.ensures c.enum_told.given.1))
 
 whole-record-requires : tie.Need-whole-record-requires
 whole-record-requires c κs = good c.before.before.before.before.before.before.before.before.before.before
@@ -143,8 +143,8 @@ renew-requires c κs =
       c.before.before.before.before.before.before.before.before.before.before.before.before.before.before.before.before.row-size.ensures,
       omega (arith, q),
       (recorded c.before.before.before).0,
-      subst (λ (k : ℕ). rest (readRow a.s (drop k t)) ≡ some (drop (k + rowSize a.s) t)) (sym q.0)
-          (own-row-left a.s t (λ i. (c.before.before.before.before.before.before.before.before.before.before.before.before.before.before.before.before.before.before.before.before.slice-known.given i).fits) a.own c.before.before.before.before.before.before.before.before.before.before.before.before.if3.false (drop (a.s.m * rowSize a.s) t) (read c.before.before.before.before.before.before.before).0),
+      subst (λ (k : ℕ). rest (read_row a.s (drop k t)) ≡ some (drop (k + row_size a.s) t)) (sym q.0)
+          (own_row_left a.s t (λ i. (c.before.before.before.before.before.before.before.before.before.before.before.before.before.before.before.before.before.before.before.before.slice-known.given i).fits) a.own c.before.before.before.before.before.before.before.before.before.before.before.before.if3.false (drop (a.s.m * row_size a.s) t) (read c.before.before.before.before.before.before.before).0),
     )
 
 same-length-4 : tie.Need-same-length-4
@@ -155,8 +155,8 @@ returns-7 c =
     let a = c.before.before.before.before.before.before.before.before.before.before.before.before.before.before.before.before.before.before.args in
     let r = c.before.before.before.whole-record in
     let n = c.before.r.given.0.0 in
-    ends-table _ _ (update-broken-record a.s a.own a.table.now a.fields.now (good c.before.before.before.before.before.before.before.before.before.before.before.before.before.before) (enough c.before.before.before.before.before.before.before.before.before.before.before) c.before.before.before.before.before.before.before.before.before.if3.false
-    (drop (a.s.m * rowSize a.s) a.table.now) (read c.before.before.before.before).0 (number n) (recorded-broken a.s a.own a.fields.now r.result r.ensures n c.before.r.given.1))
+    ends-table _ _ (update_broken_record a.s a.own a.table.now a.fields.now (good c.before.before.before.before.before.before.before.before.before.before.before.before.before.before) (enough c.before.before.before.before.before.before.before.before.before.before.before) c.before.before.before.before.before.before.before.before.before.if3.false
+    (drop (a.s.m * row_size a.s) a.table.now) (read c.before.before.before.before).0 (number n) (recorded_broken a.s a.own a.fields.now r.result r.ensures n c.before.r.given.1))
 
 same-length-5 : tie.Need-same-length-5
 same-length-5 c = search rules
@@ -169,7 +169,7 @@ returns-8 c =
     let owned = c.before.before.before.before.before.before.before.e.given.0.1.0 in
     let r = c.before.before.renew in
     ends-table _ _ (update-done a.s a.own a.table.now a.fields.now (good c.before.before.before.before.before.before.before.before.before.before.before.before.before.before.before.before.before.before.before.before) (enough c.before.before.before.before.before.before.before.before.before.before.before.before.before.before.before.before.before) c.before.before.before.before.before.before.before.before.before.before.before.before.before.before.before.if3.false
-    all owned (drop (a.s.m * rowSize a.s) a.table.now) t.0 t.1 (λ i. (c.before.before.before.before.before.before.before.before.before.before.before.before.before.before.before.before.before.before.before.before.before.before.before.slice-known.given i).fits) (λ i. (c.before.before.before.before.before.before.before.before.before.before.before.before.before.before.before.before.before.before.before.before.before.before.shared-slice-known.given i).fits)
+    all owned (drop (a.s.m * row_size a.s) a.table.now) t.0 t.1 (λ i. (c.before.before.before.before.before.before.before.before.before.before.before.before.before.before.before.before.before.before.before.before.before.before.before.slice-known.given i).fits) (λ i. (c.before.before.before.before.before.before.before.before.before.before.before.before.before.before.before.before.before.before.before.before.before.before.shared-slice-known.given i).fits)
     c.before.before.before.before.before.before.before.e.given.0.0 (recorded c.before.before.before.before.before.before)
     (ap (λ (b : Bool). b && owned) (not-false all c.before.before.before.before.before.if4.false) ∙ not-false owned c.before.before.before.before.if5.false) r.new.1.1.1.1.1.0
     (subst (λ (k : ℕ). Renewed a.s k a.fields.now a.table.now r.new.1.1.1.1.1.0) (placed c.before.before.before.before.before.before).0 r.ensures))

@@ -4,8 +4,8 @@ use mathlib.Core.Bool.{true}
 use native.Mathlib.Nat.{mul-le-mul_right}
 use native.Mathlib.Omega.{arith}
 use borrow.Author.Tests.{not-true, not-false}
-use Rattle.parties.specs.protocol.Measures.{placeSize}
-use Rattle.parties.specs.node.ToNode.{freeSound}
+use Rattle.parties.specs.protocol.Measures.{place_size}
+use Rattle.parties.specs.node.ToNode.{free_sound}
 use Rattle.parties.proofs.node.EndLaws.{broken-free, filled, listing, freed}
 use Rattle.parties.proofs.node.free.Statement.{statement}
 use Rattle.parties.proofs.node.free.Tie as tie
@@ -34,7 +34,7 @@ release-requires c κs =
     let a = c.before.before.before.before.before.before.before.before.before.args in
     let free-sound = c.before.before.before.before.before.free-sound in
     let p = c.before.before.before.before.before.before.before.before.before.requires in
-    let q : freeSound a.s a.b.now ≡ true = sym free-sound.ensures ∙ not-false free-sound.result
+    let q : free_sound a.s a.b.now ≡ true = sym free-sound.ensures ∙ not-false free-sound.result
     c.before.before.before.before.if1.false in
     listing a.s a.t.now a.b.now a.room.now p.0 c.before.length_at.result c.before.length_at.ensures.0 p.1 q
 
@@ -47,7 +47,7 @@ mul-clear c =
       filled a.s a.t.now a.b.now a.room.now
           c.before.before.before.before.before.before.before.before.before.before.before.before.before.requires.0 length_at.result
           length_at.ensures.0,
-      mul-le-mul_right (placeSize a.s) c.before.before.before.release.ensures.fewer,
+      mul-le-mul_right (place_size a.s) c.before.before.before.release.ensures.fewer,
     )
 
 add-clear : tie.Need-overflow-add-clear
@@ -59,7 +59,7 @@ add-clear c =
       filled a.s a.t.now a.b.now a.room.now
           c.before.before.before.before.before.before.before.before.before.before.before.before.before.requires.0 length_at.result
           length_at.ensures.0,
-      mul-le-mul_right (placeSize a.s) c.before.before.before.release.ensures.fewer,
+      mul-le-mul_right (place_size a.s) c.before.before.before.release.ensures.fewer,
     )
 
 mul-clear-2 : tie.Need-overflow-mul-clear-2
@@ -94,7 +94,7 @@ clear-requires c κs =
       filled a.s a.t.now a.b.now a.room.now
           c.before.before.before.before.before.before.before.before.before.before.before.before.before.requires.0 length_at.result
           length_at.ensures.0,
-      mul-le-mul_right (placeSize a.s) release.ensures.fewer,
+      mul-le-mul_right (place_size a.s) release.ensures.fewer,
       release.ensures.same,
     )
 
@@ -120,7 +120,7 @@ returns-2 c =
     let p = c.before.before.before.before.before.before.before.before.before.before.before.before.before.before.before.before.before.before.before.before.requires in
     let length_at = c.before.before.before.before.before.before.before.before.before.before.before.before.length_at in
     let release = c.before.before.before.before.before.before.before.before.before.before.release in
-    let q : freeSound a.s a.b.now ≡ true = sym free-sound.ensures ∙ not-false free-sound.result
+    let q : free_sound a.s a.b.now ≡ true = sym free-sound.ensures ∙ not-false free-sound.result
     c.before.before.before.before.before.before.before.before.before.before.before.before.before.before.before.if1.false in
     freed a.s a.t.now a.b.now a.room.now p.0 length_at.result length_at.ensures.0
     (λ i. (c.before.before.before.before.before.before.before.before.before.before.before.before.before.before.before.before.before.before.before.slice-known.given i).fits)

@@ -4,7 +4,7 @@ use native.Mathlib.Omega.{arith}
 use borrow.Author.Tests.{not-true, not-false}
 use lib.ListN.{length-set}
 use Rattle.parties.proofs.records.PlaceLaws.{alone-size}
-use Rattle.parties.proofs.node.EndLaws.{filled, ranked, stands-inside, stands-short, request-absent, request-found}
+use Rattle.parties.proofs.node.EndLaws.{filled, ranked, stands-inside, stands-short, request_absent, request-found}
 use Rattle.parties.proofs.node.hand_back.Statement.{statement}
 use Rattle.parties.proofs.node.hand_back.Tie as tie
 
@@ -55,7 +55,7 @@ returns c =
     let length_at = c.before.before.before.before.before.before.before.before.length_at in
     let seek = c.before.before.before.before.before.before.seek in
     let v = c.before.before.before.before.before.before.before.version-at.ensures in
-    request-absent a.s a.t.now a.b.now a.room.now p.0 length_at.result length_at.ensures.0
+    request_absent a.s a.t.now a.b.now a.room.now p.0 length_at.result length_at.ensures.0
     (λ i. (c.before.before.before.before.before.before.before.before.before.before.before.before.shared-slice-known.given i).fits)
     (λ i. (c.before.before.before.before.before.before.before.before.before.before.before.shared-slice-known2.given i).fits) p.1
     p.2 p.3

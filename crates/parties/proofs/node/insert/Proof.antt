@@ -1,9 +1,9 @@
 use borrow.Author.Rules.{rules}
 use native.Mathlib.Omega.{arith}
 use Prim.Native.Nat.{◌+◌, ◌*◌}
-use Rattle.parties.specs.protocol.Measures.{placeSize}
-use Rattle.parties.specs.node.NodeCode.{broughtBy}
-use Rattle.parties.proofs.node.KeepLaws.{insert-put}
+use Rattle.parties.specs.protocol.Measures.{place_size}
+use Rattle.parties.specs.node.NodeCode.{brought_by}
+use Rattle.parties.proofs.node.KeepLaws.{insert_put}
 use Rattle.parties.proofs.node.insert.Statement.{statement}
 use Rattle.parties.proofs.node.insert.Tie as tie
 
@@ -37,7 +37,7 @@ same_length c = search rules
 returns : tie.Need-returns
 returns c =
     let a = c.before.before.before.before.before.before.before.before.before.before.before.before.before.before.before.args in
-    insert-put a.s a.t.now a.at (2 + a.count * placeSize a.s) (broughtBy a.b.now) (a.count + 1) (omega arith) (omega arith)
+    insert_put a.s a.t.now a.at (2 + a.count * place_size a.s) (brought_by a.b.now) (a.count + 1) (omega arith) (omega arith)
     _ _ _ c.before.before.before.before.before.before.before.before.before.before.move_up.ensures
     c.before.before.before.before.before.before.put-place.ensures c.before.before.put-u16.ensures
 

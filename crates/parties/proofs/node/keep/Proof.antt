@@ -3,8 +3,8 @@ use mathlib.Core.Path.{sym, ◌∙◌}
 use native.Mathlib.Omega.{arith}
 use Rattle.parties.proofs.protocol.formats.MeasureLaws.{passed}
 use Rattle.parties.proofs.node.SizeLaws.{sizes}
-use Rattle.parties.proofs.node.ToNodeLaws.{store-sizes}
-use Rattle.parties.proofs.node.EndLaws.{filled, grows, ranked, stands-inside, store-over, store-full, store-new}
+use Rattle.parties.proofs.node.ToNodeLaws.{store_sizes}
+use Rattle.parties.proofs.node.EndLaws.{filled, grows, ranked, stands-inside, store-over, store_full, store_new}
 use Rattle.parties.proofs.node.keep.Statement.{statement}
 use Rattle.parties.proofs.node.keep.Tie as tie
 
@@ -17,7 +17,7 @@ length-at-requires c κs = search rules
 version-at-requires : tie.Need-version-at-requires
 version-at-requires c κs =
     let a = c.before.before.before.before.before.before.args in
-    omega (arith, (store-sizes a.s a.b.now c.before.before.before.before.before.before.requires.3).0)
+    omega (arith, (store_sizes a.s a.b.now c.before.before.before.before.before.before.requires.3).0)
 
 seek-requires : tie.Need-seek-requires
 seek-requires c κs =
@@ -67,7 +67,7 @@ put-place-requires c κs =
     let p = c.before.before.before.before.before.before.before.before.before.before.before.before.before.requires in
     let length_at = c.before.before.before.before.before.before.before.length_at in
     let seek = c.before.before.before.before.seek in
-    let z = store-sizes a.s a.b.now p.3 in (
+    let z = store_sizes a.s a.b.now p.3 in (
       stands-inside a.s a.t.now a.b.now a.room.now p.0 length_at.result length_at.ensures.0
           c.before.before.before.before.before.before.version-at.result seek.result seek.ensures
           (sym c.before.before.stands.ensures ∙ c.before.if1.true),
@@ -80,7 +80,7 @@ put-head-requires : tie.Need-put-head-requires
 put-head-requires c κs =
     let p = c.before.before.before.before.before.before.before.before.before.before.before.before.before.before.before.before.before.requires in
     let a = c.before.before.before.before.before.before.before.before.before.before.before.before.before.before.before.before.before.args in
-    omega (arith, p.0.answer, (store-sizes a.s a.b.now p.3).0, (passed a.s p.0.measures).bytes.0)
+    omega (arith, p.0.answer, (store_sizes a.s a.b.now p.3).0, (passed a.s p.0.measures).bytes.0)
 
 same_length : tie.Need-same-length
 same_length c = search rules
@@ -118,7 +118,7 @@ returns-2 c =
     let length_at = c.before.before.before.before.before.before.before.before.length_at in
     let seek = c.before.before.before.before.before.seek in
     let v = c.before.before.before.before.before.before.before.version-at.ensures in
-    store-full a.s a.t.now a.b.now a.room.now p.0 length_at.result length_at.ensures.0
+    store_full a.s a.t.now a.b.now a.room.now p.0 length_at.result length_at.ensures.0
     (λ i. (c.before.before.before.before.before.before.before.before.before.before.before.before.before.slice-known.given i).fits)
     (λ i. (c.before.before.before.before.before.before.before.before.before.before.before.before.shared-slice-known.given i).fits)
     p.1 p.2 p.3
@@ -131,7 +131,7 @@ insert-requires c κs =
     let p = c.before.before.before.before.before.before.before.before.before.before.before.before.before.before.before.requires in
     let length_at = c.before.before.before.before.before.before.before.before.before.length_at in
     let seek = c.before.before.before.before.before.before.seek in
-    let z = store-sizes a.s a.b.now p.3 in (
+    let z = store_sizes a.s a.b.now p.3 in (
       ranked a.s a.t.now a.b.now a.room.now p.0 length_at.result length_at.ensures.0
           c.before.before.before.before.before.before.before.before.version-at.result seek.result seek.ensures,
       omega arith,
@@ -146,7 +146,7 @@ put-head-requires-2 : tie.Need-put-head-requires-2
 put-head-requires-2 c κs =
     let p = c.before.before.before.before.before.before.before.before.before.before.before.before.before.before.before.before.before.before.before.requires in
     let a = c.before.before.before.before.before.before.before.before.before.before.before.before.before.before.before.before.before.before.before.args in
-    omega (arith, p.0.answer, (store-sizes a.s a.b.now p.3).0, (passed a.s p.0.measures).bytes.0)
+    omega (arith, p.0.answer, (store_sizes a.s a.b.now p.3).0, (passed a.s p.0.measures).bytes.0)
 
 same-length-4 : tie.Need-same-length-4
 same-length-4 c = search rules
@@ -161,7 +161,7 @@ returns-3 c =
     let length_at = c.before.before.before.before.before.before.before.before.before.before.before.before.before.before.before.before.length_at in
     let seek = c.before.before.before.before.before.before.before.before.before.before.before.before.before.seek in
     let v = c.before.before.before.before.before.before.before.before.before.before.before.before.before.before.before.version-at.ensures in
-    store-new a.s a.t.now a.b.now a.room.now p.0 length_at.result length_at.ensures.0
+    store_new a.s a.t.now a.b.now a.room.now p.0 length_at.result length_at.ensures.0
     (λ i. (c.before.before.before.before.before.before.before.before.before.before.before.before.before.before.before.before.before.before.before.before.before.slice-known.given i).fits)
     (λ i. (c.before.before.before.before.before.before.before.before.before.before.before.before.before.before.before.before.before.before.before.before.shared-slice-known.given i).fits) p.1 p.2 p.3
     seek.result (rw (← v) seek.ensures)

@@ -1,13 +1,13 @@
 use borrow.Author.Rules.{rules}
 use mathlib.Core.Path.{◌∙◌}
-use Rattle.parties.proofs.records.SpliceLaws.{splice-self, lowered}
+use Rattle.parties.proofs.records.SpliceLaws.{splice_self, lowered}
 use Rattle.parties.proofs.node.lower.Statement.{statement}
 use Rattle.parties.proofs.node.lower.Tie as tie
 
 returns : tie.Need-returns
 returns c =
     let a = c.before.before.args in
-    rw c.if1.true (splice-self a.t.now a.to a.z)
+    rw c.if1.true (splice_self a.t.now a.to a.z)
 
 add-move-down : tie.Need-overflow-add-move-down
 add-move-down c = search rules

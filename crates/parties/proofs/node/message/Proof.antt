@@ -5,7 +5,7 @@ use native.Mathlib.Omega.{arith}
 use borrow.Author.Tests.{not-true, not-false}
 use Rattle.parties.specs.protocol.Measures.{passes}
 use Rattle.parties.proofs.node.SizeLaws.{sizes}
-use Rattle.parties.proofs.node.EndLaws.{message-measures, message-table, message-room, message-low, message-high, message-ends}
+use Rattle.parties.proofs.node.EndLaws.{message_measures, message_table, message_room, message_low, message_high, message_ends}
 use Rattle.parties.proofs.node.message.Statement.{statement}
 use Rattle.parties.proofs.node.message.Tie as tie
 
@@ -15,7 +15,7 @@ pass-requires c κs = search rules
 returns : tie.Need-returns
 returns c =
     let a = c.before.before.before.before.before.args in
-    message-measures a.s a.i a.table.now a.message.now a.room.now
+    message_measures a.s a.i a.table.now a.message.now a.room.now
     (sym c.before.pass.ensures ∙ not-true c.before.pass.result c.if1.true)
 
 table-size-requires : tie.Need-table-size-requires
@@ -25,7 +25,7 @@ returns-2 : tie.Need-returns-2
 returns-2 c =
     let a = c.before.before.before.before.before.before.before.args in
     let pass = c.before.before.before.pass in
-    message-table a.s a.i a.table.now a.message.now a.room.now
+    message_table a.s a.i a.table.now a.message.now a.room.now
     (sym pass.ensures ∙ not-false pass.result c.before.before.if1.false) (omega (arith, c.if2.true, c.before.table-size.ensures))
 
 add-if3 : tie.Need-overflow-add-if3
@@ -39,7 +39,7 @@ returns-3 : tie.Need-returns-3
 returns-3 c =
     let a = c.before.before.before.before.before.before.before.before.before.args in
     let pass = c.before.before.before.before.before.pass in
-    message-room a.s a.i a.table.now a.message.now a.room.now
+    message_room a.s a.i a.table.now a.message.now a.room.now
     (sym pass.ensures ∙ not-false pass.result c.before.before.before.before.if1.false) (omega (arith, c.before.before.if2.false, c.before.before.before.table-size.ensures))
     c.if3.true
 
@@ -47,7 +47,7 @@ returns-4 : tie.Need-returns-4
 returns-4 c =
     let a = c.before.before.before.before.before.before.before.before.before.before.args in
     let pass = c.before.before.before.before.before.before.pass in
-    message-low a.s a.i a.table.now a.message.now a.room.now
+    message_low a.s a.i a.table.now a.message.now a.room.now
     (sym pass.ensures ∙ not-false pass.result c.before.before.before.before.before.if1.false)
     (omega (arith, c.before.before.before.if2.false, c.before.before.before.before.table-size.ensures)) c.before.if3.false c.if4.true
 
@@ -55,7 +55,7 @@ returns-5 : tie.Need-returns-5
 returns-5 c =
     let a = c.before.before.before.before.before.before.before.before.before.before.before.before.args in
     let pass = c.before.before.before.before.before.before.before.before.pass in
-    message-high a.s a.i a.table.now a.message.now a.room.now
+    message_high a.s a.i a.table.now a.message.now a.room.now
     (sym pass.ensures ∙ not-false pass.result c.before.before.before.before.before.before.before.if1.false)
     (omega (arith, c.before.before.before.before.before.if2.false, c.before.before.before.before.before.before.table-size.ensures)) c.before.before.before.if3.false c.before.before.if4.false c.if5.true
 
@@ -77,7 +77,7 @@ returns-6 : tie.Need-returns-6
 returns-6 c =
     let a = c.before.before.before.before.before.before.before.before.before.before.before.before.before.before.before.before.before.before.before.args in
     let pass = c.before.before.before.before.before.before.before.before.before.before.before.before.before.before.before.pass in
-    message-ends a.s a.i a.table.now a.message.now a.room.now
+    message_ends a.s a.i a.table.now a.message.now a.room.now
     (sym pass.ensures ∙ not-false pass.result
     c.before.before.before.before.before.before.before.before.before.before.before.before.before.before.if1.false)
     (omega (arith, c.before.before.before.before.before.before.before.before.before.before.before.before.if2.false, c.before.before.before.before.before.before.before.before.before.before.before.before.before.table-size.ensures))

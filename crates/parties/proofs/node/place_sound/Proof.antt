@@ -1,7 +1,7 @@
 use borrow.Author.Rules.{rules}
 use mathlib.Core.Path.{sym, ◌∙◌}
 use borrow.Author.Tests.{not-true, not-false}
-use Rattle.parties.proofs.records.PlaceLaws.{sound-improper, sound_empty, sound-long, sound-spare}
+use Rattle.parties.proofs.records.PlaceLaws.{sound_improper, sound_empty, sound-long, sound_spare}
 use Rattle.parties.proofs.node.place_sound.Statement.{statement}
 use Rattle.parties.proofs.node.place_sound.Tie as tie
 
@@ -12,7 +12,7 @@ returns : tie.Need-returns
 returns c =
     let a = c.before.before.before.args in
     let p = c.before.proper-at in
-    sound-improper a.s a.t.now a.at (sym p.ensures ∙ not-true p.result c.if1.true)
+    sound_improper a.s a.t.now a.at (sym p.ensures ∙ not-true p.result c.if1.true)
 
 add-length-at : tie.Need-overflow-add-length-at
 add-length-at c = search rules
@@ -55,7 +55,7 @@ returns-4 c =
     let a = c.before.before.before.before.before.before.before.before.before.args in
     let p = c.before.before.before.before.before.before.before.proper-at in
     let length_at = c.before.before.before.before.before.length_at in
-    sound-spare a.s a.t.now a.at length_at.result length_at.ensures.0
+    sound_spare a.s a.t.now a.at length_at.result length_at.ensures.0
     (sym p.ensures ∙ not-false p.result c.before.before.before.before.before.before.if1.false) c.before.before.before.before.if2.false
     c.before.before.if3.false c.zero-run.result c.zero-run.ensures
 

@@ -4,16 +4,16 @@ use Prim.Native.Nat.{◌+◌, ◌*◌, ◌≤◌}
 use native.Mathlib.Omega.{arith}
 use borrow.Author.Tests.{not-true, not-false}
 use lib.ListN.{length}
-use Rattle.parties.specs.protocol.Measures.{placeSize}
-use Rattle.parties.specs.protocol.Version.{noVersion}
-use Rattle.parties.specs.records.Places.{soundFrom, soundAt, versionAt}
-use Rattle.parties.proofs.records.PositionLaws.{one_less, ordered_end, ordered-broken, ordered-not, ordered-next}
+use Rattle.parties.specs.protocol.Measures.{place_size}
+use Rattle.parties.specs.protocol.Version.{no_version}
+use Rattle.parties.specs.records.Places.{sound_from, sound_at, version_at}
+use Rattle.parties.proofs.records.PositionLaws.{one_less, ordered_end, ordered-broken, ordered_not, ordered-next}
 use Rattle.parties.proofs.node.places_sound.Statement.{statement}
 use Rattle.parties.proofs.node.places_sound.Tie as tie
 
 abbrev invariant-loop : tie.invariant-loop
 invariant-loop s t count previous₀ at₀ left₀ previous at left =
-    (at + left * placeSize s ≤ length t) × (soundFrom s t noVersion 2 count ≡ soundFrom s t previous at left)
+    (at + left * place_size s ≤ length t) × (sound_from s t no_version 2 count ≡ sound_from s t previous at left)
 
 abbrev decreases-loop : tie.decreases-loop
 decreases-loop s t count previous₀ at₀ left₀ previous at left =
@@ -25,22 +25,22 @@ loop-holds c =
 
 place-sound-requires : tie.Need-place-sound-requires invariant-loop decreases-loop
 place-sound-requires c κs =
-    omega (arith, one_less c.before.loop.left (placeSize c.before.before.before.args.s) c.loop-test.true)
+    omega (arith, one_less c.before.loop.left (place_size c.before.before.before.args.s) c.loop-test.true)
 
 returns : tie.Need-returns invariant-loop decreases-loop
 returns c =
     let a = c.before.before.before.before.before.args in
     let l = c.before.before.before.loop in
-    let e : soundAt a.s a.t.now l.at ≡ false = sym c.before.place-sound.ensures ∙ not-true c.before.place-sound.result
+    let e : sound_at a.s a.t.now l.at ≡ false = sym c.before.place-sound.ensures ∙ not-true c.before.place-sound.result
     c.if1.true in
-    sym (l.invariant.1 ∙ ordered-broken (soundAt a.s a.t.now) (versionAt a.t.now) (placeSize a.s) l.previous l.at l.left
+    sym (l.invariant.1 ∙ ordered-broken (sound_at a.s a.t.now) (version_at a.t.now) (place_size a.s) l.previous l.at l.left
     c.before.before.loop-test.true e)
 
 version-at-requires : tie.Need-version-at-requires invariant-loop decreases-loop
 version-at-requires c κs =
     omega (
       arith,
-      one_less c.before.before.before.loop.left (placeSize c.before.before.before.before.before.args.s)
+      one_less c.before.before.before.loop.left (place_size c.before.before.before.before.before.args.s)
           c.before.before.loop-test.true,
     )
 
@@ -54,11 +54,11 @@ returns-2 c =
     let l = c.before.before.before.before.before.before.loop in
     let place-sound = c.before.before.before.before.place-sound in
     let version-at = c.before.before.version-at in
-    let e : soundAt a.s a.t.now l.at ≡ true = sym place-sound.ensures ∙ not-false place-sound.result
+    let e : sound_at a.s a.t.now l.at ≡ true = sym place-sound.ensures ∙ not-false place-sound.result
     c.before.before.before.if1.false in
     sym
     (l.invariant.1
-    ∙ ordered-not (soundAt a.s a.t.now) (versionAt a.t.now) (placeSize a.s) l.previous l.at l.left version-at.result
+    ∙ ordered_not (sound_at a.s a.t.now) (version_at a.t.now) (place_size a.s) l.previous l.at l.left version-at.result
     version-at.ensures c.before.before.before.before.before.loop-test.true e
     (sym c.before.below.ensures ∙ not-true c.before.below.result c.if2.true))
 
@@ -67,7 +67,7 @@ add_at c =
     omega (
       arith,
       one_less c.before.before.before.before.before.before.before.loop.left
-          (placeSize c.before.before.before.before.before.before.before.before.before.args.s)
+          (place_size c.before.before.before.before.before.before.before.before.before.args.s)
           c.before.before.before.before.before.before.loop-test.true,
     )
 
@@ -76,7 +76,7 @@ add-at-2 c =
     omega (
       arith,
       one_less c.before.before.before.before.before.before.before.loop.left
-          (placeSize c.before.before.before.before.before.before.before.before.before.args.s)
+          (place_size c.before.before.before.before.before.before.before.before.before.args.s)
           c.before.before.before.before.before.before.loop-test.true,
     )
 
@@ -96,11 +96,11 @@ loop-again c =
     let loop-test = c.before.before.before.before.before.before.loop-test in
     let version-at = c.before.before.before.version-at in
     let below = c.before.before.below in
-    let e : soundAt a.s a.t.now l.at ≡ true = sym place-sound.ensures ∙ not-false place-sound.result
+    let e : sound_at a.s a.t.now l.at ≡ true = sym place-sound.ensures ∙ not-false place-sound.result
     c.before.before.before.before.if1.false in (
-      omega (arith, one_less l.left (placeSize a.s) loop-test.true),
+      omega (arith, one_less l.left (place_size a.s) loop-test.true),
       l.invariant.1
-          ∙ ordered-next (soundAt a.s a.t.now) (versionAt a.t.now) (placeSize a.s) l.previous l.at l.left version-at.result
+          ∙ ordered-next (sound_at a.s a.t.now) (version_at a.t.now) (place_size a.s) l.previous l.at l.left version-at.result
           version-at.ensures loop-test.true e
           (sym below.ensures ∙ not-false below.result c.before.if2.false),
     )
@@ -108,7 +108,7 @@ loop-again c =
 returns-3 : tie.Need-returns-3 invariant-loop decreases-loop
 returns-3 c =
     let a = c.before.before.before.args in
-    sym (c.before.loop.invariant.1 ∙ ordered_end (soundAt a.s a.t.now) (versionAt a.t.now) (placeSize a.s) c.before.loop.previous
+    sym (c.before.loop.invariant.1 ∙ ordered_end (sound_at a.s a.t.now) (version_at a.t.now) (place_size a.s) c.before.loop.previous
     c.before.loop.at c.before.loop.left c.loop-test.false)
 
 pub places-sound-spec : {M : Type 1} → statement M

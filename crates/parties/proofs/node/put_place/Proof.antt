@@ -1,5 +1,5 @@
 use borrow.Author.Rules.{rules}
-use Rattle.parties.proofs.node.KeepLaws.{place-put}
+use Rattle.parties.proofs.node.KeepLaws.{place_put}
 use Rattle.parties.proofs.node.put_place.Statement.{statement}
 use Rattle.parties.proofs.node.put_place.Tie as tie
 
@@ -46,7 +46,7 @@ returns : tie.Need-returns
 returns c =
     let a = c.before.before.before.before.before.before.before.before.before.before.before.before.before.before.before.before.before.before.before.args in
     let p = c.before.before.before.before.before.before.before.before.before.before.before.before.before.before.before.before.before.before.before.requires in
-    place-put a.s a.t.now a.at a.b.now
+    place_put a.s a.t.now a.at a.b.now
     (λ i. (c.before.before.before.before.before.before.before.before.before.before.before.before.before.before.before.before.before.shared-slice-known.given i).fits) p.0 p.1 p.2
     _ _ _ _ c.before.before.before.before.before.before.before.before.before.before.before.before.before.before.before.copy.ensures c.before.before.before.before.before.before.before.before.before.before.before.put-u16.ensures
     c.before.before.before.before.before.before.before.copy2.ensures c.before.before.clear.ensures

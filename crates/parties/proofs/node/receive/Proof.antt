@@ -1,8 +1,8 @@
 use borrow.Author.Rules.{rules}
 use mathlib.Core.Path.{sym, ◌∙◌}
 use borrow.Author.Tests.{not-true, not-false}
-use Rattle.parties.proofs.node.ToNodeLaws.{tag-other, tag-none}
-use Rattle.parties.proofs.node.EndLaws.{broken-table, broken-message}
+use Rattle.parties.proofs.node.ToNodeLaws.{tag_other, tag_none}
+use Rattle.parties.proofs.node.EndLaws.{broken-table, broken_message}
 use Rattle.parties.proofs.node.receive.Statement.{statement}
 use Rattle.parties.proofs.node.receive.Tie as tie
 
@@ -26,7 +26,7 @@ returns-2 c =
     let a = c.before.before.before.before.before.before.before.args in
     let p = c.before.before.before.before.before.before.before.requires in
     let table-sound = c.before.before.table-sound in
-    broken-message a.s a.t.now a.b.now a.room.now
+    broken_message a.s a.t.now a.b.now a.room.now
     (record {
       measures = p.0;
       table = p.1;
@@ -34,7 +34,7 @@ returns-2 c =
       sound = sym table-sound.ensures ∙ not-false table-sound.result
           c.before.if1.false;
     })
-    (tag-none a.s a.b.now c.if2.true)
+    (tag_none a.s a.b.now c.if2.true)
 
 shared-slice-read-tag : tie.Need-shared-slice-read-tag
 shared-slice-read-tag c = search rules
@@ -119,7 +119,7 @@ returns-6 c =
     let a = c.before.before.before.before.before.before.before.before.before.before.before.args in
     let p = c.before.before.before.before.before.before.before.before.before.before.before.requires in
     let table-sound = c.before.before.before.before.before.before.table-sound in
-    broken-message a.s a.t.now a.b.now a.room.now
+    broken_message a.s a.t.now a.b.now a.room.now
     (record {
       measures = p.0;
       table = p.1;
@@ -127,7 +127,7 @@ returns-6 c =
       sound = sym table-sound.ensures ∙ not-false table-sound.result
           c.before.before.before.before.before.if1.false;
     })
-    (tag-other a.s a.b.now c.before.before.before.before.if2.false c.before.before.if3.false c.before.if4.false c.if5.false)
+    (tag_other a.s a.b.now c.before.before.before.before.if2.false c.before.before.if3.false c.before.if4.false c.if5.false)
 
 pub receive-spec : {M : Type 1} → statement M
 receive-spec =

@@ -2,9 +2,9 @@ use mathlib.Core.Path.{◌≡◌, sym, ◌∙◌}
 use mathlib.Core.Bool.{true, false}
 use Prim.Native.Nat.{◌+◌}
 use native.Mathlib.Omega.{arith}
-use Rattle.parties.specs.node.NodeCode.{listBehind, listNames}
-use Rattle.parties.specs.records.Places.{versionAt}
-use Rattle.parties.proofs.node.FreeingLaws.{Freeing, freeing-start, freeing-end, place_inside, freeing-behind, freeing-named, freeing-kept}
+use Rattle.parties.specs.node.NodeCode.{list_behind, list_names}
+use Rattle.parties.specs.records.Places.{version_at}
+use Rattle.parties.proofs.node.FreeingLaws.{Freeing, freeing_start, freeing_end, place_inside, freeing_behind, freeing_named, freeing_kept}
 use Rattle.parties.proofs.node.release.Statement.{statement}
 use Rattle.parties.proofs.node.release.Tie as tie
 
@@ -19,7 +19,7 @@ decreases-loop s t₀ b count listed from₀ left₀ at₀ more₀ to₀ kept₀
 loop-holds : tie.Need-loop-init invariant-loop decreases-loop
 loop-holds c =
     let a = c.before.before.args in
-    freeing-start a.s a.t.now a.b.now a.count a.listed c.before.before.requires
+    freeing_start a.s a.t.now a.b.now a.count a.listed c.before.before.requires
 
 add-z : tie.Need-overflow-add-z invariant-loop decreases-loop
 add-z c =
@@ -44,9 +44,9 @@ add_at : tie.Need-overflow-add-at invariant-loop decreases-loop
 add_at c =
     let l = c.before.before.before.before.before.before.loop in
     let a = c.before.before.before.before.before.before.before.before.before.args in
-    let q : listBehind (versionAt l.t l.from) a.b.now l.at l.more ≡ true = rw (← c.before.before.version-at.ensures)
+    let q : list_behind (version_at l.t l.from) a.b.now l.at l.more ≡ true = rw (← c.before.before.version-at.ensures)
     (sym c.before.list-behind.ensures ∙ c.if1.true) in
-    let k = (freeing-behind a.s a.t.now a.b.now a.count a.listed l.t l.from l.left l.at l.more l.to l.auto
+    let k = (freeing_behind a.s a.t.now a.b.now a.count a.listed l.t l.from l.left l.at l.more l.to l.auto
     l.invariant c.before.before.before.before.before.loop-test.true q).0 in
     omega (arith, l.invariant.listed, k)
 
@@ -54,18 +54,18 @@ sub_more : tie.Need-overflow-sub-more invariant-loop decreases-loop
 sub_more c =
     let l = c.before.before.before.before.before.before.loop in
     let a = c.before.before.before.before.before.before.before.before.before.args in
-    let q : listBehind (versionAt l.t l.from) a.b.now l.at l.more ≡ true = rw (← c.before.before.version-at.ensures)
+    let q : list_behind (version_at l.t l.from) a.b.now l.at l.more ≡ true = rw (← c.before.before.version-at.ensures)
     (sym c.before.list-behind.ensures ∙ c.if1.true) in
-    (freeing-behind a.s a.t.now a.b.now a.count a.listed l.t l.from l.left l.at l.more l.to l.auto l.invariant
+    (freeing_behind a.s a.t.now a.b.now a.count a.listed l.t l.from l.left l.at l.more l.to l.auto l.invariant
     c.before.before.before.before.before.loop-test.true q).0
 
 loop-less : tie.Need-loop-smaller invariant-loop decreases-loop
 loop-less c =
     let l = c.before.before.before.before.before.before.loop in
     let a = c.before.before.before.before.before.before.before.before.before.args in
-    let q : listBehind (versionAt l.t l.from) a.b.now l.at l.more ≡ true = rw (← c.before.before.version-at.ensures)
+    let q : list_behind (version_at l.t l.from) a.b.now l.at l.more ≡ true = rw (← c.before.before.version-at.ensures)
     (sym c.before.list-behind.ensures ∙ c.if1.true) in
-    let k = (freeing-behind a.s a.t.now a.b.now a.count a.listed l.t l.from l.left l.at l.more l.to l.auto
+    let k = (freeing_behind a.s a.t.now a.b.now a.count a.listed l.t l.from l.left l.at l.more l.to l.auto
     l.invariant c.before.before.before.before.before.loop-test.true q).0 in
     omega (arith, k)
 
@@ -73,9 +73,9 @@ loop-again : tie.Need-loop-preserved invariant-loop decreases-loop
 loop-again c =
     let l = c.before.before.before.before.before.before.loop in
     let a = c.before.before.before.before.before.before.before.before.before.args in
-    let q : listBehind (versionAt l.t l.from) a.b.now l.at l.more ≡ true = rw (← c.before.before.version-at.ensures)
+    let q : list_behind (version_at l.t l.from) a.b.now l.at l.more ≡ true = rw (← c.before.before.version-at.ensures)
     (sym c.before.list-behind.ensures ∙ c.if1.true) in
-    (freeing-behind a.s a.t.now a.b.now a.count a.listed l.t l.from l.left l.at l.more l.to l.auto l.invariant
+    (freeing_behind a.s a.t.now a.b.now a.count a.listed l.t l.from l.left l.at l.more l.to l.auto l.invariant
     c.before.before.before.before.before.loop-test.true q).1
 
 list-names-requires : tie.Need-list-names-requires invariant-loop decreases-loop
@@ -104,9 +104,9 @@ loop-again-2 : tie.Need-loop-preserved-2 invariant-loop decreases-loop
 loop-again-2 c =
     let l = c.before.before.before.before.before.before.before.before.loop in
     let a = c.before.before.before.before.before.before.before.before.before.before.before.args in
-    let q : listNames (versionAt l.t l.from) a.b.now l.at l.more ≡ true = rw
+    let q : list_names (version_at l.t l.from) a.b.now l.at l.more ≡ true = rw
     (← c.before.before.before.before.version-at.ensures) (sym c.before.list-names.ensures ∙ c.if2.true) in
-    freeing-named a.s a.t.now a.b.now a.count a.listed l.t l.from l.left l.at l.more l.to l.auto l.invariant
+    freeing_named a.s a.t.now a.b.now a.count a.listed l.t l.from l.left l.at l.more l.to l.auto l.invariant
     c.before.before.before.before.before.before.before.loop-test.true q
 
 lower-requires : tie.Need-lower-requires invariant-loop decreases-loop
@@ -165,11 +165,11 @@ loop-again-3 c =
     let l = c.before.before.before.before.before.before.before.before.before.before.before.before.loop in
     let a = c.before.before.before.before.before.before.before.before.before.before.before.before.before.before.before.args in
     let version-at = c.before.before.before.before.before.before.before.before.version-at in
-    let p : listBehind (versionAt l.t l.from) a.b.now l.at l.more ≡ false = rw (← version-at.ensures)
+    let p : list_behind (version_at l.t l.from) a.b.now l.at l.more ≡ false = rw (← version-at.ensures)
     (sym c.before.before.before.before.before.before.before.list-behind.ensures ∙ c.before.before.before.before.before.before.if1.false) in
-    let q : listNames (versionAt l.t l.from) a.b.now l.at l.more ≡ false = rw (← version-at.ensures)
+    let q : list_names (version_at l.t l.from) a.b.now l.at l.more ≡ false = rw (← version-at.ensures)
     (sym c.before.before.before.before.before.list-names.ensures ∙ c.before.before.before.before.if2.false) in
-    freeing-kept a.s a.t.now a.b.now a.count a.listed l.t l.from l.left l.at l.more l.to l.auto l.invariant
+    freeing_kept a.s a.t.now a.b.now a.count a.listed l.t l.from l.left l.at l.more l.to l.auto l.invariant
     c.before.before.before.before.before.before.before.before.before.before.before.loop-test.true
     (λ i. (c.before.before.before.before.before.before.before.before.before.before.before.before.before.before.slice-known.given i
     ).fits) p q _ c.before.before.lower.ensures
@@ -181,7 +181,7 @@ same_length c =
 returns : tie.Need-returns invariant-loop decreases-loop
 returns c =
     let a = c.before.before.before.before.args in
-    freeing-end a.s a.t.now a.b.now a.count a.listed c.before.loop.t c.before.loop.from c.before.loop.left
+    freeing_end a.s a.t.now a.b.now a.count a.listed c.before.loop.t c.before.loop.from c.before.loop.left
     c.before.loop.at c.before.loop.more c.before.loop.to c.before.loop.auto c.before.loop.invariant c.loop-test.false
 
 pub release_spec : {M : Type 1} → statement M

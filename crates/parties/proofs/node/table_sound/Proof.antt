@@ -4,8 +4,8 @@ use Prim.Native.Nat.{ℕ, ◌+◌, ◌-◌, ◌*◌, ◌≤◌}
 use native.Mathlib.Nat.{mul-le-mul_right}
 use native.Mathlib.Omega.{arith}
 use borrow.Author.Tests.{not-true, not-false}
-use Rattle.parties.specs.protocol.Measures.{places, placeSize}
-use Rattle.parties.specs.records.Places.{zeroRun}
+use Rattle.parties.specs.protocol.Measures.{places, place_size}
+use Rattle.parties.specs.records.Places.{zero_run}
 use Rattle.parties.proofs.protocol.formats.MeasureLaws.{passed}
 use Rattle.parties.proofs.node.TableLaws.{table-many, table-broken, table-rest}
 use Rattle.parties.proofs.node.table_sound.Statement.{statement}
@@ -27,8 +27,8 @@ returns c =
     table-many a.s a.t.now length_at.result length_at.ensures.0 c.if1.true
 
 -- the filled places end within the table
-filled : (c : tie.Else1) → let a = c.before.before.before.before.args in c.before.before.length_at.result * placeSize a.s ≤ places a.s * placeSize a.s
-filled c = mul-le-mul_right (placeSize c.before.before.before.before.args.s) c.if1.false
+filled : (c : tie.Else1) → let a = c.before.before.before.before.args in c.before.before.length_at.result * place_size a.s ≤ places a.s * place_size a.s
+filled c = mul-le-mul_right (place_size c.before.before.before.before.args.s) c.if1.false
 
 places-sound-requires : tie.Need-places-sound-requires
 places-sound-requires c κs = omega (arith, filled c)
@@ -63,10 +63,10 @@ returns-3 c =
     let a = x.before.before.before.before.args in
     let length_at = x.before.before.length_at in
     let places-sound = c.before.before.before.before.places-sound in
-    let from : ℕ = 2 + length_at.result * placeSize a.s in
+    let from : ℕ = 2 + length_at.result * place_size a.s in
     table-rest a.s a.t.now length_at.result length_at.ensures.0 x.if1.false
     (sym places-sound.ensures ∙ not-false places-sound.result c.before.before.before.if2.false) c.zero-run.result
-    (c.zero-run.ensures ∙ ap (λ (n : ℕ). zeroRun a.t.now from (n - from)) c.before.before.table-size.ensures)
+    (c.zero-run.ensures ∙ ap (λ (n : ℕ). zero_run a.t.now from (n - from)) c.before.before.table-size.ensures)
 
 pub table-sound-spec : {M : Type 1} → statement M
 table-sound-spec =

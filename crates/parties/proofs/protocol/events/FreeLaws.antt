@@ -11,23 +11,23 @@ use lib.Dec.{eqb, ltb}
 use lib.ListN.{length, get_or}
 use Rattle.coding.specs.Bytes.{tabulate}
 use Rattle.coding.proofs.Cases.{and-true, chosen_of}
-use Rattle.coding.proofs.BytesLaws.{tabulate-none, tabulate-more, get_d_tabulate, tabulate-ext, map-tabulate}
+use Rattle.coding.proofs.BytesLaws.{tabulate-none, tabulate-more, get_or-tabulate, tabulate_ext, map-tabulate}
 use Rattle.parties.specs.declared.Measures.{Measures}
 use Rattle.parties.specs.declared.ReadingIndex.{ReadingIndex}
 use Rattle.parties.specs.declared.Version.{Version}
-use Rattle.parties.specs.protocol.Version.{below, noVersion, ascending}
-use Rattle.parties.specs.protocol.Pointer.{Pointer, nonePointer}
+use Rattle.parties.specs.protocol.Version.{below, no_version, ascending}
+use Rattle.parties.specs.protocol.Pointer.{Pointer, none_pointer}
 use Rattle.parties.specs.protocol.Directory.{Row, no_row}
 use Rattle.parties.specs.protocol.NodeTable.{Held}
 use Rattle.parties.specs.protocol.Node.{keep, listed}
 use Rattle.parties.specs.protocol.Client.{Phase, Client}
-use Rattle.parties.specs.protocol.Deposit.{noticed, frozenAfter, replaced, insert, stillRetained, freeList, freed}
+use Rattle.parties.specs.protocol.Deposit.{noticed, frozen_after, replaced, insert, still_retained, free_list, freed}
 use Rattle.parties.proofs.protocol.model.Cells.{is_false}
 use Rattle.parties.proofs.protocol.formats.FormatLaws.{Each}
-use Rattle.parties.proofs.protocol.formats.VersionLaws.{neither-below, same-eq, eq-same}
+use Rattle.parties.proofs.protocol.formats.VersionLaws.{neither_below, same_eq, eq_same}
 use Rattle.parties.proofs.protocol.events.NodeLaws.{keep-ascending}
-use Rattle.parties.proofs.protocol.model.Model.{Rows, Clients, notices, frozenBy, Replaced, Retains, Frees}
-use Rattle.parties.proofs.protocol.steps.View.{clientAt, row_at, rows_at}
+use Rattle.parties.proofs.protocol.model.Model.{Rows, Clients, notices, frozen_by, Replaced, Retains, Frees}
+use Rattle.parties.proofs.protocol.steps.View.{client_at, row_at, rows_at}
 
 -- ---- versions listed
 
@@ -36,14 +36,14 @@ abbrev apart : Version → Version → Bool
 apart u v = below u v || below v u
 
 together : (u v : Version) → apart u v ≡ false → u ≡ v
-together u v e = same-eq u v (ap not e)
+together u v e = same_eq u v (ap not e)
 
-not-apart : (v : Version) → apart v v ≡ false
-not-apart v = not-true (apart v v) (eq-same v v refl)
+not_apart : (v : Version) → apart v v ≡ false
+not_apart v = not-true (apart v v) (eq_same v v refl)
 
 pub listed_here : (u v : Version) (l : List Version) → v ≡ u → listed u (v ∷ l) ≡ true
 unfolding listed
-listed_here u v l e = rw e (rw (not-apart u))
+listed_here u v l e = rw e (rw (not_apart u))
 
 pub listed-there : (u v : Version) (l : List Version) → listed u l ≡ true → listed u (v ∷ l) ≡ true
 unfolding listed
@@ -85,9 +85,9 @@ bare v = record { version = v; piece = [] }
 abbrev versions : List Held → List Version
 versions l = map (λ h. h.version) l
 
-bare-back : (l : List Version) → versions (map bare l) ≡ l
-bare-back [] = refl
-bare-back (v ∷ l) = ap (λ (t : List Version). v ∷ t) (bare-back l)
+bare_back : (l : List Version) → versions (map bare l) ≡ l
+bare_back [] = refl
+bare_back (v ∷ l) = ap (λ (t : List Version). v ∷ t) (bare_back l)
 
 insert-keep : (v : Version) (l : List Version) → insert v l ≡ versions (keep (bare v) (map bare l))
 unfolding insert keep
@@ -96,12 +96,12 @@ insert-keep v (w ∷ l) = go (below v w) refl (below w v) refl (insert-keep v l)
   where
     go : (a : Bool) → below v w ≡ a → (b : Bool) → below w v ≡ b → insert v l ≡ versions (keep (bare v) (map bare l))
         → insert v (w ∷ l) ≡ versions (keep (bare v) (map bare (w ∷ l)))
-    go true p b q ih = rw p (ap (λ (t : List Version). v ∷ w ∷ t) (sym (bare-back l)))
+    go true p b q ih = rw p (ap (λ (t : List Version). v ∷ w ∷ t) (sym (bare_back l)))
     go false p true q ih = rw (p, q) (ap (λ (t : List Version). w ∷ t) ih)
-    go false p false q ih = rw (p, q) (λ i. sym (neither-below v w p q) i ∷ sym (bare-back l) i)
+    go false p false q ih = rw (p, q) (λ i. sym (neither_below v w p q) i ∷ sym (bare_back l) i)
 
 pub insert-ascending : (v : Version) (l : List Version) → ascending l ≡ true → ascending (insert v l) ≡ true
-insert-ascending v l e = rw (insert-keep v l) (keep-ascending (bare v) (map bare l) (ap ascending (bare-back l) ∙ e))
+insert-ascending v l e = rw (insert-keep v l) (keep-ascending (bare v) (map bare l) (ap ascending (bare_back l) ∙ e))
 
 pub insert-length : (v : Version) (l : List Version) → length (insert v l) ≤ suc (length l)
 unfolding insert
@@ -135,41 +135,41 @@ insert-listed u v (w ∷ l) = go (below v w) refl (below w v) refl (insert-liste
     go false p true q ih = rw (p, q) (ap (λ (x : Bool). cond (apart u w) x true) ih ∙ swap (apart u w) (apart u v) (listed u l))
     go false p false q ih =
         rw (p, q)
-        (once (apart u w) (listed u l) ∙ ap (λ (t : Version). cond (apart u t) (cond (apart u w) (listed u l) true) true) (sym (neither-below v w p q)))
+        (once (apart u w) (listed u l) ∙ ap (λ (t : Version). cond (apart u t) (cond (apart u w) (listed u l) true) true) (sym (neither_below v w p q)))
 
 module _ (kept : List Version) where
-  pub free-ascending : (l : List Version) → ascending (freeList kept l) ≡ true
-  unfolding freeList ascending
+  pub free-ascending : (l : List Version) → ascending (free_list kept l) ≡ true
+  unfolding free_list ascending
   free-ascending [] = refl
-  free-ascending (v ∷ l) = go (listed v (noVersion ∷ kept)) (free-ascending l)
+  free-ascending (v ∷ l) = go (listed v (no_version ∷ kept)) (free-ascending l)
     where
-      go : (b : Bool) → ascending (freeList kept l) ≡ true → ascending (cond b (freeList kept l) (insert v (freeList kept l))) ≡ true
+      go : (b : Bool) → ascending (free_list kept l) ≡ true → ascending (cond b (free_list kept l) (insert v (free_list kept l))) ≡ true
       go true ih = ih
-      go false ih = insert-ascending v (freeList kept l) ih
+      go false ih = insert-ascending v (free_list kept l) ih
 
-  pub free-length : (l : List Version) → length (freeList kept l) ≤ length l
-  unfolding freeList
+  pub free-length : (l : List Version) → length (free_list kept l) ≤ length l
+  unfolding free_list
   free-length [] = omega arith
-  free-length (v ∷ l) = go (listed v (noVersion ∷ kept)) (free-length l)
+  free-length (v ∷ l) = go (listed v (no_version ∷ kept)) (free-length l)
     where
-      go : (b : Bool) → length (freeList kept l) ≤ length l → length (cond b (freeList kept l) (insert v (freeList kept l))) ≤ suc (length l)
+      go : (b : Bool) → length (free_list kept l) ≤ length l → length (cond b (free_list kept l) (insert v (free_list kept l))) ≤ suc (length l)
       go true ih = omega arith
-      go false ih = omega (arith, insert-length v (freeList kept l))
+      go false ih = omega (arith, insert-length v (free_list kept l))
 
-  pub free-listed : (u : Version) (l : List Version) → listed u (freeList kept l) ≡ (listed u l && not (listed u (noVersion ∷ kept)))
-  unfolding freeList listed
+  pub free-listed : (u : Version) (l : List Version) → listed u (free_list kept l) ≡ (listed u l && not (listed u (no_version ∷ kept)))
+  unfolding free_list listed
   free-listed u [] = refl
-  free-listed u (v ∷ l) = go (listed v (noVersion ∷ kept)) refl (apart u v) refl (free-listed u l)
+  free-listed u (v ∷ l) = go (listed v (no_version ∷ kept)) refl (apart u v) refl (free-listed u l)
     where
-      own : apart u v ≡ false → listed u (noVersion ∷ kept) ≡ listed v (noVersion ∷ kept)
-      own q = ap (λ (t : Version). listed t (noVersion ∷ kept)) (together u v q)
+      own : apart u v ≡ false → listed u (no_version ∷ kept) ≡ listed v (no_version ∷ kept)
+      own q = ap (λ (t : Version). listed t (no_version ∷ kept)) (together u v q)
 
-      go : (b : Bool) → listed v (noVersion ∷ kept) ≡ b → (c : Bool) → apart u v ≡ c → listed u (freeList kept l) ≡ (listed u l && not (listed u (noVersion ∷ kept)))
-          → listed u (cond b (freeList kept l) (insert v (freeList kept l))) ≡ (cond c (listed u l) true && not (listed u (noVersion ∷ kept)))
+      go : (b : Bool) → listed v (no_version ∷ kept) ≡ b → (c : Bool) → apart u v ≡ c → listed u (free_list kept l) ≡ (listed u l && not (listed u (no_version ∷ kept)))
+          → listed u (cond b (free_list kept l) (insert v (free_list kept l))) ≡ (cond c (listed u l) true && not (listed u (no_version ∷ kept)))
       go true p true q ih = ih
       go true p false q ih = ih ∙ rw (own q ∙ p) (and-false (listed u l))
-      go false p true q ih = insert-listed u v (freeList kept l) ∙ rw q ih
-      go false p false q ih = insert-listed u v (freeList kept l) ∙ rw q (rw (own q ∙ p))
+      go false p true q ih = insert-listed u v (free_list kept l) ∙ rw q ih
+      go false p false q ih = insert-listed u v (free_list kept l) ∙ rw q (rw (own q ∙ p))
 
 -- the previous version, and two for each client at the most
 pub replaced-length : (own : ℕ) (c : Client) (rows : List Row) (n : ℕ) → length (replaced own c rows n) ≤ 2 * n + 1
@@ -178,7 +178,7 @@ replaced-length own c rows zero = omega arith
 replaced-length own c rows (suc q) = go (noticed own c rows q) (replaced-length own c rows q)
   where
     go : (b : Bool) → length (replaced own c rows q) ≤ 2 * q + 1
-        → length (cond b ((get_or c.frozen q nonePointer).version ∷ get_or c.reserved q noVersion ∷ replaced own c rows q) (replaced own c rows q)) ≤ 2 * suc q + 1
+        → length (cond b ((get_or c.frozen q none_pointer).version ∷ get_or c.reserved q no_version ∷ replaced own c rows q) (replaced own c rows q)) ≤ 2 * suc q + 1
     go true ih = omega arith
     go false ih = omega arith
 
@@ -209,55 +209,55 @@ tabulate-listed u (suc n) f q l e = ap (listed u) (tabulate-more n f) ∙ go (�
 
 module _ (z : Measures) (k : Clients) (a : Rows) (c : ℕ) (x : Pointer) where
   -- what the lists of a record and of rows show for client q
-  frozen-at : (q : ℕ) → q < z.m → get_or (clientAt z k c).frozen q nonePointer ≡ k.frozen c q
-  frozen-at q l = get_d_tabulate z.m (k.frozen c) q nonePointer l
+  frozen_at : (q : ℕ) → q < z.m → get_or (client_at z k c).frozen q none_pointer ≡ k.frozen c q
+  frozen_at q l = get_or-tabulate z.m (k.frozen c) q none_pointer l
 
-  reserved-at : (q : ℕ) → q < z.m → get_or (clientAt z k c).reserved q noVersion ≡ k.reserved c q
-  reserved-at q l = get_d_tabulate z.m (k.reserved c) q noVersion l
+  reserved_at : (q : ℕ) → q < z.m → get_or (client_at z k c).reserved q no_version ≡ k.reserved c q
+  reserved_at q l = get_or-tabulate z.m (k.reserved c) q no_version l
 
-  index_at : (q : ℕ) → q < z.m → get_or (clientAt z k c).frozenIndices q (record { 0 = 0 }) ≡ record { 0 = k.indices c q }
-  index_at q l = get_d_tabulate {A = ReadingIndex} z.m (λ q. record { 0 = k.indices c q }) q (record { 0 = 0 }) l
+  index_at : (q : ℕ) → q < z.m → get_or (client_at z k c).frozen_indices q (record { 0 = 0 }) ≡ record { 0 = k.indices c q }
+  index_at q l = get_or-tabulate {A = ReadingIndex} z.m (λ q. record { 0 = k.indices c q }) q (record { 0 = 0 }) l
 
-  reading-at : (q : ℕ) → q < z.m → (get_or (rows_at z a) q no_row).readingIndex ≡ record { 0 = a.reading q }
-  reading-at q l = ap (λ (r : Row). r.readingIndex) (get_d_tabulate z.m (row_at z a) q no_row l)
+  reading_at : (q : ℕ) → q < z.m → (get_or (rows_at z a) q no_row).reading_index ≡ record { 0 = a.reading q }
+  reading_at q l = ap (λ (r : Row). r.reading_index) (get_or-tabulate z.m (row_at z a) q no_row l)
 
-  noticed-at : (q : ℕ) → q < z.m → noticed c (clientAt z k c) (rows_at z a) q ≡ notices k a c q
+  noticed_at : (q : ℕ) → q < z.m → noticed c (client_at z k c) (rows_at z a) q ≡ notices k a c q
   unfolding noticed
-  noticed-at q l = λ i. not (eqb q c) && ltb (index_at q l i).0 (reading-at q l i).0
+  noticed_at q l = λ i. not (eqb q c) && ltb (index_at q l i).0 (reading_at q l i).0
 
   -- the record of a deposit's end
-  pub frozen-after : frozenAfter z c (clientAt z k c) (rows_at z a) x ≡ clientAt z (frozenBy k c x a) c
-  unfolding frozenAfter
+  pub frozen-after : frozen_after z c (client_at z k c) (rows_at z a) x ≡ client_at z (frozen_by k c x a) c
+  unfolding frozen_after
   frozen-after =
       rw (eq-eqb c c refl)
       (λ i. record {
         phase = Phase.idle;
-        readingIndex = record { 0 = k.reading c };
+        reading_index = record { 0 = k.reading c };
         written = x;
-        frozen = tabulate-ext z.m _ _ (λ q l j. cond (noticed-at q l j) x (frozen-at q l j)) i;
-        reserved = tabulate-ext z.m _ _ (λ q l j. cond (noticed-at q l j) (k.written c).version (reserved-at q l j)) i;
-        frozenIndices =
-            tabulate-ext z.m _ _
+        frozen = tabulate_ext z.m _ _ (λ q l j. cond (noticed_at q l j) x (frozen_at q l j)) i;
+        reserved = tabulate_ext z.m _ _ (λ q l j. cond (noticed_at q l j) (k.written c).version (reserved_at q l j)) i;
+        frozen_indices =
+            tabulate_ext z.m _ _
             (λ q l.
-            (λ j. cond (noticed-at q l j) (reading-at q l j) (index_at q l j)) ∙ chosen_of {B = ReadingIndex} (λ n. record { 0 = n }) (notices k a c q) (a.reading q) (k.indices c q)) i;
+            (λ j. cond (noticed_at q l j) (reading_at q l j) (index_at q l j)) ∙ chosen_of {B = ReadingIndex} (λ n. record { 0 = n }) (notices k a c q) (a.reading q) (k.indices c q)) i;
       })
 
   -- the versions replaced, of the first n clients
   abbrev gone : ℕ → List Version
-  gone n = replaced c (clientAt z k c) (rows_at z a) n
+  gone n = replaced c (client_at z k c) (rows_at z a) n
 
-  gone-more : (q : ℕ) → q < z.m → gone (suc q) ≡ cond (notices k a c q) ((k.frozen c q).version ∷ k.reserved c q ∷ gone q) (gone q)
+  gone_more : (q : ℕ) → q < z.m → gone (suc q) ≡ cond (notices k a c q) ((k.frozen c q).version ∷ k.reserved c q ∷ gone q) (gone q)
   unfolding replaced
-  gone-more q l = λ i. cond (noticed-at q l i) ((frozen-at q l i).version ∷ reserved-at q l i ∷ gone q) (gone q)
+  gone_more q l = λ i. cond (noticed_at q l i) ((frozen_at q l i).version ∷ reserved_at q l i ∷ gone q) (gone q)
 
-  gone-from : (u : Version) (n : ℕ) → n ≤ z.m → listed u (gone n) ≡ true → Replaced z k a c u
+  gone_from : (u : Version) (n : ℕ) → n ≤ z.m → listed u (gone n) ≡ true → Replaced z k a c u
   unfolding replaced listed
-  gone-from u zero l e = go (listed-split u (k.written c).version [] e)
+  gone_from u zero l e = go (listed-split u (k.written c).version [] e)
     where
       go : ((k.written c).version ≡ u) ⊎ (listed u [] ≡ true) → Replaced z k a c u
       go (inl h) = Replaced.previous h
       go (inr h) = absurd (true≢false (sym h))
-  gone-from u (suc q) l e = go (notices k a c q) refl (sym (ap (listed u) (gone-more q (omega arith))) ∙ e) (gone-from u q (omega arith))
+  gone_from u (suc q) l e = go (notices k a c q) refl (sym (ap (listed u) (gone_more q (omega arith))) ∙ e) (gone_from u q (omega arith))
     where
       second : notices k a c q ≡ true → (listed u (gone q) ≡ true → Replaced z k a c u)
           → (k.reserved c q ≡ u) ⊎ (listed u (gone q) ≡ true) → Replaced z k a c u
@@ -274,9 +274,9 @@ module _ (z : Measures) (k : Clients) (a : Rows) (c : ℕ) (x : Pointer) where
       go true p h ih = first p ih (listed-split u (k.frozen c q).version (k.reserved c q ∷ gone q) h)
       go false p h ih = ih h
 
-  gone-later : (u : Version) (n q : ℕ) → q ≤ n → n ≤ z.m → listed u (gone q) ≡ true → listed u (gone n) ≡ true
-  gone-later u zero q l m e = let f : q ≡ 0 = omega arith in rw f at e
-  gone-later u (suc n) q l m e = go (ℕ_discrete q (suc n)) (gone-later u n q)
+  gone_later : (u : Version) (n q : ℕ) → q ≤ n → n ≤ z.m → listed u (gone q) ≡ true → listed u (gone n) ≡ true
+  gone_later u zero q l m e = let f : q ≡ 0 = omega arith in rw f at e
+  gone_later u (suc n) q l m e = go (ℕ_discrete q (suc n)) (gone_later u n q)
     where
       stays : (b : Bool) → listed u (gone n) ≡ true → listed u (cond b ((k.frozen c n).version ∷ k.reserved c n ∷ gone n) (gone n)) ≡ true
       stays true h =
@@ -285,26 +285,26 @@ module _ (z : Measures) (k : Clients) (a : Rows) (c : ℕ) (x : Pointer) where
 
       go : Dec (q ≡ suc n) → (q ≤ n → n ≤ z.m → listed u (gone q) ≡ true → listed u (gone n) ≡ true) → listed u (gone (suc n)) ≡ true
       go (yes f) ih = rw f at e
-      go (no f) ih = rw (gone-more n (omega arith)) (stays (notices k a c n) (ih (omega arith) (omega arith) e))
+      go (no f) ih = rw (gone_more n (omega arith)) (stays (notices k a c n) (ih (omega arith) (omega arith) e))
 
-  gone-to : (u : Version) → Replaced z k a c u → listed u (gone z.m) ≡ true
+  gone_to : (u : Version) → Replaced z k a c u → listed u (gone z.m) ≡ true
   unfolding replaced
-  gone-to u (Replaced.previous e) = gone-later u z.m 0 (omega arith) (omega arith) (listed_here u (k.written c).version [] e)
-  gone-to u (Replaced.thawed q l p e) =
-      gone-later u z.m (suc q) (omega arith) (omega arith)
-      (rw (gone-more q l) (rw p (listed_here u (k.frozen c q).version (k.reserved c q ∷ gone q) e)))
-  gone-to u (Replaced.unreserved q l p e) =
-      gone-later u z.m (suc q) (omega arith) (omega arith)
-      (rw (gone-more q l)
+  gone_to u (Replaced.previous e) = gone_later u z.m 0 (omega arith) (omega arith) (listed_here u (k.written c).version [] e)
+  gone_to u (Replaced.thawed q l p e) =
+      gone_later u z.m (suc q) (omega arith) (omega arith)
+      (rw (gone_more q l) (rw p (listed_here u (k.frozen c q).version (k.reserved c q ∷ gone q) e)))
+  gone_to u (Replaced.unreserved q l p e) =
+      gone_later u z.m (suc q) (omega arith) (omega arith)
+      (rw (gone_more q l)
       (rw p (listed-there u (k.frozen c q).version (k.reserved c q ∷ gone q) (listed_here u (k.reserved c q) (gone q) e))))
 
 -- the versions that a record freezes or reserves
 module _ (z : Measures) (k : Clients) (c : ℕ) where
-  retained-as : stillRetained (clientAt z k c) ≡ tabulate z.m (λ q. (k.frozen c q).version) ++ tabulate z.m (k.reserved c)
-  retained-as = ap (λ (l : List Version). l ++ tabulate z.m (k.reserved c)) (map-tabulate (λ (p : Pointer). p.version) z.m (k.frozen c))
+  retained_as : still_retained (client_at z k c) ≡ tabulate z.m (λ q. (k.frozen c q).version) ++ tabulate z.m (k.reserved c)
+  retained_as = ap (λ (l : List Version). l ++ tabulate z.m (k.reserved c)) (map-tabulate (λ (p : Pointer). p.version) z.m (k.frozen c))
 
-  retained-from : (u : Version) → listed u (stillRetained (clientAt z k c)) ≡ true → Retains z k c u
-  retained-from u e = go (listed u f) refl (sym (ap (listed u) retained-as ∙ listed-append u f r) ∙ e)
+  retained-from : (u : Version) → listed u (still_retained (client_at z k c)) ≡ true → Retains z k c u
+  retained-from u e = go (listed u f) refl (sym (ap (listed u) retained_as ∙ listed-append u f r) ∙ e)
     where
       f : List Version
       f = tabulate z.m (λ q. (k.frozen c q).version)
@@ -316,42 +316,42 @@ module _ (z : Measures) (k : Clients) (c : ℕ) where
       go true p h = let x = listed-tabulate u z.m (λ q. (k.frozen c q).version) p in Retains.frozen x.0 x.1 x.2
       go false p h = let x = listed-tabulate u z.m (k.reserved c) h in Retains.reserved x.0 x.1 x.2
 
-  retained-to : (u : Version) → Retains z k c u → listed u (stillRetained (clientAt z k c)) ≡ true
-  retained-to u (Retains.frozen q l e) =
-      rw retained-as
+  retained_to : (u : Version) → Retains z k c u → listed u (still_retained (client_at z k c)) ≡ true
+  retained_to u (Retains.frozen q l e) =
+      rw retained_as
       (rw (listed-append u (tabulate z.m (λ q. (k.frozen c q).version)) (tabulate z.m (k.reserved c)))
       (rw (tabulate-listed u z.m (λ q. (k.frozen c q).version) q l e) refl))
-  retained-to u (Retains.reserved q l e) =
-      rw retained-as
+  retained_to u (Retains.reserved q l e) =
+      rw retained_as
       (rw (listed-append u (tabulate z.m (λ q. (k.frozen c q).version)) (tabulate z.m (k.reserved c)))
       (rw (tabulate-listed u z.m (k.reserved c) q l e) (or-true (listed u (tabulate z.m (λ q. (k.frozen c q).version))))))
 
 module _ (z : Measures) (k : Clients) (a : Rows) (c : ℕ) (x : Pointer) where
   -- what leaves the free list: none, and what is still frozen or reserved
   abbrev kept : List Version
-  kept = stillRetained (clientAt z (frozenBy k c x a) c)
+  kept = still_retained (client_at z (frozen_by k c x a) c)
 
-  freed-listed : (u : Version) → listed u (freed z c (clientAt z k c) (rows_at z a) x) ≡ (listed u (gone z k a c x z.m) && not (listed u (noVersion ∷ kept)))
+  freed-listed : (u : Version) → listed u (freed z c (client_at z k c) (rows_at z a) x) ≡ (listed u (gone z k a c x z.m) && not (listed u (no_version ∷ kept)))
   freed-listed u = rw (frozen-after z k a c x) (free-listed kept u (gone z k a c x z.m))
 
-  pub frees : Frees z k a c x (freed z c (clientAt z k c) (rows_at z a) x)
+  pub frees : Frees z k a c x (freed z c (client_at z k c) (rows_at z a) x)
   frees =
       record {
-        replaced = λ v e. gone-from z k a c x v z.m (omega arith) (parts v e).0;
-        left = λ v e r. true≢false (sym (listed-there v noVersion kept (retained-to z (frozenBy k c x a) c v r)) ∙ (parts v e).1);
-        proper = λ v e n. true≢false (sym (listed_here v noVersion kept (sym n)) ∙ (parts v e).1);
-        all = λ v r nr nn. freed-listed v ∙ rw (gone-to z k a c x v r) (ap not (is_false (listed v (noVersion ∷ kept)) (unkept v nr nn)));
+        replaced = λ v e. gone_from z k a c x v z.m (omega arith) (parts v e).0;
+        left = λ v e r. true≢false (sym (listed-there v no_version kept (retained_to z (frozen_by k c x a) c v r)) ∙ (parts v e).1);
+        proper = λ v e n. true≢false (sym (listed_here v no_version kept (sym n)) ∙ (parts v e).1);
+        all = λ v r nr nn. freed-listed v ∙ rw (gone_to z k a c x v r) (ap not (is_false (listed v (no_version ∷ kept)) (unkept v nr nn)));
       }
     where
-      parts : (v : Version) → listed v (freed z c (clientAt z k c) (rows_at z a) x) ≡ true
-          → (listed v (gone z k a c x z.m) ≡ true) × (listed v (noVersion ∷ kept) ≡ false)
+      parts : (v : Version) → listed v (freed z c (client_at z k c) (rows_at z a) x) ≡ true
+          → (listed v (gone z k a c x z.m) ≡ true) × (listed v (no_version ∷ kept) ≡ false)
       parts v e =
-          let y = and-true (listed v (gone z k a c x z.m)) (not (listed v (noVersion ∷ kept))) (sym (freed-listed v) ∙ e) in
-          (y.0, not-true (listed v (noVersion ∷ kept)) y.1)
+          let y = and-true (listed v (gone z k a c x z.m)) (not (listed v (no_version ∷ kept))) (sym (freed-listed v) ∙ e) in
+          (y.0, not-true (listed v (no_version ∷ kept)) y.1)
 
-      unkept : (v : Version) → (Retains z (frozenBy k c x a) c v → ⊥) → (v ≡ noVersion → ⊥) → listed v (noVersion ∷ kept) ≡ true → ⊥
-      unkept v nr nn e = go (listed-split v noVersion kept e)
+      unkept : (v : Version) → (Retains z (frozen_by k c x a) c v → ⊥) → (v ≡ no_version → ⊥) → listed v (no_version ∷ kept) ≡ true → ⊥
+      unkept v nr nn e = go (listed-split v no_version kept e)
         where
-          go : (noVersion ≡ v) ⊎ (listed v kept ≡ true) → ⊥
+          go : (no_version ≡ v) ⊎ (listed v kept ≡ true) → ⊥
           go (inl h) = nn (sym h)
-          go (inr h) = nr (retained-from z (frozenBy k c x a) c v h)
+          go (inr h) = nr (retained-from z (frozen_by k c x a) c v h)

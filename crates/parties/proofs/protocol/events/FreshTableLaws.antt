@@ -8,16 +8,16 @@ use borrow.Author.Tests.{le-leb}
 use lib.ListN.{length, drop, length-replicate}
 use lib.Seq.{drop-length}
 use Rattle.parties.specs.declared.Measures.{Measures}
-use Rattle.parties.specs.protocol.Measures.{passes, rowSize}
-use Rattle.parties.specs.protocol.Directory.{writeDirectory, freshDirectory, fresh_row, writeRow}
-use Rattle.parties.specs.protocol.NodeTable.{writeTable}
-use Rattle.parties.specs.protocol.Client.{clientSize, writeClient, freshClient}
-use Rattle.parties.specs.protocol.DirectoryEvents.{directorySize, directoryFresh}
-use Rattle.parties.specs.protocol.NodeEvents.{tableSize, nodeFresh}
-use Rattle.parties.specs.protocol.ClientEvents.{clientFresh}
+use Rattle.parties.specs.protocol.Measures.{passes, row_size}
+use Rattle.parties.specs.protocol.Directory.{write_directory, fresh_directory, fresh_row, write_row}
+use Rattle.parties.specs.protocol.NodeTable.{write_table}
+use Rattle.parties.specs.protocol.Client.{client_size, write_client, fresh_client}
+use Rattle.parties.specs.protocol.DirectoryEvents.{directory_size, directory_fresh}
+use Rattle.parties.specs.protocol.NodeEvents.{table_size, node_fresh}
+use Rattle.parties.specs.protocol.ClientEvents.{client_fresh}
 use Rattle.parties.proofs.protocol.formats.EachLaws.{each-replicate}
-use Rattle.parties.proofs.protocol.formats.RowLaws.{FitsRow, fresh-good, row_fits, length-directory}
-use Rattle.parties.proofs.protocol.events.NodeLaws.{empty-good}
+use Rattle.parties.proofs.protocol.formats.RowLaws.{FitsRow, fresh_good, row_fits, length-directory}
+use Rattle.parties.proofs.protocol.events.NodeLaws.{empty_good}
 use Rattle.parties.proofs.protocol.formats.NodeTableLaws.{length-table}
 use Rattle.parties.proofs.protocol.formats.ClientLaws.{length-client, fresh-client}
 
@@ -26,32 +26,32 @@ all_of : (x lent : List ℕ) (n : ℕ) → length lent ≡ n → x ++ drop n len
 all_of x lent n e = ap (λ (k : ℕ). x ++ drop k lent) (sym e) ∙ ap (λ (t : List ℕ). x ++ t) (drop-length lent) ∙ append-nil x
 
 module _ (s : Measures) where
-  pub directory-long : length (writeDirectory s (freshDirectory s)) ≡ directorySize s
+  pub directory-long : length (write_directory s (fresh_directory s)) ≡ directory_size s
   directory-long =
-      length-directory s (freshDirectory s)
+      length-directory s (fresh_directory s)
       (each-replicate (FitsRow s) s.m (fresh_row s)
-      ((fresh-good s, tt), le-leb (length (writeRow (fresh_row s))) (rowSize s) (row_fits s (fresh_row s) (fresh-good s))))
+      ((fresh_good s, tt), le-leb (length (write_row (fresh_row s))) (row_size s) (row_fits s (fresh_row s) (fresh_good s))))
       (length-replicate s.m (fresh_row s))
 
-  pub table-long : length (writeTable s []) ≡ tableSize s
-  table-long = length-table s [] (empty-good s)
+  pub table-long : length (write_table s []) ≡ table_size s
+  table-long = length-table s [] (empty_good s)
 
   module _ (ok : passes s ≡ true) where
-    pub client-long : length (writeClient s (freshClient s)) ≡ clientSize s
-    client-long = length-client s ok (freshClient s) (fresh-client s)
+    pub client-long : length (write_client s (fresh_client s)) ≡ client_size s
+    client-long = length-client s ok (fresh_client s) (fresh-client s)
 
-    pub directory-fresh : (table : List ℕ) → length table ≡ directorySize s → (directoryFresh s table).table ≡ writeDirectory s (freshDirectory s)
-    unfolding directoryFresh
+    pub directory-fresh : (table : List ℕ) → length table ≡ directory_size s → (directory_fresh s table).table ≡ write_directory s (fresh_directory s)
+    unfolding directory_fresh
     directory-fresh table e =
-        rw (ok, le-leb (directorySize s) (length table) (omega arith))
-        (all_of (writeDirectory s (freshDirectory s)) table (directorySize s) e)
+        rw (ok, le-leb (directory_size s) (length table) (omega arith))
+        (all_of (write_directory s (fresh_directory s)) table (directory_size s) e)
 
-    pub table-fresh : (table : List ℕ) → length table ≡ tableSize s → (nodeFresh s table).table ≡ writeTable s []
-    unfolding nodeFresh
-    table-fresh table e = rw (ok, le-leb (tableSize s) (length table) (omega arith)) (all_of (writeTable s []) table (tableSize s) e)
+    pub table-fresh : (table : List ℕ) → length table ≡ table_size s → (node_fresh s table).table ≡ write_table s []
+    unfolding node_fresh
+    table-fresh table e = rw (ok, le-leb (table_size s) (length table) (omega arith)) (all_of (write_table s []) table (table_size s) e)
 
-    pub client-fresh : (client : List ℕ) → length client ≡ clientSize s → (clientFresh s client).client ≡ writeClient s (freshClient s)
-    unfolding clientFresh
+    pub client-fresh : (client : List ℕ) → length client ≡ client_size s → (client_fresh s client).client ≡ write_client s (fresh_client s)
+    unfolding client_fresh
     client-fresh client e =
-        rw (ok, le-leb (clientSize s) (length client) (omega arith))
-        (all_of (writeClient s (freshClient s)) client (clientSize s) e)
+        rw (ok, le-leb (client_size s) (length client) (omega arith))
+        (all_of (write_client s (fresh_client s)) client (client_size s) e)

@@ -11,75 +11,75 @@ use Rattle.coding.specs.Bytes.{Bytes}
 use Rattle.coding.proofs.Cases.{and-true}
 use Rattle.parties.specs.declared.Measures.{Measures}
 use Rattle.parties.specs.declared.Version.{Version}
-use Rattle.parties.specs.protocol.Format.{readNumber, writeNumber, readMany, writeMany, readBytes}
-use Rattle.parties.specs.protocol.Measures.{pointerSize}
-use Rattle.parties.specs.protocol.Nodes.{nodesIn, count}
-use Rattle.parties.specs.protocol.Pointer.{readVersion, writeVersion, Named, Pointer, is_none, properPointer, readNamed, writeNamed, readPointer, writePointer}
-use Rattle.parties.proofs.protocol.formats.FormatLaws.{Format, format-then, format-check, format-number, format-many, format-bytes, Each, length-same}
+use Rattle.parties.specs.protocol.Format.{read_number, write_number, read_many, write_many, read_bytes}
+use Rattle.parties.specs.protocol.Measures.{pointer_size}
+use Rattle.parties.specs.protocol.Nodes.{nodes_in, count}
+use Rattle.parties.specs.protocol.Pointer.{read_version, write_version, Named, Pointer, is_none, proper_pointer, read_named, write_named, read_pointer, write_pointer}
+use Rattle.parties.proofs.protocol.formats.FormatLaws.{Format, format_then, format_check, format_number, format_many, format_bytes, Each, length-same}
 
 -- a sequence fits 4 bytes, a client 1
 abbrev pub GoodVersion : Version → Type 0
 GoodVersion v = (v.sequence.0 < 256 ^ 4) × (v.client < 256 ^ 1)
 
-pub format-version : Format Version readVersion writeVersion GoodVersion
-unfolding readVersion writeVersion
-format-version =
-    format-then (readNumber 4) (writeNumber 4) (λ q. q < 256 ^ 4) (λ q. readNumber 1) (λ q. writeNumber 1) (λ q c. c < 256 ^ 1)
+pub format_version : Format Version read_version write_version GoodVersion
+unfolding read_version write_version
+format_version =
+    format_then (read_number 4) (write_number 4) (λ q. q < 256 ^ 4) (λ q. read_number 1) (λ q. write_number 1) (λ q c. c < 256 ^ 1)
     (λ q c. record { sequence = record { 0 = q }; client = c }) (λ v. v.sequence.0) (λ v. v.client)
-    (λ v. refl) (λ q c g h. refl) (λ q c. refl) (format-number 4) (λ q. format-number 1)
+    (λ v. refl) (λ q c g h. refl) (λ q c. refl) (format_number 4) (λ q. format_number 1)
 
 -- as many digests as nodes, each of 32 bytes
 abbrev pub GoodNamed : Named → Type 0
-GoodNamed x = (x.nodes < 256 ^ 2) × (Each (λ d. Bytes d × (length d ≡ 32)) x.digests × (length x.digests ≡ length (nodesIn x.nodes)))
+GoodNamed x = (x.nodes < 256 ^ 2) × (Each (λ d. Bytes d × (length d ≡ 32)) x.digests × (length x.digests ≡ length (nodes_in x.nodes)))
 
-pub format-named : Format Named readNamed writeNamed GoodNamed
-unfolding readNamed writeNamed
-format-named =
-    format-then (readNumber 2) (writeNumber 2) (λ m. m < 256 ^ 2) (λ m. readMany (readBytes 32) (length (nodesIn m))) (λ m. writeMany (λ d. d))
-    (λ m ds. Each (λ d. Bytes d × (length d ≡ 32)) ds × (length ds ≡ length (nodesIn m)))
+pub format_named : Format Named read_named write_named GoodNamed
+unfolding read_named write_named
+format_named =
+    format_then (read_number 2) (write_number 2) (λ m. m < 256 ^ 2) (λ m. read_many (read_bytes 32) (length (nodes_in m))) (λ m. write_many (λ d. d))
+    (λ m ds. Each (λ d. Bytes d × (length d ≡ 32)) ds × (length ds ≡ length (nodes_in m)))
     (λ m ds. record { nodes = m; digests = ds }) (λ x. x.nodes) (λ x. x.digests)
-    (λ x. refl) (λ m ds g h. refl) (λ m ds. refl) (format-number 2)
-    (λ m. format-many (readBytes 32) (λ d. d) (λ d. Bytes d × (length d ≡ 32)) (format-bytes 32) (length (nodesIn m)))
+    (λ x. refl) (λ m ds g h. refl) (λ m ds. refl) (format_number 2)
+    (λ m. format_many (read_bytes 32) (λ d. d) (λ d. Bytes d × (length d ≡ 32)) (format_bytes 32) (length (nodes_in m)))
 
 abbrev pub GoodPointer : Measures → Pointer → Type 0
-GoodPointer s p = (GoodVersion p.version × GoodNamed p.named) × (properPointer s p ≡ true)
+GoodPointer s p = (GoodVersion p.version × GoodNamed p.named) × (proper_pointer s p ≡ true)
 
-pub format-pointer : (s : Measures) → Format Pointer (readPointer s) writePointer (GoodPointer s)
-unfolding readPointer writePointer
-format-pointer s =
-    format-check _ writePointer (λ p. GoodVersion p.version × GoodNamed p.named) (properPointer s)
-    (format-then readVersion writeVersion GoodVersion (λ v. readNamed) (λ v. writeNamed) (λ v. GoodNamed)
+pub format_pointer : (s : Measures) → Format Pointer (read_pointer s) write_pointer (GoodPointer s)
+unfolding read_pointer write_pointer
+format_pointer s =
+    format_check _ write_pointer (λ p. GoodVersion p.version × GoodNamed p.named) (proper_pointer s)
+    (format_then read_version write_version GoodVersion (λ v. read_named) (λ v. write_named) (λ v. GoodNamed)
     (λ v x. record { version = v; named = x }) (λ p. p.version) (λ p. p.named)
-    (λ p. refl) (λ v x g h. refl) (λ v x. refl) format-version (λ v. format-named))
+    (λ p. refl) (λ v x g h. refl) (λ v x. refl) format_version (λ v. format_named))
 
 -- lengths
 
-pub length-number : (w n : ℕ) → length (writeNumber w n) ≡ w
-unfolding writeNumber
+pub length-number : (w n : ℕ) → length (write_number w n) ≡ w
+unfolding write_number
 length-number zero n = refl
-length-number (suc w) n = length-append (writeNumber w (n / 256)) _ ∙ omega (arith, length-number w (n / 256))
+length-number (suc w) n = length-append (write_number w (n / 256)) _ ∙ omega (arith, length-number w (n / 256))
 
-pub length-version : (v : Version) → length (writeVersion v) ≡ 5
-unfolding writeVersion
+pub length-version : (v : Version) → length (write_version v) ≡ 5
+unfolding write_version
 length-version v =
-    length-append (writeNumber 4 v.sequence.0) (writeNumber 1 v.client) ∙ omega (arith, length-number 4 v.sequence.0, length-number 1 v.client)
+    length-append (write_number 4 v.sequence.0) (write_number 1 v.client) ∙ omega (arith, length-number 4 v.sequence.0, length-number 1 v.client)
 
-pub length-pointer : (p : Pointer) → length (writePointer p) ≡ 7 + length (writeMany (λ d. d) p.named.digests)
-unfolding writePointer writeNamed
+pub length-pointer : (p : Pointer) → length (write_pointer p) ≡ 7 + length (write_many (λ d. d) p.named.digests)
+unfolding write_pointer write_named
 length-pointer p =
-    let x = writeVersion p.version in
-    let y = writeNumber 2 p.named.nodes in
-    let z = writeMany (λ d. d) p.named.digests in
+    let x = write_version p.version in
+    let y = write_number 2 p.named.nodes in
+    let z = write_many (λ d. d) p.named.digests in
     length-append x (y ++ z) ∙ omega (arith, length-append y z, length-version p.version, length-number 2 p.named.nodes)
 
 -- ---- only none has sequence 0
 
-pub some-pointer : (p : Pointer) → (p.version.sequence.0 ≡ 0 → ⊥) → is_none p ≡ false
-some-pointer p n =
+pub some_pointer : (p : Pointer) → (p.version.sequence.0 ≡ 0 → ⊥) → is_none p ≡ false
+some_pointer p n =
     ap (λ (b : Bool). b && (eqb p.version.client 255 && eqb p.named.nodes 0)) (ne_eqb p.version.sequence.0 0 n)
 
 module _ (s : Measures) (p : Pointer) (g : GoodPointer s p) where
-  pub pointer-length : length (writePointer p) ≡ 7 + 32 * count p.named.nodes
+  pub pointer-length : length (write_pointer p) ≡ 7 + 32 * count p.named.nodes
   pointer-length =
       length-pointer p
       ∙ omega (arith, length-same (λ d. d) (λ d. Bytes d × (length d ≡ 32)) 32 (λ d h. h.1) p.named.digests g.0.1.1.0, g.0.1.1.1)
@@ -88,7 +88,7 @@ module _ (s : Measures) (p : Pointer) (g : GoodPointer s p) where
   others = ltb p.version.client s.m && (eqb (count p.named.nodes) (s.t + s.k) && ltb p.named.nodes (2 ^ s.n))
 
   pub none-pointer : p.version.sequence.0 ≡ 0 → is_none p ≡ true
-  unfolding properPointer
+  unfolding proper_pointer
   none-pointer e = go (is_none p) (leb 1 p.version.sequence.0) others (lt-leb 1 p.version.sequence.0 (omega arith)) g.1
     where
       go : (a b r : Bool) → b ≡ false → (a || (b && r)) ≡ true → a ≡ true
@@ -97,12 +97,12 @@ module _ (s : Measures) (p : Pointer) (g : GoodPointer s p) where
       go false false r f h = h
 
   -- t + k nodes stored what any other pointer names
-  pub some-count : is_none p ≡ false → count p.named.nodes ≡ s.t + s.k
-  unfolding properPointer
-  some-count n =
+  pub some_count : is_none p ≡ false → count p.named.nodes ≡ s.t + s.k
+  unfolding proper_pointer
+  some_count n =
       let a = and-true (leb 1 p.version.sequence.0) others (ap (λ (b : Bool). b || (leb 1 p.version.sequence.0 && others)) (sym n) ∙ g.1) in
       let c = and-true (ltb p.version.client s.m) _ a.1 in
       eqb-true (count p.named.nodes) (s.t + s.k) (and-true (eqb (count p.named.nodes) (s.t + s.k)) _ c.1).0
 
-  pub some-length : is_none p ≡ false → length (writePointer p) ≡ pointerSize s
-  some-length n = pointer-length ∙ ap (λ (k : ℕ). 7 + 32 * k) (some-count n)
+  pub some_length : is_none p ≡ false → length (write_pointer p) ≡ pointer_size s
+  some_length n = pointer-length ∙ ap (λ (k : ℕ). 7 + 32 * k) (some_count n)

@@ -6,22 +6,22 @@ use mathlib.Core.Option.{Option, some, none}
 use Prim.Native.Nat.{ℕ, zero, suc, ◌/◌, ◌%◌}
 use lib.Dec.{eqb}
 use lib.ListN.{length}
-use Rattle.coding.proofs.PageLaws.{none≢some, some-eq}
+use Rattle.coding.proofs.PageLaws.{none≢some, some_eq}
 use Rattle.parties.specs.declared.Measures.{Measures}
-use Rattle.parties.specs.protocol.Format.{Read, Reader, bind, check, both, given, mapped, chain, whole, readMany, readNumber}
-use Rattle.parties.specs.protocol.Pointer.{Pointer, properPointer, allPointers, readAnyPointer, readPointer}
-use Rattle.parties.specs.protocol.Directory.{Field, pointers, indices, Content, pointersOf, indicesOf, fields, readIndex, readContent, readFields}
-use Rattle.parties.specs.protocol.Directory.{properMap, readRecord, pointersIn, allFields}
-use Rattle.parties.specs.protocol.Verdict.{Verdict, sound, broken, byRule, byLength, recordVerdict, AsBefore}
-use Rattle.parties.proofs.protocol.formats.FormatLaws.{number-one}
-use Rattle.parties.proofs.protocol.formats.DirectoryLaws.{asList}
+use Rattle.parties.specs.protocol.Format.{Read, Reader, bind, check, both, given, mapped, chain, whole, read_many, read_number}
+use Rattle.parties.specs.protocol.Pointer.{Pointer, proper_pointer, all_pointers, read_any_pointer, read_pointer}
+use Rattle.parties.specs.protocol.Directory.{Field, pointers, indices, Content, pointers_of, indices_of, fields, read_index, read_content, read_fields}
+use Rattle.parties.specs.protocol.Directory.{proper_map, read_record, pointers_in, all_fields}
+use Rattle.parties.specs.protocol.Verdict.{Verdict, sound, broken, by_rule, by_length, record_verdict, AsBefore}
+use Rattle.parties.proofs.protocol.formats.FormatLaws.{number_one}
+use Rattle.parties.proofs.protocol.formats.DirectoryLaws.{as_list}
 
 -- ---- readers that test what they read
 
 module _ {A B C : Type 0} (make : A → B → C) (u : List ℕ) where
-  both-ext : (ra ra' : Reader A) (rb rb' : Reader B) → ((v : List ℕ) → ra v ≡ ra' v) → ((v : List ℕ) → rb v ≡ rb' v)
+  both_ext : (ra ra' : Reader A) (rb rb' : Reader B) → ((v : List ℕ) → ra v ≡ ra' v) → ((v : List ℕ) → rb v ≡ rb' v)
       → both ra (λ a. rb) make u ≡ both ra' (λ a. rb') make u
-  both-ext ra ra' rb rb' d e =
+  both_ext ra ra' rb rb' d e =
       ap (λ (o : Option (Read A)). bind o (λ a t. bind (rb t) (λ b v. some (record { value = make a b; rest = v })))) (d u) ∙ go (ra' u)
     where
       go : (o : Option (Read A))
@@ -61,8 +61,8 @@ module _ {A B C : Type 0} (make : A → B → C) (u : List ℕ) where
       go (some x) = first (p x.value) x refl
 
 module _ {A B : Type 0} (f : A → B) (u : List ℕ) where
-  mapped-ext : (r r' : Reader A) → ((v : List ℕ) → r v ≡ r' v) → mapped f r u ≡ mapped f r' u
-  mapped-ext r r' e = ap (λ (o : Option (Read A)). bind o (λ a t. some (record { value = f a; rest = t }))) (e u)
+  mapped_ext : (r r' : Reader A) → ((v : List ℕ) → r v ≡ r' v) → mapped f r u ≡ mapped f r' u
+  mapped_ext r r' e = ap (λ (o : Option (Read A)). bind o (λ a t. some (record { value = f a; rest = t }))) (e u)
 
   mapped-given : (test : B → Bool) (r : Reader A) → mapped f (given (λ a. test (f a)) r) u ≡ given test (mapped f r) u
   mapped-given test r = go (r u)
@@ -102,60 +102,60 @@ whole-given {A} test r u = go (r u)
 -- ---- fields whose pointers are tested, each by itself
 
 module _ (test : Pointer → Bool) (r : Reader Pointer) where
-  many-tested : (n : ℕ) (u : List ℕ) → readMany (given test r) n u ≡ given (allPointers test) (readMany r n) u
-  unfolding readMany allPointers
-  many-tested zero u = refl
-  many-tested (suc n) u =
-      both-ext ◌∷◌ u (given test r) (given test r) (readMany (given test r) n) (given (allPointers test) (readMany r n)) (λ v. refl) (many-tested n)
-      ∙ both-given ◌∷◌ u test (allPointers test) (allPointers test) (λ p l. refl) r (readMany r n)
+  many_tested : (n : ℕ) (u : List ℕ) → read_many (given test r) n u ≡ given (all_pointers test) (read_many r n) u
+  unfolding read_many all_pointers
+  many_tested zero u = refl
+  many_tested (suc n) u =
+      both_ext ◌∷◌ u (given test r) (given test r) (read_many (given test r) n) (given (all_pointers test) (read_many r n)) (λ v. refl) (many_tested n)
+      ∙ both-given ◌∷◌ u test (all_pointers test) (all_pointers test) (λ p l. refl) r (read_many r n)
 
   abbrev pub tested : Content → Bool
-  tested c = allPointers test (pointersIn (some c))
+  tested c = all_pointers test (pointers_in (some c))
 
-  pub content-tested : (f : Field) (u : List ℕ) → readContent (given test r) f u ≡ given tested (readContent r f) u
-  unfolding readContent allPointers
-  content-tested (pointers n) u =
-      mapped-ext pointersOf u (readMany (given test r) n) (given (allPointers test) (readMany r n)) (many-tested n)
-      ∙ mapped-given pointersOf u tested (readMany r n)
-  content-tested (indices n) u = go (readMany readIndex n u)
+  pub content_tested : (f : Field) (u : List ℕ) → read_content (given test r) f u ≡ given tested (read_content r f) u
+  unfolding read_content all_pointers
+  content_tested (pointers n) u =
+      mapped_ext pointers_of u (read_many (given test r) n) (given (all_pointers test) (read_many r n)) (many_tested n)
+      ∙ mapped-given pointers_of u tested (read_many r n)
+  content_tested (indices n) u = go (read_many read_index n u)
     where
-      go : (o : Option (Read _)) → bind o (λ l t. some (record { value = indicesOf l; rest = t }))
-          ≡ bind (bind o (λ l t. some (record { value = indicesOf l; rest = t }))) (λ c t. check (tested c) c t)
+      go : (o : Option (Read _)) → bind o (λ l t. some (record { value = indices_of l; rest = t }))
+          ≡ bind (bind o (λ l t. some (record { value = indices_of l; rest = t }))) (λ c t. check (tested c) c t)
       go none = refl
       go (some x) = refl
 
-  pub fields-tested : (fs : List Field) (map : ℕ) (u : List ℕ) → readFields (given test r) fs map u ≡ given (allFields test) (readFields r fs map) u
-  unfolding readFields allFields allPointers
-  fields-tested [] map u = refl
-  fields-tested (f ∷ fs) map u = go (fields-tested fs (map / 2)) (eqb (map % 2) 1)
+  pub fields_tested : (fs : List Field) (map : ℕ) (u : List ℕ) → read_fields (given test r) fs map u ≡ given (all_fields test) (read_fields r fs map) u
+  unfolding read_fields all_fields all_pointers
+  fields_tested [] map u = refl
+  fields_tested (f ∷ fs) map u = go (fields_tested fs (map / 2)) (eqb (map % 2) 1)
     where
-      go : ((v : List ℕ) → readFields (given test r) fs (map / 2) v ≡ given (allFields test) (readFields r fs (map / 2)) v)
+      go : ((v : List ℕ) → read_fields (given test r) fs (map / 2) v ≡ given (all_fields test) (read_fields r fs (map / 2)) v)
           → (b : Bool)
           → cond b
-          (mapped asList (both (readContent (given test r) f) (λ c. readFields (given test r) fs (map / 2)) (λ c l. (c, l))))
-          (mapped (λ l. none ∷ l) (readFields (given test r) fs (map / 2))) u
-          ≡ given (allFields test)
+          (mapped as_list (both (read_content (given test r) f) (λ c. read_fields (given test r) fs (map / 2)) (λ c l. (c, l))))
+          (mapped (λ l. none ∷ l) (read_fields (given test r) fs (map / 2))) u
+          ≡ given (all_fields test)
           (cond b
-          (mapped asList (both (readContent r f) (λ c. readFields r fs (map / 2)) (λ c l. (c, l))))
-          (mapped (λ l. none ∷ l) (readFields r fs (map / 2)))) u
+          (mapped as_list (both (read_content r f) (λ c. read_fields r fs (map / 2)) (λ c l. (c, l))))
+          (mapped (λ l. none ∷ l) (read_fields r fs (map / 2)))) u
       go others true =
-          mapped-ext asList u (both (readContent (given test r) f) (λ c. readFields (given test r) fs (map / 2)) (λ c l. (c, l)))
-          (given (λ x. allFields test (asList x)) (both (readContent r f) (λ c. readFields r fs (map / 2)) (λ c l. (c, l))))
+          mapped_ext as_list u (both (read_content (given test r) f) (λ c. read_fields (given test r) fs (map / 2)) (λ c l. (c, l)))
+          (given (λ x. all_fields test (as_list x)) (both (read_content r f) (λ c. read_fields r fs (map / 2)) (λ c l. (c, l))))
           (λ v.
-          both-ext (λ c l. (c, l)) v (readContent (given test r) f) (given tested (readContent r f))
-          (readFields (given test r) fs (map / 2)) (given (allFields test) (readFields r fs (map / 2))) (content-tested f) others
-          ∙ both-given (λ c l. (c, l)) v tested (allFields test) (λ x. allFields test (asList x)) (λ c l. refl) (readContent r f)
-          (readFields r fs (map / 2)))
-          ∙ mapped-given asList u (allFields test) (both (readContent r f) (λ c. readFields r fs (map / 2)) (λ c l. (c, l)))
+          both_ext (λ c l. (c, l)) v (read_content (given test r) f) (given tested (read_content r f))
+          (read_fields (given test r) fs (map / 2)) (given (all_fields test) (read_fields r fs (map / 2))) (content_tested f) others
+          ∙ both-given (λ c l. (c, l)) v tested (all_fields test) (λ x. all_fields test (as_list x)) (λ c l. refl) (read_content r f)
+          (read_fields r fs (map / 2)))
+          ∙ mapped-given as_list u (all_fields test) (both (read_content r f) (λ c. read_fields r fs (map / 2)) (λ c l. (c, l)))
       go others false =
-          mapped-ext (λ l. none ∷ l) u (readFields (given test r) fs (map / 2)) (given (allFields test) (readFields r fs (map / 2))) others
-          ∙ mapped-given (λ l. none ∷ l) u (allFields test) (readFields r fs (map / 2))
+          mapped_ext (λ l. none ∷ l) u (read_fields (given test r) fs (map / 2)) (given (all_fields test) (read_fields r fs (map / 2))) others
+          ∙ mapped-given (λ l. none ∷ l) u (all_fields test) (read_fields r fs (map / 2))
 
 -- document 01's fields are those by their lengths, tested by the rule
 pub fields-proper : (s : Measures) (fs : List Field) (map : ℕ) (u : List ℕ)
-    → readFields (readPointer s) fs map u ≡ given (allFields (properPointer s)) (readFields readAnyPointer fs map) u
-unfolding readPointer
-fields-proper s fs map u = fields-tested (properPointer s) readAnyPointer fs map u
+    → read_fields (read_pointer s) fs map u ≡ given (all_fields (proper_pointer s)) (read_fields read_any_pointer fs map) u
+unfolding read_pointer
+fields-proper s fs map u = fields_tested (proper_pointer s) read_any_pointer fs map u
 
 -- ---- its verdict
 
@@ -164,29 +164,29 @@ shown (sound a) = some a
 shown (broken n) = none
 
 shown-sound : {A : Type 0} (v : Verdict A) (a : A) → shown v ≡ some a → v ≡ sound a
-shown-sound (sound b) a e = ap sound (some-eq e)
+shown-sound (sound b) a e = ap sound (some_eq e)
 shown-sound (broken n) a e = absurd (none≢some e)
 
 module _ (s : Measures) where
-  shown-rule : (l : List (Option Content)) → shown (byRule s l) ≡ cond (allFields (properPointer s) l) (some l) none
-  shown-rule l = go (allFields (properPointer s) l)
+  shown_rule : (l : List (Option Content)) → shown (by_rule s l) ≡ cond (all_fields (proper_pointer s) l) (some l) none
+  shown_rule l = go (all_fields (proper_pointer s) l)
     where
       go : (b : Bool) → shown (cond b (sound l) (broken 12)) ≡ cond b (some l) none
       go true = refl
       go false = refl
 
-  shown-length : (o : Option (List (Option Content))) → shown (byLength s o) ≡ chain o (λ l. cond (allFields (properPointer s) l) (some l) none)
+  shown-length : (o : Option (List (Option Content))) → shown (by_length s o) ≡ chain o (λ l. cond (all_fields (proper_pointer s) l) (some l) none)
   shown-length none = refl
-  shown-length (some l) = shown-rule l
+  shown-length (some l) = shown_rule l
 
-  shown-none : shown (recordVerdict s []) ≡ whole (readRecord s) []
-  unfolding recordVerdict readRecord readNumber
+  shown-none : shown (record_verdict s []) ≡ whole (read_record s) []
+  unfolding record_verdict read_record read_number
   shown-none = refl
 
-  shown-record : (t : List ℕ) → shown (recordVerdict s t) ≡ whole (readRecord s) t
-  unfolding recordVerdict readRecord
-  shown-record [] = shown-none
-  shown-record (b ∷ u) = rw (number-one b u) (go (properMap s b))
+  shown_record : (t : List ℕ) → shown (record_verdict s t) ≡ whole (read_record s) t
+  unfolding record_verdict read_record
+  shown_record [] = shown-none
+  shown_record (b ∷ u) = rw (number_one b u) (go (proper_map s b))
     where
       all : (o : Option (Read (List (Option Content))))
           → chain o (λ x. cond (eqb (length x.rest) 0) (some x.value) none)
@@ -195,36 +195,36 @@ module _ (s : Measures) where
       all (some x) = refl
 
       go : (c : Bool)
-          → shown (cond c (byLength s (whole (readFields readAnyPointer (fields s) b) u)) (broken 4))
-          ≡ chain (bind (check c b u) (λ map t. bind (readFields (readPointer s) (fields s) map t) (λ l v. some (record { value = l; rest = v }))))
+          → shown (cond c (by_length s (whole (read_fields read_any_pointer (fields s) b) u)) (broken 4))
+          ≡ chain (bind (check c b u) (λ map t. bind (read_fields (read_pointer s) (fields s) map t) (λ l v. some (record { value = l; rest = v }))))
           (λ x. cond (eqb (length x.rest) 0) (some x.value) none)
       go true =
-          shown-length (whole (readFields readAnyPointer (fields s) b) u)
-          ∙ sym (whole-given (allFields (properPointer s)) (readFields readAnyPointer (fields s) b) u)
+          shown-length (whole (read_fields read_any_pointer (fields s) b) u)
+          ∙ sym (whole-given (all_fields (proper_pointer s)) (read_fields read_any_pointer (fields s) b) u)
           ∙ ap (λ (o : Option (Read (List (Option Content)))). chain o (λ x. cond (eqb (length x.rest) 0) (some x.value) none))
           (sym (fields-proper s (fields s) b u))
-          ∙ all (readFields (readPointer s) (fields s) b u)
+          ∙ all (read_fields (read_pointer s) (fields s) b u)
       go false = refl
 
   abbrev Numbered : Verdict (List (Option Content)) → Type 0
   Numbered (sound l) = Unit {0}
   Numbered (broken n) = (eqb n 4 || (eqb n 11 || eqb n 12)) ≡ true
 
-  numbered : (t : List ℕ) → Numbered (recordVerdict s t)
-  unfolding recordVerdict
+  numbered : (t : List ℕ) → Numbered (record_verdict s t)
+  unfolding record_verdict
   numbered [] = refl
-  numbered (b ∷ u) = by_map (properMap s b)
+  numbered (b ∷ u) = by_map (proper_map s b)
     where
-      by-rule : (l : List (Option Content)) (c : Bool) → Numbered (cond c (sound l) (broken 12))
-      by-rule l true = tt
-      by-rule l false = refl
+      by_rule_lem : (l : List (Option Content)) (c : Bool) → Numbered (cond c (sound l) (broken 12))
+      by_rule_lem l true = tt
+      by_rule_lem l false = refl
 
-      by_length : (o : Option (List (Option Content))) → Numbered (byLength s o)
-      by_length none = refl
-      by_length (some l) = by-rule l (allFields (properPointer s) l)
+      by_length_lem : (o : Option (List (Option Content))) → Numbered (by_length s o)
+      by_length_lem none = refl
+      by_length_lem (some l) = by_rule_lem l (all_fields (proper_pointer s) l)
 
-      by_map : (c : Bool) → Numbered (cond c (byLength s (whole (readFields readAnyPointer (fields s) b) u)) (broken 4))
-      by_map true = by_length (whole (readFields readAnyPointer (fields s) b) u)
+      by_map : (c : Bool) → Numbered (cond c (by_length s (whole (read_fields read_any_pointer (fields s) b) u)) (broken 4))
+      by_map true = by_length_lem (whole (read_fields read_any_pointer (fields s) b) u)
       by_map false = refl
 
   -- the theorem
@@ -232,6 +232,6 @@ module _ (s : Measures) where
   as_before t =
       record {
         numbers = λ n e. subst Numbered e (numbered t);
-        reads = λ l e. sym (shown-record t) ∙ ap shown e;
-        conversely = λ l e. shown-sound (recordVerdict s t) l (shown-record t ∙ e);
+        reads = λ l e. sym (shown_record t) ∙ ap shown e;
+        conversely = λ l e. shown-sound (record_verdict s t) l (shown_record t ∙ e);
       }

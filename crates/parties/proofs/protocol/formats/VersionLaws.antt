@@ -7,8 +7,8 @@ use native.Mathlib.Omega.{arith}
 use borrow.Author.Tests.{not-true, lt-ltb, le-ltb, ltb-true, ltb-false, eq-eqb, ne_eqb}
 use lib.Dec.{ltb}
 use Rattle.parties.specs.declared.Version.{Version}
-use Rattle.parties.specs.protocol.Version.{below, noVersion}
-use Rattle.parties.specs.protocol.Reading.{sameVersion}
+use Rattle.parties.specs.protocol.Version.{below, no_version}
+use Rattle.parties.specs.protocol.Reading.{same_version}
 use Rattle.parties.proofs.protocol.model.Cells.{is_false}
 
 module _ (a b : Version) where
@@ -22,8 +22,8 @@ module _ (a b : Version) where
   below-same h = simp (le-ltb a.sequence.0 b.sequence.0 (omega arith), eq-eqb a.sequence.0 b.sequence.0 h)
 
 -- none is below every version that a deposit draws
-pub none_below : (v : Version) → 1 ≤ v.sequence.0 → below noVersion v ≡ true
-none_below v h = below_less noVersion v h
+pub none_below : (v : Version) → 1 ≤ v.sequence.0 → below no_version v ≡ true
+none_below v h = below_less no_version v h
 
 -- the order as a fact
 pub data Below (a b : Version) : Type 0 where
@@ -43,25 +43,25 @@ pub true_below : (a b : Version) → Below a b → below a b ≡ true
 true_below a b (earlier h) = below_less a b h
 true_below a b (beside q h) = below-same a b q ∙ lt-ltb a.client b.client h
 
-pub below-trans : (a b c : Version) → Below a b → Below b c → Below a c
-below-trans a b c (earlier h) (earlier k) = earlier (omega arith)
-below-trans a b c (earlier h) (beside q k) = earlier (omega arith)
-below-trans a b c (beside q h) (earlier k) = earlier (omega arith)
-below-trans a b c (beside q h) (beside r k) = beside (q ∙ r) (omega arith)
+pub below_trans : (a b c : Version) → Below a b → Below b c → Below a c
+below_trans a b c (earlier h) (earlier k) = earlier (omega arith)
+below_trans a b c (earlier h) (beside q k) = earlier (omega arith)
+below_trans a b c (beside q h) (earlier k) = earlier (omega arith)
+below_trans a b c (beside q h) (beside r k) = beside (q ∙ r) (omega arith)
 
 pub below_irrefl : (a : Version) → Below a a → ⊥
 below_irrefl a (earlier h) = omega arith
 below_irrefl a (beside q h) = omega arith
 
-pub not-below-self : (v : Version) → below v v ≡ false
-not-below-self v = is_false (below v v) (λ e. below_irrefl v (below_true v v e))
+pub not_below_self : (v : Version) → below v v ≡ false
+not_below_self v = is_false (below v v) (λ e. below_irrefl v (below_true v v e))
 
-pub not-below-back : (a b : Version) → below a b ≡ true → below b a ≡ false
-not-below-back a b e = is_false (below b a) (λ f. below_irrefl a (below-trans a b a (below_true a b e) (below_true b a f)))
+pub not_below_back : (a b : Version) → below a b ≡ true → below b a ≡ false
+not_below_back a b e = is_false (below b a) (λ f. below_irrefl a (below_trans a b a (below_true a b e) (below_true b a f)))
 
 -- two versions of which neither is below the other are the same
-pub neither-below : (a b : Version) → below a b ≡ false → below b a ≡ false → a ≡ b
-neither-below a b e f = go (dec_lt a.sequence.0 b.sequence.0) (dec_lt b.sequence.0 a.sequence.0)
+pub neither_below : (a b : Version) → below a b ≡ false → below b a ≡ false → a ≡ b
+neither_below a b e f = go (dec_lt a.sequence.0 b.sequence.0) (dec_lt b.sequence.0 a.sequence.0)
   where
     go : Dec (a.sequence.0 < b.sequence.0) → Dec (b.sequence.0 < a.sequence.0) → a ≡ b
     go (yes h) k = absurd (true≢false (sym (below_less a b h) ∙ e))
@@ -74,13 +74,13 @@ neither-below a b e f = go (dec_lt a.sequence.0 b.sequence.0) (dec_lt b.sequence
         λ i. record { sequence = record { 0 = q i }; client = z i }
 
 -- and versions that are the same are just those that the test finds so
-pub same-eq : (u v : Version) → sameVersion u v ≡ true → u ≡ v
-same-eq u v e = go (below u v) refl (below v u) refl (not-true (below u v || below v u) e)
+pub same_eq : (u v : Version) → same_version u v ≡ true → u ≡ v
+same_eq u v e = go (below u v) refl (below v u) refl (not-true (below u v || below v u) e)
   where
     go : (a : Bool) → below u v ≡ a → (b : Bool) → below v u ≡ b → (a || b) ≡ false → u ≡ v
     go true p b q h = absurd (true≢false h)
     go false p true q h = absurd (true≢false h)
-    go false p false q h = neither-below u v p q
+    go false p false q h = neither_below u v p q
 
-pub eq-same : (u v : Version) → u ≡ v → sameVersion u v ≡ true
-eq-same u v e = rw e (simp (not-below-self v))
+pub eq_same : (u v : Version) → u ≡ v → same_version u v ≡ true
+eq_same u v e = rw e (simp (not_below_self v))

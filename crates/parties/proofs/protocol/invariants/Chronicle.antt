@@ -7,9 +7,9 @@ use mathlib.Core.Option.{some, none}
 use Prim.Native.Nat.{ℕ, ◌/◌, ◌≤◌, ◌<◌}
 use Rattle.parties.specs.declared.Measures.{Measures}
 use Rattle.parties.specs.declared.Version.{Version}
-use Rattle.parties.specs.protocol.Pointer.{Pointer, nonePointer}
+use Rattle.parties.specs.protocol.Pointer.{Pointer, none_pointer}
 use Rattle.parties.specs.protocol.Run.{History, Put}
-use Rattle.parties.proofs.protocol.model.Model.{num, ver, Turn, Clients, Past, Model, shownWritten, offer}
+use Rattle.parties.proofs.protocol.model.Model.{num, ver, Turn, Clients, Past, Model, shown_written, offer}
 use Rattle.parties.specs.protocol.Claim.{Member}
 use Rattle.parties.proofs.protocol.invariants.Invariants.{unnum}
 
@@ -79,7 +79,7 @@ Listed h x = (d : ℕ) × Member (record { pointer = x; operation = d }) h.puts
 
 -- a pointer that a reading shows: none, or one that is put in
 pub data ShownPointer (h : History) (p : Past) (x : Pointer) : Type 0 where
-  absent : x ≡ nonePointer → ShownPointer h p x
+  absent : x ≡ none_pointer → ShownPointer h p x
   put : p.drawn (ver x) ≡ true → p.pointers (ver x) ≡ x → 256 ≤ ver x → Listed h x → ShownPointer h p x
 
 -- the deposit of a version that is drawn
@@ -122,7 +122,7 @@ pub record Rightly (p : Past) (x : Put) : Type 0 where
 
 -- none, or put in
 abbrev pub NoneOrListed : History → Pointer → Type 0
-NoneOrListed h x = (x ≡ nonePointer) ⊎ Listed h x
+NoneOrListed h x = (x ≡ none_pointer) ⊎ Listed h x
 
 abbrev pub OffersListed : Measures → History → Clients → ℕ → Turn → Type 0
 OffersListed z h k c Turn.idle = Unit {0}
@@ -167,7 +167,7 @@ Since z s c Turn.raised = FrozenAfter z s c
 Since z s c Turn.picking = FrozenAfter z s c
 Since z s c (Turn.picked a) =
     (w : ℕ) → w < z.m
-    → (s.p.shown (s.h.latest c) w ≤ ver (offer a c (s.c.reading c) w)) × (ver (offer a c (s.c.reading c) w) ≤ ver (shownWritten s.c w))
+    → (s.p.shown (s.h.latest c) w ≤ ver (offer a c (s.c.reading c) w)) × (ver (offer a c (s.c.reading c) w) ≤ ver (shown_written s.c w))
 Since z s c (Turn.fetching x n m ps) = Unit {0}
 
 -- some row shows a version that is no lower
@@ -179,12 +179,12 @@ pub record Ordering (z : Measures) (s : Model) : Type 0 where
   pub ends : (o t : ℕ) → o < s.h.begun → (s.h.operation o).ended ≡ some t → t < s.h.time
   pub since : (c : ℕ) → c < z.m → Since z s c (s.c.turn c)
   -- rows only grow
-  pub grows : (o w : ℕ) → o < s.h.begun → w < z.m → s.p.shown o w ≤ ver (shownWritten s.c w)
+  pub grows : (o w : ℕ) → o < s.h.begun → w < z.m → s.p.shown o w ≤ ver (shown_written s.c w)
   -- what an ended operation bears, and what a reading bears, some row shows or has passed
   pub ended : (o : ℕ) (v : Version) (t : ℕ) → o < s.h.begun → (s.h.operation o).version ≡ some v → (s.h.operation o).ended ≡ some t
-      → Below z (λ w. ver (shownWritten s.c w)) (num v)
+      → Below z (λ w. ver (shown_written s.c w)) (num v)
   pub reads : (o : ℕ) (v : Version) → o < s.h.begun → (s.h.operation o).version ≡ some v → (s.h.operation o).page ≡ none
-      → Below z (λ w. ver (shownWritten s.c w)) (num v)
+      → Below z (λ w. ver (shown_written s.c w)) (num v)
   -- an operation that ended before another began: what it bears, some row showed then
   pub before : (e o : ℕ) (v : Version) (t : ℕ) → e < s.h.begun → o < s.h.begun → (s.h.operation e).version ≡ some v
       → (s.h.operation e).ended ≡ some t → t < (s.h.operation o).began → Below z (s.p.shown o) (num v)

@@ -9,33 +9,33 @@ use Rattle.coding.specs.Bytes.{Bytes}
 use Rattle.coding.specs.Pieces.{piece}
 use Rattle.parties.specs.declared.Measures.{Measures}
 use Rattle.parties.specs.declared.Version.{Version}
-use Rattle.parties.specs.protocol.Version.{noVersion}
+use Rattle.parties.specs.protocol.Version.{no_version}
 use Rattle.parties.specs.protocol.Nodes.{count, stands}
-use Rattle.parties.specs.protocol.Pointer.{Pointer, nonePointer}
-use Rattle.parties.specs.protocol.NodeTable.{Held, inOrder}
-use Rattle.parties.specs.protocol.Node.{handBack, listed}
+use Rattle.parties.specs.protocol.Pointer.{Pointer, none_pointer}
+use Rattle.parties.specs.protocol.NodeTable.{Held, in_order}
+use Rattle.parties.specs.protocol.Node.{hand_back, listed}
 use Rattle.parties.specs.protocol.NodeEvents.{is_held}
 use Rattle.parties.specs.protocol.Message.{ToNode, ToClient}
-use Rattle.parties.specs.protocol.Reading.{sameVersion}
+use Rattle.parties.specs.protocol.Reading.{same_version}
 use Rattle.parties.specs.protocol.Claim.{Member}
 use Rattle.parties.proofs.protocol.formats.FormatLaws.{Each}
-use Rattle.parties.proofs.protocol.model.Model.{num, ver, Rows, Turn, Clients, Nodes, Past, Model, shownReading, offer, last, pointed}
+use Rattle.parties.proofs.protocol.model.Model.{num, ver, Rows, Turn, Clients, Nodes, Past, Model, shown_reading, offer, last, pointed}
 
 -- ---- pointers and versions of a client
 
 -- a pointer is none, or one that a deposit of client w formed
 pub data Known (p : Past) (w : ℕ) (x : Pointer) : Type 0 where
-  absent : x ≡ nonePointer → Known p w x
+  absent : x ≡ none_pointer → Known p w x
   formed : p.drawn (ver x) ≡ true → p.pointers (ver x) ≡ x → x.version.client ≡ w → 256 ≤ ver x → Known p w x
 
 pub data KnownVersion (p : Past) (w : ℕ) (v : Version) : Type 0 where
-  absent : v ≡ noVersion → KnownVersion p w v
+  absent : v ≡ no_version → KnownVersion p w v
   drawn : p.drawn (num v) ≡ true → v.client ≡ w → 256 ≤ num v → KnownVersion p w v
 
 pub record Storing (z : Measures) (p : Past) (k : Clients) (w : ℕ) (v : Version) (bytes : List ℕ) (a : ℕ) : Type 0 where
   pub drawn : p.drawn (num v) ≡ true
   pub page : p.pages (num v) ≡ bytes
-  pub pointer : p.pointers (num v) ≡ nonePointer
+  pub pointer : p.pointers (num v) ≡ none_pointer
   pub client : v.client ≡ w
   pub newer : ver (k.written w) < num v
   pub sequence : (1 ≤ v.sequence.0) × (v.sequence.0 < 2 ^ 32)
@@ -75,7 +75,7 @@ pub record Owned (z : Measures) (s : Model) : Type 0 where
   pub frozen : (w q : ℕ) → w < z.m → Known s.p w (s.c.frozen w q) × (ver (s.c.frozen w q) ≤ ver (s.c.written w))
   pub reserved : (w q : ℕ) → w < z.m → KnownVersion s.p w (s.c.reserved w q) × (num (s.c.reserved w q) ≤ ver (s.c.written w))
   pub shown : (w q : ℕ) → w < z.m → Known s.p w (s.d.frozen w q) × (ver (s.d.frozen w q) ≤ ver (s.c.written w))
-  pub self : (w : ℕ) → w < z.m → (s.c.frozen w w ≡ nonePointer) × (s.c.reserved w w ≡ noVersion)
+  pub self : (w : ℕ) → w < z.m → (s.c.frozen w w ≡ none_pointer) × (s.c.reserved w w ≡ no_version)
 
 -- ---- versions drawn
 
@@ -96,7 +96,7 @@ pub record DrawnVersion (z : Measures) (s : Model) (v : ℕ) : Type 0 where
   pub before : v ≤ last s.c (v % 256)
   pub bytes : Bytes (s.p.pages v)
   pub long : length (s.p.pages v) ≤ z.k * z.f - 4
-  pub pointer : (s.p.pointers v ≡ nonePointer) ⊎ Pointed z s.p v
+  pub pointer : (s.p.pointers v ≡ none_pointer) ⊎ Pointed z s.p v
 
 abbrev pub Drawing : Measures → Model → Type 0
 Drawing z s = (v : ℕ) → s.p.drawn v ≡ true → DrawnVersion z s v
@@ -142,8 +142,8 @@ Seen z r (Turn.fetching p n m ps) = Unit {0}
 
 pub record Lagging (z : Measures) (s : Model) : Type 0 where
   pub lag : (w q : ℕ) → w < z.m → Lag s w q
-  pub index : (w q : ℕ) → w < z.m → q < z.m → s.c.indices w q ≤ shownReading s.c q
-  pub seen : (w : ℕ) → w < z.m → Seen z (shownReading s.c) (s.c.turn w)
+  pub index : (w q : ℕ) → w < z.m → q < z.m → s.c.indices w q ≤ shown_reading s.c q
+  pub seen : (w : ℕ) → w < z.m → Seen z (shown_reading s.c) (s.c.turn w)
 
 -- ---- what is retained for readers
 
@@ -231,7 +231,7 @@ pub data Keeps (z : Measures) (k : Clients) (w : ℕ) (v : Version) : Type 0 whe
 
 -- the versions that a node holds, after a message
 abbrev pub effect : ToNode → (Version → Bool) → Version → Bool
-effect (ToNode.store v x) f u = sameVersion u v || f u
+effect (ToNode.store v x) f u = same_version u v || f u
 effect (ToNode.request v) f u = f u
 effect (ToNode.free l) f u = f u && not (listed u l)
 
@@ -248,7 +248,7 @@ Plays z k w f [] =
 Plays z k w f (m ∷ q) = Bounded z w f × Plays z k w (effect m f) q
 
 abbrev pub holding : List Held → Version → Bool
-holding l v = is_held (handBack v l)
+holding l v = is_held (hand_back v l)
 
 -- a piece that a node holds is its deposit's
 pub record Stocked (z : Measures) (p : Past) (i : ℕ) (h : Held) : Type 0 where
@@ -277,15 +277,15 @@ Once top (ToNode.request v ∷ q) = Once top q
 Once top (ToNode.free l ∷ q) = Once top q
 
 pub record Stocking (z : Measures) (honest : ℕ → Bool) (s : Model) : Type 0 where
-  pub order : (i : ℕ) → inOrder (s.n.held i) ≡ true
+  pub order : (i : ℕ) → in_order (s.n.held i) ≡ true
   pub stocked : (i : ℕ) → honest i ≡ true → 1 ≤ i → i ≤ z.n → Each (Stocked z s.p i) (s.n.held i)
-  pub sound : (w i : ℕ) → honest i ≡ true → 1 ≤ i → i ≤ z.n → w < z.m → Each (Sound z s.p w i) (s.n.toNode w i)
-  pub plays : (w i : ℕ) → honest i ≡ true → 1 ≤ i → i ≤ z.n → w < z.m → Plays z s.c w (holding (s.n.held i)) (s.n.toNode w i)
+  pub sound : (w i : ℕ) → honest i ≡ true → 1 ≤ i → i ≤ z.n → w < z.m → Each (Sound z s.p w i) (s.n.to_node w i)
+  pub plays : (w i : ℕ) → honest i ≡ true → 1 ≤ i → i ≤ z.n → w < z.m → Plays z s.c w (holding (s.n.held i)) (s.n.to_node w i)
 
 -- ---- what is acknowledged has arrived
 
 abbrev pub Arrived : Nodes → ℕ → Version → Type 0
-Arrived n i v = NoStore v (n.toNode v.client i)
+Arrived n i v = NoStore v (n.to_node v.client i)
 
 -- a message from node i to client c: an acknowledged version has arrived, a piece is the deposit's, one not held is no longer kept
 abbrev pub Truthful : Measures → Model → ℕ → ℕ → ToClient → Type 0
@@ -311,8 +311,8 @@ Acked z honest n (Turn.picked a) = Unit {0}
 Acked z honest n (Turn.fetching p c m ps) = Unit {0}
 
 pub record Arriving (z : Measures) (honest : ℕ → Bool) (s : Model) : Type 0 where
-  pub once : (w i : ℕ) → honest i ≡ true → 1 ≤ i → i ≤ z.n → w < z.m → Once (last s.c w) (s.n.toNode w i)
-  pub messages : (i c : ℕ) → honest i ≡ true → 1 ≤ i → i ≤ z.n → c < z.m → Each (Truthful z s i c) (s.n.toClient i c)
+  pub once : (w i : ℕ) → honest i ≡ true → 1 ≤ i → i ≤ z.n → w < z.m → Once (last s.c w) (s.n.to_node w i)
+  pub messages : (i c : ℕ) → honest i ≡ true → 1 ≤ i → i ≤ z.n → c < z.m → Each (Truthful z s i c) (s.n.to_client i c)
   pub acked : (c : ℕ) → c < z.m → Acked z honest s.n (s.c.turn c)
   pub named : (v : Version) (i : ℕ) → honest i ≡ true → 1 ≤ i → i ≤ z.n → v.client < z.m → s.p.drawn (num v) ≡ true
       → stands (s.p.pointers (num v)).named.nodes i ≡ true → Arrived s.n i v

@@ -9,10 +9,10 @@ use Rattle.coding.proofs.Cases.{and-true}
 use Rattle.parties.specs.declared.Measures.{Measures}
 use Rattle.parties.specs.protocol.Pointer.{Pointer}
 use Rattle.parties.specs.protocol.Run.{History, upd}
-use Rattle.parties.proofs.protocol.model.Cells.{by-eq}
+use Rattle.parties.proofs.protocol.model.Cells.{by_eq}
 use Rattle.parties.proofs.protocol.formats.MeasureLaws.{Passed}
-use Rattle.parties.proofs.protocol.model.Model.{Turn, Rows, Clients, Shown, Nodes, Past, Model, Next, raisedTo}
-use Rattle.parties.proofs.protocol.model.Model.{shownReading, notices, turned, raisedBy, frozenBy, published}
+use Rattle.parties.proofs.protocol.model.Model.{Turn, Rows, Clients, Shown, Nodes, Past, Model, Next, raised_to}
+use Rattle.parties.proofs.protocol.model.Model.{shown_reading, notices, turned, raised_by, frozen_by, published}
 use Rattle.parties.proofs.protocol.invariants.Invariants.{Unput, Lag, Seen, Lagging, Owned}
 
 -- ---- of the clients alone
@@ -34,14 +34,14 @@ seen_more z f g m (Turn.picked a) e = λ q l. omega (arith, e q l, m q)
 seen_more z f g m (Turn.fetching x n o ps) e = tt
 
 -- where one client's turn changes and its row's reading index does not fall, none falls
-not-fallen : (k : Clients) (c : ℕ) (u : Turn) → shownReading k c ≤ raisedTo u (k.reading c) → (q : ℕ)
-    → shownReading k q ≤ raisedTo (upd k.turn c u q) (k.reading q)
-not-fallen k c u m q = by-eq q c (λ f g. rw f (rw g m)) (λ f g. rw f (omega arith))
+not_fallen : (k : Clients) (c : ℕ) (u : Turn) → shown_reading k c ≤ raised_to u (k.reading c) → (q : ℕ)
+    → shown_reading k q ≤ raised_to (upd k.turn c u q) (k.reading q)
+not_fallen k c u m q = by_eq q c (λ f g. rw f (rw g m)) (λ f g. rw f (omega arith))
 
-seen_turned : (z : Measures) (k : Clients) (c : ℕ) (u : Turn) (r : ℕ → ℕ) → ((q : ℕ) → shownReading k q ≤ r q) → Seen z (shownReading k) u
-    → ((w : ℕ) → w < z.m → Seen z (shownReading k) (k.turn w)) → (w : ℕ) → w < z.m → Seen z r (upd k.turn c u w)
+seen_turned : (z : Measures) (k : Clients) (c : ℕ) (u : Turn) (r : ℕ → ℕ) → ((q : ℕ) → shown_reading k q ≤ r q) → Seen z (shown_reading k) u
+    → ((w : ℕ) → w < z.m → Seen z (shown_reading k) (k.turn w)) → (w : ℕ) → w < z.m → Seen z r (upd k.turn c u w)
 seen_turned z k c u r m a o w l =
-    by-eq w c (λ f g. rw f (seen_more z (shownReading k) r m u a)) (λ f g. rw f (seen_more z (shownReading k) r m (k.turn w) (o w l)))
+    by_eq w c (λ f g. rw f (seen_more z (shown_reading k) r m u a)) (λ f g. rw f (seen_more z (shown_reading k) r m (k.turn w) (o w l)))
 
 -- ---- one client's turn changes
 
@@ -51,51 +51,51 @@ moved k c u r =
     record { turn = upd k.turn c u; written = k.written; frozen = k.frozen; reserved = k.reserved; indices = k.indices; reading = r }
 
 module _ (z : Measures) (s : Model) (c : ℕ) (u : Turn) where
-  unput-turned : (Unput (s.c.turn c) → Unput u) → (w : ℕ) → Unput (s.c.turn w) → Unput (upd s.c.turn c u w)
-  unput-turned p w a = by-eq w c (λ f g. rw f (p (rw g at a))) (λ f g. rw f a)
+  unput_turned : (Unput (s.c.turn c) → Unput u) → (w : ℕ) → Unput (s.c.turn w) → Unput (upd s.c.turn c u w)
+  unput_turned p w a = by_eq w c (λ f g. rw f (p (rw g at a))) (λ f g. rw f a)
 
-  lag-moved : (r : ℕ → ℕ) (n : Nodes) (p : Past) (h : History) → (Unput (s.c.turn c) → Unput u)
+  lag_moved : (r : ℕ → ℕ) (n : Nodes) (p : Past) (h : History) → (Unput (s.c.turn c) → Unput u)
       → (w q : ℕ) → Lag s w q → Lag (record { c = moved s.c c u r; d = s.d; n = n; p = p; h = h }) w q
-  lag-moved r n p h b w q (Lag.level a e) = Lag.level a e
-  lag-moved r n p h b w q (Lag.behind a l e) = Lag.behind (unput-turned b w a) l e
+  lag_moved r n p h b w q (Lag.level a e) = Lag.level a e
+  lag_moved r n p h b w q (Lag.behind a l e) = Lag.behind (unput_turned b w a) l e
 
   -- its row's reading index does not fall
-  moved-lagging : (r : ℕ → ℕ) (d : Shown) (n : Nodes) (p : Past) (h : History)
+  moved_lagging : (r : ℕ → ℕ) (d : Shown) (n : Nodes) (p : Past) (h : History)
       → ((w q : ℕ) → Lag s w q → Lag (record { c = moved s.c c u r; d = d; n = n; p = p; h = h }) w q)
-      → ((q : ℕ) → shownReading s.c q ≤ shownReading (moved s.c c u r) q) → Seen z (shownReading s.c) u
+      → ((q : ℕ) → shown_reading s.c q ≤ shown_reading (moved s.c c u r) q) → Seen z (shown_reading s.c) u
       → Lagging z s → Lagging z (record { c = moved s.c c u r; d = d; n = n; p = p; h = h })
-  moved-lagging r d n p h b m a o =
+  moved_lagging r d n p h b m a o =
       record {
         lag = λ w q l. b w q (o.lag w q l);
         index = λ w q l j. omega (arith, o.index w q l j, m q);
-        seen = seen_turned z s.c c u (shownReading (moved s.c c u r)) m a o.seen;
+        seen = seen_turned z s.c c u (shown_reading (moved s.c c u r)) m a o.seen;
       }
 
   -- and what it has put in stays put in
-  turned-lagging : (n : Nodes) (p : Past) (h : History) → (Unput (s.c.turn c) → Unput u)
-      → shownReading s.c c ≤ raisedTo u (s.c.reading c) → Seen z (shownReading s.c) u
+  turned_lagging : (n : Nodes) (p : Past) (h : History) → (Unput (s.c.turn c) → Unput u)
+      → shown_reading s.c c ≤ raised_to u (s.c.reading c) → Seen z (shown_reading s.c) u
       → Lagging z s → Lagging z (record { c = turned s.c c u; d = s.d; n = n; p = p; h = h })
-  turned-lagging n p h b m = moved-lagging s.c.reading s.d n p h (lag-moved s.c.reading n p h b) (not-fallen s.c c u m)
+  turned_lagging n p h b m = moved_lagging s.c.reading s.d n p h (lag_moved s.c.reading n p h b) (not_fallen s.c c u m)
 
 -- nothing changes for clients and directory
-lag-same : (s : Model) (n : Nodes) (p : Past) (h : History) (w q : ℕ) → Lag s w q → Lag (record { c = s.c; d = s.d; n = n; p = p; h = h }) w q
-lag-same s n p h w q (Lag.level a e) = Lag.level a e
-lag-same s n p h w q (Lag.behind a l e) = Lag.behind a l e
+lag_same : (s : Model) (n : Nodes) (p : Past) (h : History) (w q : ℕ) → Lag s w q → Lag (record { c = s.c; d = s.d; n = n; p = p; h = h }) w q
+lag_same s n p h w q (Lag.level a e) = Lag.level a e
+lag_same s n p h w q (Lag.behind a l e) = Lag.behind a l e
 
-same-lagging : (z : Measures) (s : Model) (n : Nodes) (p : Past) (h : History) → Lagging z s
+same_lagging : (z : Measures) (s : Model) (n : Nodes) (p : Past) (h : History) → Lagging z s
     → Lagging z (record { c = s.c; d = s.d; n = n; p = p; h = h })
-same-lagging z s n p h o = record { lag = λ w q l. lag-same s n p h w q (o.lag w q l); index = o.index; seen = o.seen }
+same_lagging z s n p h o = record { lag = λ w q l. lag_same s n p h w q (o.lag w q l); index = o.index; seen = o.seen }
 
 -- ---- a reading begins: its index is one higher, its row's is as before
 
-begun-shown : (k : Clients) (c : ℕ) → k.turn c ≡ Turn.idle → (q : ℕ) → shownReading k q ≤ shownReading (raisedBy k c) q
-begun-shown k c e q = by-eq q c (λ f g. rw f (rw g (rw e (omega arith)))) (λ f g. rw f (omega arith))
+begun-shown : (k : Clients) (c : ℕ) → k.turn c ≡ Turn.idle → (q : ℕ) → shown_reading k q ≤ shown_reading (raised_by k c) q
+begun-shown k c e q = by_eq q c (λ f g. rw f (rw g (rw e (omega arith)))) (λ f g. rw f (omega arith))
 
 -- ---- a deposit's update: its row takes the client's frozen pointers and indices
 
-publish-lag : (s : Model) (c : ℕ) (x : Pointer) (h : History) (w q : ℕ)
+publish_lag : (s : Model) (c : ℕ) (x : Pointer) (h : History) (w q : ℕ)
     → Lag s w q → Lag (record { c = turned s.c c (Turn.updated x); d = published s c; n = s.n; p = s.p; h = h }) w q
-publish-lag s c x h w q a = by-eq w c (λ f g. Lag.level (rw f (rw g refl)) (rw f (rw g refl))) (λ f g. other f a)
+publish_lag s c x h w q a = by_eq w c (λ f g. Lag.level (rw f (rw g refl)) (rw f (rw g refl))) (λ f g. other f a)
   where
     other : eqb w c ≡ false → Lag s w q → Lag (record { c = turned s.c c (Turn.updated x); d = published s c; n = s.n; p = s.p; h = h }) w q
     other f (Lag.level a e) = Lag.level (rw f a) (rw f e)
@@ -105,15 +105,15 @@ publish-lag s c x h w q a = by-eq w c (λ f g. Lag.level (rw f (rw g refl)) (rw 
 
 module _ (z : Measures) (s : Model) (c : ℕ) (x : Pointer) (a : Rows) (n : Nodes) (h : History) (e : s.c.turn c ≡ Turn.noticing x a) where
   abbrev after : Model
-  after = record { c = frozenBy s.c c x a; d = s.d; n = n; p = s.p; h = h }
+  after = record { c = frozen_by s.c c x a; d = s.d; n = n; p = s.p; h = h }
 
   -- its row was level, since its pointer was put in
-  level-at : (q : ℕ) → Lag s c q → (s.d.indices c q ≡ s.c.indices c q) × (s.d.frozen c q ≡ s.c.frozen c q)
-  level-at q (Lag.level i f) = (i, f)
-  level-at q (Lag.behind b i f) = absurd (rw e at b)
+  level_at : (q : ℕ) → Lag s c q → (s.d.indices c q ≡ s.c.indices c q) × (s.d.frozen c q ≡ s.c.frozen c q)
+  level_at q (Lag.level i f) = (i, f)
+  level_at q (Lag.behind b i f) = absurd (rw e at b)
 
-  freeze-own : (q : ℕ) → Lag s c q → Lag after c q
-  freeze-own q o = go (notices s.c a c q) refl
+  freeze_own : (q : ℕ) → Lag s c q → Lag after c q
+  freeze_own q o = go (notices s.c a c q) refl
     where
       same : eqb c c ≡ true
       same = eq-eqb c c refl
@@ -121,70 +121,70 @@ module _ (z : Measures) (s : Model) (c : ℕ) (x : Pointer) (a : Rows) (n : Node
       go : (b : Bool) → notices s.c a c q ≡ b → Lag after c q
       go true f =
           let n : s.c.indices c q < a.reading q = ltb-true _ _ (and-true (not (eqb q c)) _ f).1 in
-          Lag.behind (rw same tt) (rw (same, f) (omega (arith, (level-at q o).0))) (rw (same, f) refl)
-      go false f = Lag.level (rw (same, f) (level-at q o).0) (rw (same, f) (level-at q o).1)
+          Lag.behind (rw same tt) (rw (same, f) (omega (arith, (level_at q o).0))) (rw (same, f) refl)
+      go false f = Lag.level (rw (same, f) (level_at q o).0) (rw (same, f) (level_at q o).1)
 
   freeze-other : (w q : ℕ) → eqb w c ≡ false → Lag s w q → Lag after w q
   freeze-other w q f (Lag.level i g) = Lag.level (rw f i) (rw f g)
   freeze-other w q f (Lag.behind b i g) = Lag.behind (rw f b) (rw f i) (rw f g)
 
-  freeze-lag : (w q : ℕ) → Lag s w q → Lag after w q
-  freeze-lag w q o = by-eq w c (λ f g. rw g (freeze-own q (rw g at o))) (λ f g. freeze-other w q f o)
+  freeze_lag : (w q : ℕ) → Lag s w q → Lag after w q
+  freeze_lag w q o = by_eq w c (λ f g. rw g (freeze_own q (rw g at o))) (λ f g. freeze-other w q f o)
 
   -- what is noticed is what the rows under way show
-  freeze-index : c < z.m → Lagging z s → (w q : ℕ) → w < z.m → q < z.m → (frozenBy s.c c x a).indices w q ≤ shownReading s.c q
-  freeze-index l o w q j k = by-eq w c (λ f g. rw f (go (notices s.c a c q) refl)) (λ f g. rw f (o.index w q j k))
+  freeze-index : c < z.m → Lagging z s → (w q : ℕ) → w < z.m → q < z.m → (frozen_by s.c c x a).indices w q ≤ shown_reading s.c q
+  freeze-index l o w q j k = by_eq w c (λ f g. rw f (go (notices s.c a c q) refl)) (λ f g. rw f (o.index w q j k))
     where
-      go : (b : Bool) → notices s.c a c q ≡ b → cond (notices s.c a c q) (a.reading q) (s.c.indices c q) ≤ shownReading s.c q
+      go : (b : Bool) → notices s.c a c q ≡ b → cond (notices s.c a c q) (a.reading q) (s.c.indices c q) ≤ shown_reading s.c q
       go true f = rw f ((rw e at (o.seen c l)) q k)
       go false f = rw f (o.index c q l k)
 
-  freeze-lagging : c < z.m → Lagging z s → Lagging z after
-  freeze-lagging l o =
-      let m : (q : ℕ) → shownReading s.c q ≤ shownReading after.c q = not-fallen s.c c Turn.idle (rw e (omega arith)) in
+  freeze_lagging : c < z.m → Lagging z s → Lagging z after
+  freeze_lagging l o =
+      let m : (q : ℕ) → shown_reading s.c q ≤ shown_reading after.c q = not_fallen s.c c Turn.idle (rw e (omega arith)) in
       record {
-        lag = λ w q j. freeze-lag w q (o.lag w q j);
+        lag = λ w q j. freeze_lag w q (o.lag w q j);
         index = λ w q j k. omega (arith, freeze-index l o w q j k, m q);
-        seen = seen_turned z s.c c Turn.idle (shownReading after.c) m tt o.seen;
+        seen = seen_turned z s.c c Turn.idle (shown_reading after.c) m tt o.seen;
       }
 
 -- ---- every step
 
-pub lagging-kept : (z : Measures) (honest : ℕ → Bool) → Passed z → (s t : Model) → Next z honest s t → Owned z s → Lagging z s → Lagging z t
-lagging-kept z honest y s t (Next.refused h q) w o = same-lagging z s s.n s.p h o
-lagging-kept z honest y s t (Next.deposit c bytes h q l e bb n) w o =
-    turned-lagging z s c (Turn.scanning bytes) s.n _ h (λ b. tt) (rw e (omega arith)) tt o
-lagging-kept z honest y s t (Next.reading c h q l e) w o =
-    moved-lagging z s c Turn.raising _ s.d s.n _ h (lag-moved z s c Turn.raising _ s.n _ h (λ b. tt)) (begun-shown s.c c e) tt o
-lagging-kept z honest y s t (Next.publish c x h q l e) w o =
-    moved-lagging z s c (Turn.updated x) s.c.reading (published s c) s.n s.p h (publish-lag s c x h)
-    (not-fallen s.c c (Turn.updated x) (rw e (omega arith))) tt o
-lagging-kept z honest y s t (Next.raise c h q l e) w o =
-    turned-lagging z s c Turn.raised s.n s.p h (λ b. tt) (rw e (omega arith)) tt o
-lagging-kept z honest y s t (Next.scan-first c bytes h q l e) w o =
-    turned-lagging z s c _ s.n s.p h (λ b. tt) (rw e (omega arith)) (λ q l. omega arith) o
-lagging-kept z honest y s t (Next.scan-second c x h q l e) w o =
-    turned-lagging z s c _ s.n s.p h (λ b. rw e at b) (rw e (omega arith)) (λ q l. omega arith) o
-lagging-kept z honest y s t (Next.scan-reading c h q l e) w o =
-    turned-lagging z s c _ s.n s.p h (λ b. tt) (rw e (omega arith)) (λ q l. omega arith) o
-lagging-kept z honest y s t (Next.acknowledged c x h q l e) w o =
-    turned-lagging z s c _ s.n s.p h (λ b. rw e at b) (rw e (omega arith)) tt o
-lagging-kept z honest y s t (Next.known c h q l e) w o =
-    turned-lagging z s c Turn.picking s.n s.p h (λ b. tt) (rw e (omega arith)) tt o
-lagging-kept z honest y s t (Next.draw c bytes a v h q l e ec es ab) w o = turned-lagging z s c _ _ _ h (λ b. tt) (rw e (omega arith)) tt o
-lagging-kept z honest y s t (Next.spent c bytes a h q l e) w o = turned-lagging z s c Turn.idle s.n s.p h (λ b. tt) (rw e (omega arith)) tt o
-lagging-kept z honest y s t (Next.freeze c x a fl h q l e fr) w o = freeze-lagging z s c x a _ h e l o
-lagging-kept z honest y s t (Next.empty c a h q l e pk) w o = turned-lagging z s c Turn.idle s.n s.p h (λ b. tt) (rw e (omega arith)) tt o
-lagging-kept z honest y s t (Next.fetch c a x h q l e pk ne) w o = turned-lagging z s c _ _ s.p h (λ b. tt) (rw e (omega arith)) tt o
-lagging-kept z honest y s t (Next.store c i v x rest h q hi lo up l e) w o = same-lagging z s _ s.p h o
-lagging-kept z honest y s t (Next.request c i v rest h q hi lo up l e) w o = same-lagging z s _ s.p h o
-lagging-kept z honest y s t (Next.free c i fl rest h q hi lo up l e) w o = same-lagging z s _ s.p h o
-lagging-kept z honest y s t (Next.passed i c m qs h q co) w o = same-lagging z s _ s.p h o
-lagging-kept z honest y s t (Next.added i c v bytes a qs h q l lo up e co st few) w o =
-    turned-lagging z s c _ _ s.p h (λ b. tt) (rw e (omega arith)) tt o
-lagging-kept z honest y s t (Next.formed i c v bytes a qs h q l lo up e co st en) w o = turned-lagging z s c _ _ _ h (λ b. tt) (rw e (omega arith)) tt o
-lagging-kept z honest y s t (Next.missed i c x n m ps b qs h q l lo up e co hi sn st) w o =
-    turned-lagging z s c _ _ s.p h (λ b. tt) (rw e (omega arith)) tt o
-lagging-kept z honest y s t (Next.matched i c x n m ps b qs h q l lo up e co sn st eb few) w o =
-    turned-lagging z s c _ _ s.p h (λ b. tt) (rw e (omega arith)) tt o
-lagging-kept z honest y s t (Next.ended i c x n m ps b qs h q l e co) w o = turned-lagging z s c Turn.idle _ s.p h (λ b. tt) (rw e (omega arith)) tt o
+pub lagging_kept : (z : Measures) (honest : ℕ → Bool) → Passed z → (s t : Model) → Next z honest s t → Owned z s → Lagging z s → Lagging z t
+lagging_kept z honest y s t (Next.refused h q) w o = same_lagging z s s.n s.p h o
+lagging_kept z honest y s t (Next.deposit c bytes h q l e bb n) w o =
+    turned_lagging z s c (Turn.scanning bytes) s.n _ h (λ b. tt) (rw e (omega arith)) tt o
+lagging_kept z honest y s t (Next.reading c h q l e) w o =
+    moved_lagging z s c Turn.raising _ s.d s.n _ h (lag_moved z s c Turn.raising _ s.n _ h (λ b. tt)) (begun-shown s.c c e) tt o
+lagging_kept z honest y s t (Next.publish c x h q l e) w o =
+    moved_lagging z s c (Turn.updated x) s.c.reading (published s c) s.n s.p h (publish_lag s c x h)
+    (not_fallen s.c c (Turn.updated x) (rw e (omega arith))) tt o
+lagging_kept z honest y s t (Next.raise c h q l e) w o =
+    turned_lagging z s c Turn.raised s.n s.p h (λ b. tt) (rw e (omega arith)) tt o
+lagging_kept z honest y s t (Next.scan-first c bytes h q l e) w o =
+    turned_lagging z s c _ s.n s.p h (λ b. tt) (rw e (omega arith)) (λ q l. omega arith) o
+lagging_kept z honest y s t (Next.scan_second c x h q l e) w o =
+    turned_lagging z s c _ s.n s.p h (λ b. rw e at b) (rw e (omega arith)) (λ q l. omega arith) o
+lagging_kept z honest y s t (Next.scan-reading c h q l e) w o =
+    turned_lagging z s c _ s.n s.p h (λ b. tt) (rw e (omega arith)) (λ q l. omega arith) o
+lagging_kept z honest y s t (Next.acknowledged c x h q l e) w o =
+    turned_lagging z s c _ s.n s.p h (λ b. rw e at b) (rw e (omega arith)) tt o
+lagging_kept z honest y s t (Next.known c h q l e) w o =
+    turned_lagging z s c Turn.picking s.n s.p h (λ b. tt) (rw e (omega arith)) tt o
+lagging_kept z honest y s t (Next.draw c bytes a v h q l e ec es ab) w o = turned_lagging z s c _ _ _ h (λ b. tt) (rw e (omega arith)) tt o
+lagging_kept z honest y s t (Next.spent c bytes a h q l e) w o = turned_lagging z s c Turn.idle s.n s.p h (λ b. tt) (rw e (omega arith)) tt o
+lagging_kept z honest y s t (Next.freeze c x a fl h q l e fr) w o = freeze_lagging z s c x a _ h e l o
+lagging_kept z honest y s t (Next.empty c a h q l e pk) w o = turned_lagging z s c Turn.idle s.n s.p h (λ b. tt) (rw e (omega arith)) tt o
+lagging_kept z honest y s t (Next.fetch c a x h q l e pk ne) w o = turned_lagging z s c _ _ s.p h (λ b. tt) (rw e (omega arith)) tt o
+lagging_kept z honest y s t (Next.store c i v x rest h q hi lo up l e) w o = same_lagging z s _ s.p h o
+lagging_kept z honest y s t (Next.request c i v rest h q hi lo up l e) w o = same_lagging z s _ s.p h o
+lagging_kept z honest y s t (Next.free c i fl rest h q hi lo up l e) w o = same_lagging z s _ s.p h o
+lagging_kept z honest y s t (Next.passed i c m qs h q co) w o = same_lagging z s _ s.p h o
+lagging_kept z honest y s t (Next.added i c v bytes a qs h q l lo up e co st few) w o =
+    turned_lagging z s c _ _ s.p h (λ b. tt) (rw e (omega arith)) tt o
+lagging_kept z honest y s t (Next.formed i c v bytes a qs h q l lo up e co st en) w o = turned_lagging z s c _ _ _ h (λ b. tt) (rw e (omega arith)) tt o
+lagging_kept z honest y s t (Next.missed i c x n m ps b qs h q l lo up e co hi sn st) w o =
+    turned_lagging z s c _ _ s.p h (λ b. tt) (rw e (omega arith)) tt o
+lagging_kept z honest y s t (Next.matched i c x n m ps b qs h q l lo up e co sn st eb few) w o =
+    turned_lagging z s c _ _ s.p h (λ b. tt) (rw e (omega arith)) tt o
+lagging_kept z honest y s t (Next.ended i c x n m ps b qs h q l e co) w o = turned_lagging z s c Turn.idle _ s.p h (λ b. tt) (rw e (omega arith)) tt o

@@ -6,14 +6,14 @@ use mathlib.Core.List.{List}
 use mathlib.Core.Option.{some, none}
 use Prim.Native.Nat.{ℕ, ◌≤◌, ◌<◌}
 use native.Mathlib.Omega.{arith}
-use Rattle.coding.proofs.PageLaws.{some-eq}
+use Rattle.coding.proofs.PageLaws.{some_eq}
 use Rattle.parties.specs.declared.Measures.{Measures}
 use Rattle.parties.specs.declared.Version.{Version}
 use Rattle.parties.specs.protocol.Pointer.{Pointer}
 use Rattle.parties.specs.protocol.Run.{History, Operation}
 use Rattle.parties.proofs.protocol.model.Model.{num, ver, Turn, Past, Model}
 use Rattle.parties.proofs.protocol.invariants.Chronicle.{Undrawn, Drawn, Unpicked, Picked, Current, Doing, Busy, Listed, ShownPointer, Deposited, Draws, Recording}
-use Rattle.parties.proofs.protocol.model.PastLaws.{formed-kept}
+use Rattle.parties.proofs.protocol.model.PastLaws.{formed_kept}
 use Rattle.parties.proofs.protocol.model.Growth.{Grown}
 
 -- ---- one operation
@@ -26,33 +26,33 @@ pub record Fair (h : History) (p : Past) (o : ℕ) (a : Operation) : Type 0 wher
   pub gives : (b : List ℕ) → a.given ≡ some b
       → (x : Pointer) × (a.page ≡ none) × (a.pointer ≡ some x) × (256 ≤ ver x) × (b ≡ p.pages (ver x))
 
-pub fair-of : (z : Measures) (s : Model) → Recording z s → (o : ℕ) → o < s.h.begun → Fair s.h s.p o (s.h.operation o)
-fair-of z s r o l =
+pub fair_of : (z : Measures) (s : Model) → Recording z s → (o : ℕ) → o < s.h.begun → Fair s.h s.p o (s.h.operation o)
+fair_of z s r o l =
     record { draws = λ b v. r.draws o b v l; reads = λ v. r.reads o v l; pointer = λ x. r.pointer o x l; gives = λ b. r.gives o b l }
 
 -- ---- growth
 
 -- a version that a reading shows and that is not none is drawn
-shown-drawn : (h : History) (p : Past) (x : Pointer) → 256 ≤ ver x → ShownPointer h p x → p.drawn (ver x) ≡ true
-shown-drawn h p x l (ShownPointer.absent e) = let q : ver x ≡ 255 = ap ver e in absurd (omega arith)
-shown-drawn h p x l (ShownPointer.put d e n i) = d
+shown_drawn : (h : History) (p : Past) (x : Pointer) → 256 ≤ ver x → ShownPointer h p x → p.drawn (ver x) ≡ true
+shown_drawn h p x l (ShownPointer.absent e) = let q : ver x ≡ 255 = ap ver e in absurd (omega arith)
+shown_drawn h p x l (ShownPointer.put d e n i) = d
 
 -- what a reading gave is a page of a version that is drawn
-given-drawn : (h : History) (p : Past) (o : ℕ) (a : Operation) → Fair h p o a → (x : Pointer) → a.pointer ≡ some x → 256 ≤ ver x
+given_drawn : (h : History) (p : Past) (o : ℕ) (a : Operation) → Fair h p o a → (x : Pointer) → a.pointer ≡ some x → 256 ≤ ver x
     → p.drawn (ver x) ≡ true
-given-drawn h p o a f x e l =
+given_drawn h p o a f x e l =
     let b = f.pointer x e in
     let y = f.reads x.version b.0 b.1 in
-    let q : y.0 ≡ x = some-eq (sym y.1 ∙ e) in
-    shown-drawn h p x l (rw q at y.3)
+    let q : y.0 ≡ x = some_eq (sym y.1 ∙ e) in
+    shown_drawn h p x l (rw q at y.3)
 
 module _ (h h' : History) (p p' : Past) (g : Grown p p') (listed : (x : Pointer) → Listed h x → Listed h' x) where
   shown-later : (x : Pointer) → ShownPointer h p x → ShownPointer h' p' x
   shown-later x (ShownPointer.absent e) = ShownPointer.absent e
-  shown-later x (ShownPointer.put d e n i) = ShownPointer.put (g.later.drawn (ver x) d) (formed-kept p p' x g.later d e n) n (listed x i)
+  shown-later x (ShownPointer.put d e n i) = ShownPointer.put (g.later.drawn (ver x) d) (formed_kept p p' x g.later d e n) n (listed x i)
 
-  draws-later : (o : ℕ) (bytes : List ℕ) (v : Version) → Draws p o bytes v → Draws p' o bytes v
-  draws-later o bytes v a =
+  draws_later : (o : ℕ) (bytes : List ℕ) (v : Version) → Draws p o bytes v → Draws p' o bytes v
+  draws_later o bytes v a =
       record {
         drawn = g.later.drawn (num v) a.drawn;
         deposit = g.deposits (num v) a.drawn ∙ a.deposit;
@@ -60,14 +60,14 @@ module _ (h h' : History) (p p' : Past) (g : Grown p p') (listed : (x : Pointer)
         client = a.client;
       }
 
-  pub fair-later : (o : ℕ) (a : Operation) → Fair h p o a → Fair h' p' o a
-  fair-later o a f =
+  pub fair_later : (o : ℕ) (a : Operation) → Fair h p o a → Fair h' p' o a
+  fair_later o a f =
       record {
-        draws = λ b v e i. draws-later o b v (f.draws b v e i);
+        draws = λ b v e i. draws_later o b v (f.draws b v e i);
         reads = λ v e i. let y = f.reads v e i in (y.0, y.1, y.2, shown-later y.0 y.3);
         pointer = f.pointer;
         gives = λ b e. let y = f.gives b e in
-            (y.0, y.1, y.2, y.3, y.4 ∙ sym (g.later.pages (ver y.0) (given-drawn h p o a f y.0 y.2 y.3)));
+            (y.0, y.1, y.2, y.3, y.4 ∙ sym (g.later.pages (ver y.0) (given_drawn h p o a f y.0 y.2 y.3)));
       }
 
 -- history and past go on: no operation loses its page or version, no pointer is taken back
@@ -97,8 +97,8 @@ pub record Same (h h' : History) (c : ℕ) : Type 0 where
 
 module _ (h h' : History) (p p' : Past) (c : ℕ) (g : Grown p p') (same : Current h c → Same h h' c)
     (drew : (v : Version) → Current h c → Drawn h p c v → p.drawn (num v) ≡ true) where
-  current-later : Current h c → Current h' c
-  current-later a =
+  current_later : Current h c → Current h' c
+  current_later a =
       let e = same a in
       record {
         begun = rw e.latest (omega (arith, e.begun, a.begun));
@@ -107,16 +107,16 @@ module _ (h h' : History) (p p' : Past) (c : ℕ) (g : Grown p p') (same : Curre
         given = ap (λ y. y.given) e.operation ∙ a.given;
       }
 
-  undrawn-later : (bytes : List ℕ) → Current h c × Undrawn h c bytes → Current h' c × Undrawn h' c bytes
-  undrawn-later bytes (a, b) =
+  undrawn_later : (bytes : List ℕ) → Current h c × Undrawn h c bytes → Current h' c × Undrawn h' c bytes
+  undrawn_later bytes (a, b) =
       let e = (same a).operation in
-      (current-later a, record { page = ap (λ y. y.page) e ∙ b.page; version = ap (λ y. y.version) e ∙ b.version })
+      (current_later a, record { page = ap (λ y. y.page) e ∙ b.page; version = ap (λ y. y.version) e ∙ b.version })
 
-  drawn-later : (v : Version) → Current h c × Drawn h p c v → Current h' c × Drawn h' p' c v
-  drawn-later v (a, b) =
+  drawn_later : (v : Version) → Current h c × Drawn h p c v → Current h' c × Drawn h' p' c v
+  drawn_later v (a, b) =
       let e = (same a).operation in
       let d = drew v a b in (
-        current-later a,
+        current_later a,
         record {
           page = ap (λ y. y.page) e ∙ b.page ∙ ap some (sym (g.later.pages (num v) d));
           version = ap (λ y. y.version) e ∙ b.version;
@@ -124,15 +124,15 @@ module _ (h h' : History) (p p' : Past) (c : ℕ) (g : Grown p p') (same : Curre
         },
       )
 
-  unpicked-later : Current h c × Unpicked h c → Current h' c × Unpicked h' c
-  unpicked-later (a, b) =
+  unpicked_later : Current h c × Unpicked h c → Current h' c × Unpicked h' c
+  unpicked_later (a, b) =
       let e = (same a).operation in
-      (current-later a, record { page = ap (λ y. y.page) e ∙ b.page; version = ap (λ y. y.version) e ∙ b.version })
+      (current_later a, record { page = ap (λ y. y.page) e ∙ b.page; version = ap (λ y. y.version) e ∙ b.version })
 
-  picked-later : (x : Pointer) → Current h c × Picked h c x → Current h' c × Picked h' c x
-  picked-later x (a, b) =
+  picked_later : (x : Pointer) → Current h c × Picked h c x → Current h' c × Picked h' c x
+  picked_later x (a, b) =
       let e = (same a).operation in (
-        current-later a,
+        current_later a,
         record {
           page = ap (λ y. y.page) e ∙ b.page;
           version = ap (λ y. y.version) e ∙ b.version;
@@ -140,20 +140,20 @@ module _ (h h' : History) (p p' : Past) (c : ℕ) (g : Grown p p') (same : Curre
         },
       )
 
-  pub doing-later : (t : Turn) → Doing h p c t → Doing h' p' c t
-  doing-later Turn.idle b = tt
-  doing-later (Turn.scanning bytes) b = undrawn-later bytes b
-  doing-later (Turn.scanned bytes a) b = undrawn-later bytes b
-  doing-later (Turn.storing v bytes a) b = drawn-later v b
-  doing-later (Turn.updating x) b = drawn-later x.version b
-  doing-later (Turn.updated x) b = drawn-later x.version b
-  doing-later (Turn.freezing x) b = drawn-later x.version b
-  doing-later (Turn.noticing x a) b = drawn-later x.version b
-  doing-later Turn.raising b = unpicked-later b
-  doing-later Turn.raised b = unpicked-later b
-  doing-later Turn.picking b = unpicked-later b
-  doing-later (Turn.picked a) b = unpicked-later b
-  doing-later (Turn.fetching x n m ps) b = picked-later x b
+  pub doing_later : (t : Turn) → Doing h p c t → Doing h' p' c t
+  doing_later Turn.idle b = tt
+  doing_later (Turn.scanning bytes) b = undrawn_later bytes b
+  doing_later (Turn.scanned bytes a) b = undrawn_later bytes b
+  doing_later (Turn.storing v bytes a) b = drawn_later v b
+  doing_later (Turn.updating x) b = drawn_later x.version b
+  doing_later (Turn.updated x) b = drawn_later x.version b
+  doing_later (Turn.freezing x) b = drawn_later x.version b
+  doing_later (Turn.noticing x a) b = drawn_later x.version b
+  doing_later Turn.raising b = unpicked_later b
+  doing_later Turn.raised b = unpicked_later b
+  doing_later Turn.picking b = unpicked_later b
+  doing_later (Turn.picked a) b = unpicked_later b
+  doing_later (Turn.fetching x n m ps) b = picked_later x b
 
 -- ---- all of it
 
@@ -189,5 +189,5 @@ module _ (z : Measures) (s t : Model) (g : Onward s.h t.h s.p t.p) (r : Recordin
       deposit v (inr a) = a
 
       fair : (o : ℕ) → Unmarked s.h t.h o ⊎ Fair t.h t.p o (t.h.operation o) → Fair t.h t.p o (t.h.operation o)
-      fair o (inl u) = rw u.operation (fair-later s.h t.h s.p t.p g.past g.listed o (s.h.operation o) (fair-of z s r o u.begun))
+      fair o (inl u) = rw u.operation (fair_later s.h t.h s.p t.p g.past g.listed o (s.h.operation o) (fair_of z s r o u.begun))
       fair o (inr a) = a

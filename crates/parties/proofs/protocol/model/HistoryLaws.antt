@@ -12,8 +12,8 @@ abbrev pub after : History → (ℕ → Operation) → List Put → List Reply �
 after h operation puts replied =
     record { time = h.time + 1; begun = h.begun; operation = operation; latest = h.latest; puts = puts; replied = replied }
 
-pub marks-after : (h h' : History) (operation : ℕ → Operation) (puts : List Put) → Marks h h' operation puts → h' ≡ after h operation puts h'.replied
-marks-after h h' operation puts q =
+pub marks_after : (h h' : History) (operation : ℕ → Operation) (puts : List Put) → Marks h h' operation puts → h' ≡ after h operation puts h'.replied
+marks_after h h' operation puts q =
     λ i. record {
       time = q.time i;
       begun = q.begun i;
@@ -24,10 +24,10 @@ marks-after h h' operation puts q =
     }
 
 -- client c's last operation is a now
-abbrev pub markedAt : History → ℕ → Operation → List Reply → History
-markedAt h c a replied = after h (upd h.operation (h.latest c) a) h.puts replied
+abbrev pub marked_at : History → ℕ → Operation → List Reply → History
+marked_at h c a replied = after h (upd h.operation (h.latest c) a) h.puts replied
 
-pub marked-last : (h : History) (c : ℕ) (a : Operation) (replied : List Reply) → (markedAt h c a replied).operation (h.latest c) ≡ a
+pub marked-last : (h : History) (c : ℕ) (a : Operation) (replied : List Reply) → (marked_at h c a replied).operation (h.latest c) ≡ a
 marked-last h c a replied = rw (eq-eqb (h.latest c) (h.latest c) refl) refl
 
 -- an operation that begins

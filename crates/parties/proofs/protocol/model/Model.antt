@@ -11,13 +11,13 @@ use Rattle.coding.specs.Bytes.{Bytes}
 use Rattle.coding.specs.Pieces.{piece}
 use Rattle.parties.specs.declared.Measures.{Measures}
 use Rattle.parties.specs.declared.Version.{Version}
-use Rattle.parties.specs.protocol.Version.{noVersion}
-use Rattle.parties.specs.protocol.Nodes.{count, stands, withNode}
-use Rattle.parties.specs.protocol.Pointer.{Pointer, nonePointer}
+use Rattle.parties.specs.protocol.Version.{no_version}
+use Rattle.parties.specs.protocol.Nodes.{count, stands, with_node}
+use Rattle.parties.specs.protocol.Pointer.{Pointer, none_pointer}
 use Rattle.parties.specs.protocol.NodeTable.{Held}
-use Rattle.parties.specs.protocol.Node.{keep, handBack, release, listed}
+use Rattle.parties.specs.protocol.Node.{keep, hand_back, release, listed}
 use Rattle.parties.specs.protocol.Message.{ToNode, ToClient, answer}
-use Rattle.parties.specs.protocol.Deposit.{digestsOf, pointerOf}
+use Rattle.parties.specs.protocol.Deposit.{digests_of, pointer_of}
 use Rattle.parties.specs.protocol.Run.{History, Operation, Put, bearing, pointing, ending, giving, begin, upd, upd₂}
 
 -- ---- numbers of versions
@@ -75,8 +75,8 @@ pub record Shown : Type 0 where
 
 pub record Nodes : Type 0 where
   pub held : ℕ → List Held
-  pub toNode : ℕ → ℕ → List ToNode
-  pub toClient : ℕ → ℕ → List ToClient
+  pub to_node : ℕ → ℕ → List ToNode
+  pub to_client : ℕ → ℕ → List ToClient
 
 -- the past, for the proof alone: by version number whether it is drawn, its page, its deposit and its pointer (none until t + k nodes
 -- acknowledged it); by operation and row the version that the row showed when the operation began
@@ -97,47 +97,47 @@ pub record Model : Type 0 where
 -- ---- what follows from the state
 
 -- the pointer that a deposit has put in and that is not its client's written one yet
-abbrev pub putBy : Turn → Pointer → Pointer
-putBy idle w = w
-putBy (scanning bytes) w = w
-putBy (scanned bytes a) w = w
-putBy (storing v bytes a) w = w
-putBy (updating x) w = w
-putBy (updated x) w = x
-putBy (freezing x) w = x
-putBy (noticing x a) w = x
-putBy raising w = w
-putBy raised w = w
-putBy picking w = w
-putBy (picked a) w = w
-putBy (fetching p n m ps) w = w
+abbrev pub put_by : Turn → Pointer → Pointer
+put_by idle w = w
+put_by (scanning bytes) w = w
+put_by (scanned bytes a) w = w
+put_by (storing v bytes a) w = w
+put_by (updating x) w = w
+put_by (updated x) w = x
+put_by (freezing x) w = x
+put_by (noticing x a) w = x
+put_by raising w = w
+put_by raised w = w
+put_by picking w = w
+put_by (picked a) w = w
+put_by (fetching p n m ps) w = w
 
 -- a row's written pointer
-abbrev pub shownWritten : Clients → ℕ → Pointer
-shownWritten k w = putBy (k.turn w) (k.written w)
+abbrev pub shown_written : Clients → ℕ → Pointer
+shown_written k w = put_by (k.turn w) (k.written w)
 
 -- a row's reading index: one less while the update is called
-abbrev pub raisedTo : Turn → ℕ → ℕ
-raisedTo idle i = i
-raisedTo (scanning bytes) i = i
-raisedTo (scanned bytes a) i = i
-raisedTo (storing v bytes a) i = i
-raisedTo (updating x) i = i
-raisedTo (updated x) i = i
-raisedTo (freezing x) i = i
-raisedTo (noticing x a) i = i
-raisedTo raising i = i - 1
-raisedTo raised i = i
-raisedTo picking i = i
-raisedTo (picked a) i = i
-raisedTo (fetching p n m ps) i = i
+abbrev pub raised_to : Turn → ℕ → ℕ
+raised_to idle i = i
+raised_to (scanning bytes) i = i
+raised_to (scanned bytes a) i = i
+raised_to (storing v bytes a) i = i
+raised_to (updating x) i = i
+raised_to (updated x) i = i
+raised_to (freezing x) i = i
+raised_to (noticing x a) i = i
+raised_to raising i = i - 1
+raised_to raised i = i
+raised_to picking i = i
+raised_to (picked a) i = i
+raised_to (fetching p n m ps) i = i
 
-abbrev pub shownReading : Clients → ℕ → ℕ
-shownReading k c = raisedTo (k.turn c) (k.reading c)
+abbrev pub shown_reading : Clients → ℕ → ℕ
+shown_reading k c = raised_to (k.turn c) (k.reading c)
 
 abbrev pub rows_of : Model → Rows
 rows_of s =
-    record { written = shownWritten s.c; frozen = s.d.frozen; indices = s.d.indices; reading = shownReading s.c }
+    record { written = shown_written s.c; frozen = s.d.frozen; indices = s.d.indices; reading = shown_reading s.c }
 
 -- what a row offers a reader c with index r
 abbrev pub offer : Rows → ℕ → ℕ → ℕ → Pointer
@@ -172,8 +172,8 @@ abbrev pub turned : Clients → ℕ → Turn → Clients
 turned k c t =
     record { turn = upd k.turn c t; written = k.written; frozen = k.frozen; reserved = k.reserved; indices = k.indices; reading = k.reading }
 
-abbrev pub raisedBy : Clients → ℕ → Clients
-raisedBy k c =
+abbrev pub raised_by : Clients → ℕ → Clients
+raised_by k c =
     record {
       turn = upd k.turn c raising;
       written = k.written;
@@ -184,8 +184,8 @@ raisedBy k c =
     }
 
 -- a deposit ends: the new pointer x is written, and frozen where a reading is noticed
-abbrev pub frozenBy : Clients → ℕ → Pointer → Rows → Clients
-frozenBy k c x a =
+abbrev pub frozen_by : Clients → ℕ → Pointer → Rows → Clients
+frozen_by k c x a =
     record {
       turn = upd k.turn c idle;
       written = upd k.written c x;
@@ -202,47 +202,47 @@ published s c =
 
 -- a message from client c, one for each node, stands last in the queues
 abbrev pub sent : Nodes → ℕ → (ℕ → List ToNode) → Nodes
-sent q c m = record { held = q.held; toNode = upd q.toNode c (λ i. q.toNode c i ++ m i); toClient = q.toClient }
+sent q c m = record { held = q.held; to_node = upd q.to_node c (λ i. q.to_node c i ++ m i); to_client = q.to_client }
 
-abbrev pub with-toClient : Nodes → (ℕ → ℕ → List ToClient) → Nodes
-with-toClient q r = record { held = q.held; toNode = q.toNode; toClient = r }
+abbrev pub with_to_client : Nodes → (ℕ → ℕ → List ToClient) → Nodes
+with_to_client q r = record { held = q.held; to_node = q.to_node; to_client = r }
 
 -- node i has taken a message of client c, the rest of the queue stays; its table is l and its answer stands last
 abbrev pub served : Nodes → ℕ → ℕ → List ToNode → List Held → ToClient → Nodes
 served q c i rest l a =
     record {
       held = upd q.held i l;
-      toNode = upd₂ q.toNode c i rest;
-      toClient = upd₂ q.toClient i c (q.toClient i c ++ (a ∷ []));
+      to_node = upd₂ q.to_node c i rest;
+      to_client = upd₂ q.to_client i c (q.to_client i c ++ (a ∷ []));
     }
 
-abbrev pub drawnBy : Past → ℕ → List ℕ → ℕ → Past
-drawnBy p v bytes o =
+abbrev pub drawn_by : Past → ℕ → List ℕ → ℕ → Past
+drawn_by p v bytes o =
     record {
       drawn = upd p.drawn v true;
       pages = upd p.pages v bytes;
       deposits = upd p.deposits v o;
-      pointers = upd p.pointers v nonePointer;
+      pointers = upd p.pointers v none_pointer;
       shown = p.shown;
     }
 
-abbrev pub pointedBy : Past → ℕ → Pointer → Past
-pointedBy p v x =
+abbrev pub pointed_by : Past → ℕ → Pointer → Past
+pointed_by p v x =
     record { drawn = p.drawn; pages = p.pages; deposits = p.deposits; pointers = upd p.pointers v x; shown = p.shown }
 
-abbrev pub begunBy : Past → ℕ → (ℕ → ℕ) → Past
-begunBy p o f = record { drawn = p.drawn; pages = p.pages; deposits = p.deposits; pointers = p.pointers; shown = upd p.shown o f }
+abbrev pub begun_by : Past → ℕ → (ℕ → ℕ) → Past
+begun_by p o f = record { drawn = p.drawn; pages = p.pages; deposits = p.deposits; pointers = p.pointers; shown = upd p.shown o f }
 
 -- the pointer of a version whose page is cut, with the nodes that acknowledged it
 abbrev pub pointed : Measures → Version → List ℕ → ℕ → Pointer
-pointed z v bytes a = pointerOf v a (digestsOf z v bytes)
+pointed z v bytes a = pointer_of v a (digests_of z v bytes)
 
 -- ---- facts of a step
 
 -- a message comes to client c from node i, and q are the queues to clients after it: an honest node's is the oldest under way
 pub data Comes (honest : ℕ → Bool) (s : Nodes) (i c : ℕ) (m : ToClient) : (ℕ → ℕ → List ToClient) → Type 0 where
-  oldest : (rest : List ToClient) → honest i ≡ true → s.toClient i c ≡ m ∷ rest → Comes honest s i c m (upd₂ s.toClient i c rest)
-  lied : honest i ≡ false → Comes honest s i c m s.toClient
+  oldest : (rest : List ToClient) → honest i ≡ true → s.to_client i c ≡ m ∷ rest → Comes honest s i c m (upd₂ s.to_client i c rest)
+  lied : honest i ≡ false → Comes honest s i c m s.to_client
 
 -- the pointer that a reader picks: some row's offer, and none is higher
 pub record Picks (z : Measures) (a : Rows) (c r : ℕ) (x : Pointer) : Type 0 where
@@ -269,9 +269,9 @@ pub data Retains (z : Measures) (k : Clients) (c : ℕ) (v : Version) : Type 0 w
 -- the free list of a deposit's end
 pub record Frees (z : Measures) (k : Clients) (a : Rows) (c : ℕ) (x : Pointer) (l : List Version) : Type 0 where
   pub replaced : (v : Version) → listed v l ≡ true → Replaced z k a c v
-  pub left : (v : Version) → listed v l ≡ true → Retains z (frozenBy k c x a) c v → ⊥
-  pub proper : (v : Version) → listed v l ≡ true → (v ≡ noVersion → ⊥)
-  pub all : (v : Version) → Replaced z k a c v → (Retains z (frozenBy k c x a) c v → ⊥) → (v ≡ noVersion → ⊥) → listed v l ≡ true
+  pub left : (v : Version) → listed v l ≡ true → Retains z (frozen_by k c x a) c v → ⊥
+  pub proper : (v : Version) → listed v l ≡ true → (v ≡ no_version → ⊥)
+  pub all : (v : Version) → Replaced z k a c v → (Retains z (frozen_by k c x a) c v → ⊥) → (v ≡ no_version → ⊥) → listed v l ≡ true
 
 -- ---- marks of the history
 
@@ -304,10 +304,10 @@ pub data Next (z : Measures) (honest : ℕ → Bool) (s : Model) : Model → Typ
   deposit : (c : ℕ) (bytes : List ℕ) (h : History) → h ≡ begin c (some bytes) s.h
       → c < z.m → s.c.turn c ≡ idle → Bytes bytes → length bytes ≤ z.k * z.f - 4
       → Next z honest s
-      (record { c = turned s.c c (scanning bytes); d = s.d; n = s.n; p = begunBy s.p s.h.begun (λ w. ver (shownWritten s.c w)); h = h })
+      (record { c = turned s.c c (scanning bytes); d = s.d; n = s.n; p = begun_by s.p s.h.begun (λ w. ver (shown_written s.c w)); h = h })
   reading : (c : ℕ) (h : History) → h ≡ begin c none s.h
       → c < z.m → s.c.turn c ≡ idle
-      → Next z honest s (record { c = raisedBy s.c c; d = s.d; n = s.n; p = begunBy s.p s.h.begun (λ w. ver (shownWritten s.c w)); h = h })
+      → Next z honest s (record { c = raised_by s.c c; d = s.d; n = s.n; p = begun_by s.p s.h.begun (λ w. ver (shown_written s.c w)); h = h })
   -- directory calls carried out
   publish : (c : ℕ) (x : Pointer) (h : History) → Marks s.h h s.h.operation (s.h.puts ++ (record { pointer = x; operation = s.h.latest c } ∷ []))
       → c < z.m → s.c.turn c ≡ updating x
@@ -318,7 +318,7 @@ pub data Next (z : Measures) (honest : ℕ → Bool) (s : Model) : Model → Typ
   scan-first : (c : ℕ) (bytes : List ℕ) (h : History) → Quiet s.h h
       → c < z.m → s.c.turn c ≡ scanning bytes
       → Next z honest s (record { c = turned s.c c (scanned bytes (rows_of s)); d = s.d; n = s.n; p = s.p; h = h })
-  scan-second : (c : ℕ) (x : Pointer) (h : History) → Quiet s.h h
+  scan_second : (c : ℕ) (x : Pointer) (h : History) → Quiet s.h h
       → c < z.m → s.c.turn c ≡ freezing x
       → Next z honest s (record { c = turned s.c c (noticing x (rows_of s)); d = s.d; n = s.n; p = s.p; h = h })
   scan-reading : (c : ℕ) (h : History) → Quiet s.h h
@@ -339,7 +339,7 @@ pub data Next (z : Measures) (honest : ℕ → Bool) (s : Model) : Model → Typ
         c = turned s.c c (storing v bytes 0);
         d = s.d;
         n = sent s.n c (λ i. ToNode.store v (piece z.k bytes i) ∷ []);
-        p = drawnBy s.p (num v) bytes (s.h.latest c);
+        p = drawn_by s.p (num v) bytes (s.h.latest c);
         h = h;
       })
   spent : (c : ℕ) (bytes : List ℕ) (a : Rows) (h : History) → Marked s.h h c (ending s.h.time)
@@ -347,9 +347,9 @@ pub data Next (z : Measures) (honest : ℕ → Bool) (s : Model) : Model → Typ
       → Next z honest s (record { c = turned s.c c idle; d = s.d; n = s.n; p = s.p; h = h })
   freeze : (c : ℕ) (x : Pointer) (a : Rows) (l : List Version) (h : History) → Marked s.h h c (ending s.h.time)
       → c < z.m → s.c.turn c ≡ noticing x a → Frees z s.c a c x l
-      → Next z honest s (record { c = frozenBy s.c c x a; d = s.d; n = sent s.n c (λ i. ToNode.free l ∷ []); p = s.p; h = h })
-  empty : (c : ℕ) (a : Rows) (h : History) → Marked s.h h c (λ o. ending s.h.time (choosing nonePointer o))
-      → c < z.m → s.c.turn c ≡ picked a → Picks z a c (s.c.reading c) nonePointer
+      → Next z honest s (record { c = frozen_by s.c c x a; d = s.d; n = sent s.n c (λ i. ToNode.free l ∷ []); p = s.p; h = h })
+  empty : (c : ℕ) (a : Rows) (h : History) → Marked s.h h c (λ o. ending s.h.time (choosing none_pointer o))
+      → c < z.m → s.c.turn c ≡ picked a → Picks z a c (s.c.reading c) none_pointer
       → Next z honest s (record { c = turned s.c c idle; d = s.d; n = s.n; p = s.p; h = h })
   fetch : (c : ℕ) (a : Rows) (x : Pointer) (h : History) → Marked s.h h c (choosing x)
       → c < z.m → s.c.turn c ≡ picked a → Picks z a c (s.c.reading c) x
@@ -365,7 +365,7 @@ pub data Next (z : Measures) (honest : ℕ → Bool) (s : Model) : Model → Typ
   -- messages handed to nodes
   store : (c i : ℕ) (v : Version) (x : List ℕ) (rest : List ToNode) (h : History) → Quiet s.h h
       → honest i ≡ true → 1 ≤ i → i ≤ z.n → c < z.m
-      → s.n.toNode c i ≡ ToNode.store v x ∷ rest
+      → s.n.to_node c i ≡ ToNode.store v x ∷ rest
       → Next z honest s
       (record {
         c = s.c;
@@ -376,30 +376,30 @@ pub data Next (z : Measures) (honest : ℕ → Bool) (s : Model) : Model → Typ
       })
   request : (c i : ℕ) (v : Version) (rest : List ToNode) (h : History) → Quiet s.h h
       → honest i ≡ true → 1 ≤ i → i ≤ z.n → c < z.m
-      → s.n.toNode c i ≡ ToNode.request v ∷ rest
+      → s.n.to_node c i ≡ ToNode.request v ∷ rest
       → Next z honest s
-      (record { c = s.c; d = s.d; p = s.p; h = h; n = served s.n c i rest (s.n.held i) (answer v (handBack v (s.n.held i))) })
+      (record { c = s.c; d = s.d; p = s.p; h = h; n = served s.n c i rest (s.n.held i) (answer v (hand_back v (s.n.held i))) })
   free : (c i : ℕ) (l : List Version) (rest : List ToNode) (h : History) → Quiet s.h h
       → honest i ≡ true → 1 ≤ i → i ≤ z.n → c < z.m
-      → s.n.toNode c i ≡ ToNode.free l ∷ rest
+      → s.n.to_node c i ≡ ToNode.free l ∷ rest
       → Next z honest s (record { c = s.c; d = s.d; p = s.p; h = h; n = served s.n c i rest (release l (s.n.held i)) ToClient.freed })
   -- messages handed to clients
   passed : (i c : ℕ) (m : ToClient) (q : ℕ → ℕ → List ToClient) (h : History) → Quiet s.h h
       → Comes honest s.n i c m q
-      → Next z honest s (record { c = s.c; d = s.d; n = with-toClient s.n q; p = s.p; h = h })
+      → Next z honest s (record { c = s.c; d = s.d; n = with_to_client s.n q; p = s.p; h = h })
   added : (i c : ℕ) (v : Version) (bytes : List ℕ) (a : ℕ) (q : ℕ → ℕ → List ToClient) (h : History) → Quiet s.h h
       → c < z.m → 1 ≤ i → i ≤ z.n
-      → s.c.turn c ≡ storing v bytes a → Comes honest s.n i c (ToClient.stored v) q → stands a i ≡ false → count (withNode a i) < z.t + z.k
-      → Next z honest s (record { c = turned s.c c (storing v bytes (withNode a i)); d = s.d; n = with-toClient s.n q; p = s.p; h = h })
+      → s.c.turn c ≡ storing v bytes a → Comes honest s.n i c (ToClient.stored v) q → stands a i ≡ false → count (with_node a i) < z.t + z.k
+      → Next z honest s (record { c = turned s.c c (storing v bytes (with_node a i)); d = s.d; n = with_to_client s.n q; p = s.p; h = h })
   formed : (i c : ℕ) (v : Version) (bytes : List ℕ) (a : ℕ) (q : ℕ → ℕ → List ToClient) (h : History) → Quiet s.h h
       → c < z.m → 1 ≤ i → i ≤ z.n
-      → s.c.turn c ≡ storing v bytes a → Comes honest s.n i c (ToClient.stored v) q → stands a i ≡ false → count (withNode a i) ≡ z.t + z.k
+      → s.c.turn c ≡ storing v bytes a → Comes honest s.n i c (ToClient.stored v) q → stands a i ≡ false → count (with_node a i) ≡ z.t + z.k
       → Next z honest s
       (record {
-        c = turned s.c c (updating (pointed z v bytes (withNode a i)));
+        c = turned s.c c (updating (pointed z v bytes (with_node a i)));
         d = s.d;
-        n = with-toClient s.n q;
-        p = pointedBy s.p (num v) (pointed z v bytes (withNode a i));
+        n = with_to_client s.n q;
+        p = pointed_by s.p (num v) (pointed z v bytes (with_node a i));
         h = h;
       })
   -- a reply that counts and does not match; the node is dishonest (an honest node's piece matches)
@@ -407,17 +407,17 @@ pub data Next (z : Measures) (honest : ℕ → Bool) (s : Model) : Model → Typ
       → c < z.m → 1 ≤ i → i ≤ z.n
       → s.c.turn c ≡ fetching x n m ps → Comes honest s.n i c y q → honest i ≡ false
       → stands x.named.nodes i ≡ true → stands n i ≡ false
-      → Next z honest s (record { c = turned s.c c (fetching x (withNode n i) m ps); d = s.d; n = with-toClient s.n q; p = s.p; h = h })
+      → Next z honest s (record { c = turned s.c c (fetching x (with_node n i) m ps); d = s.d; n = with_to_client s.n q; p = s.p; h = h })
   -- one that matches is the deposit's piece (by the premise on digests, if the node is dishonest)
   matched : (i c : ℕ) (x : Pointer) (n m : ℕ) (ps : List (List ℕ)) (b : List ℕ) (q : ℕ → ℕ → List ToClient) (h : History) → Quiet s.h h
       → c < z.m → 1 ≤ i → i ≤ z.n
       → s.c.turn c ≡ fetching x n m ps → Comes honest s.n i c (ToClient.reply x.version b) q
-      → stands x.named.nodes i ≡ true → stands n i ≡ false → b ≡ piece z.k (s.p.pages (ver x)) i → count (withNode m i) < z.k
+      → stands x.named.nodes i ≡ true → stands n i ≡ false → b ≡ piece z.k (s.p.pages (ver x)) i → count (with_node m i) < z.k
       → Next z honest s
       (record {
-        c = turned s.c c (fetching x (withNode n i) (withNode m i) (set ps (i - 1) b));
+        c = turned s.c c (fetching x (with_node n i) (with_node m i) (set ps (i - 1) b));
         d = s.d;
-        n = with-toClient s.n q;
+        n = with_to_client s.n q;
         p = s.p;
         h = h;
       })
@@ -426,4 +426,4 @@ pub data Next (z : Measures) (honest : ℕ → Bool) (s : Model) : Model → Typ
       → Marked s.h h c (λ o. ending s.h.time (giving (s.p.pages (ver x)) o))
       → c < z.m
       → s.c.turn c ≡ fetching x n m ps → Comes honest s.n i c y q
-      → Next z honest s (record { c = turned s.c c idle; d = s.d; n = with-toClient s.n q; p = s.p; h = h })
+      → Next z honest s (record { c = turned s.c c idle; d = s.d; n = with_to_client s.n q; p = s.p; h = h })

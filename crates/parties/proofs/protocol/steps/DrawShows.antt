@@ -14,25 +14,25 @@ use Rattle.parties.specs.declared.Measures.{Measures}
 use Rattle.parties.specs.declared.Version.{Version}
 use Rattle.parties.specs.protocol.Measures.{passes}
 use Rattle.parties.specs.protocol.Pointer.{Pointer}
-use Rattle.parties.specs.protocol.Directory.{writeDirectory}
-use Rattle.parties.specs.protocol.Owner.{ownRows}
+use Rattle.parties.specs.protocol.Directory.{write_directory}
+use Rattle.parties.specs.protocol.Owner.{own_rows}
 use Rattle.parties.specs.protocol.Message.{ToNode}
-use Rattle.parties.specs.protocol.Client.{Phase, writeClient}
-use Rattle.parties.specs.protocol.Deposit.{highest, digestsOf}
+use Rattle.parties.specs.protocol.Client.{Phase, write_client}
+use Rattle.parties.specs.protocol.Deposit.{highest, digests_of}
 use Rattle.parties.specs.protocol.Answer.{scan, stores, spent}
-use Rattle.parties.specs.protocol.ClientEvents.{ClientEnd, roomSize, storesRoom, updateAnswer, scanAnswer, withPhase}
-use Rattle.parties.specs.protocol.Run.{History, Call, scanCall, State, hand, byClient, mark, returned, upd}
+use Rattle.parties.specs.protocol.ClientEvents.{ClientEnd, room_size, stores_room, update_answer, scan_answer, with_phase}
+use Rattle.parties.specs.protocol.Run.{History, Call, scan_call, State, hand, by_client, mark, returned, upd}
 use Rattle.parties.proofs.protocol.formats.MeasureLaws.{passed as measures}
 use Rattle.parties.proofs.protocol.formats.MessageLaws.{GoodNamedVersion}
 use Rattle.parties.proofs.protocol.formats.ClientLaws.{GoodPhase}
-use Rattle.parties.proofs.protocol.model.Model.{Rows, Turn, Model, Past, Nodes, Next, Quiet, turned, sent, drawnBy, num, putBy, raisedTo}
+use Rattle.parties.proofs.protocol.model.Model.{Rows, Turn, Model, Past, Nodes, Next, Quiet, turned, sent, drawn_by, num, put_by, raised_to}
 use Rattle.parties.proofs.protocol.invariants.Invariants.{Own, KnownRows}
 use Rattle.parties.proofs.protocol.invariants.Invariant.{Invariant}
-use Rattle.parties.proofs.protocol.steps.View.{Shows, Follows, GoodRows, GoodTurn, phaseOf, clientAt, rows_at, calls_of, returnsOf}
-use Rattle.parties.proofs.protocol.steps.ViewLaws.{sane-number, sane-quiet, rows-own, goes-shows, unsent, own-turned, rows-turned, quiet-mark}
+use Rattle.parties.proofs.protocol.steps.View.{Shows, Follows, GoodRows, GoodTurn, phase_of, client_at, rows_at, calls_of, returns_of}
+use Rattle.parties.proofs.protocol.steps.ViewLaws.{sane_number, sane_quiet, rows_own, goes-shows, unsent, own_turned, rows-turned, quiet_mark}
 use Rattle.parties.proofs.protocol.steps.GoodLaws.{piece-stored}
-use Rattle.parties.proofs.protocol.events.DepositLaws.{highest-rows, stores-sent, storing-good}
-use Rattle.parties.proofs.protocol.events.HandLaws.{sent-shows, others-answered, update-opened, update-refused, scan-opened, scan-refused}
+use Rattle.parties.proofs.protocol.events.DepositLaws.{highest-rows, stores-sent, storing_good}
+use Rattle.parties.proofs.protocol.events.HandLaws.{sent-shows, others_answered, update-opened, update-refused, scan-opened, scan-refused}
 
 -- ---- an update's answer
 
@@ -40,12 +40,12 @@ module _ (z : Measures) (honest : ℕ → Bool) (passed : passes z ≡ true) (st
     (room : List ℕ) where
   -- the scan after the update is called, and the turn is t
   asks : Turn → ClientEnd
-  asks t = record { answer = scan; client = writeClient z (withPhase (phaseOf z t) (clientAt z s.c c)) ++ []; room = room; out = [] }
+  asks t = record { answer = scan; client = write_client z (with_phase (phase_of z t) (client_at z s.c c)) ++ []; room = room; out = [] }
 
   asked : (t u : Turn) → s.c.turn c ≡ t
-      → calls_of (clientAt z s.c c) t ≡ []
-      → calls_of (withPhase (phaseOf z u) (clientAt z s.c c)) u ≡ scanCall ∷ [] → returnsOf z u ≡ [] → GoodPhase z (phaseOf z u) → GoodTurn z u
-      → putBy u (s.c.written c) ≡ putBy t (s.c.written c) → raisedTo u (s.c.reading c) ≡ raisedTo t (s.c.reading c)
+      → calls_of (client_at z s.c c) t ≡ []
+      → calls_of (with_phase (phase_of z u) (client_at z s.c c)) u ≡ scan_call ∷ [] → returns_of z u ≡ [] → GoodPhase z (phase_of z u) → GoodTurn z u
+      → put_by u (s.c.written c) ≡ put_by t (s.c.written c) → raised_to u (s.c.reading c) ≡ raised_to t (s.c.reading c)
       → Next z honest s (record { c = turned s.c c u; d = s.d; n = s.n; p = s.p; h = mark z c (asks u) st.history })
       → Follows z honest s (hand c room) (returned z c [] (asks u) st)
   unfolding asks
@@ -56,32 +56,32 @@ module _ (z : Measures) (honest : ℕ → Bool) (passed : passes z ≡ true) (st
         model = record { c = turned s.c c u; d = s.d; n = s.n; p = s.p; h = h };
         step = step;
         shows =
-            goes-shows z honest st s o c l (asks u) (upd st.returns c []) st.toClient h (turned s.c c u) s.n s.p
-            (own-turned z s.c c w.good u _ _ gp gt
-            (ap (λ (q : List Call). q ++ (scanCall ∷ [])) (w.calls ∙ ap (calls_of (clientAt z s.c c)) e ∙ none) ∙ sym one)
+            goes-shows z honest st s o c l (asks u) (upd st.returns c []) st.to_client h (turned s.c c u) s.n s.p
+            (own_turned z s.c c w.good u _ _ gp gt
+            (ap (λ (q : List Call). q ++ (scan_call ∷ [])) (w.calls ∙ ap (calls_of (client_at z s.c c)) e ∙ none) ∙ sym one)
             (rw (eq-eqb c c refl) (sym back)))
-            (λ j ne lj. others-answered z honest passed st s o c j u [] ne lj)
+            (λ j ne lj. others_answered z honest passed st s o c j u [] ne lj)
             (rows-turned s c u s.n s.p h (rw e written) (rw e reading))
             refl
-            (λ i a lo up. unsent z (asks u) i (st.toNode c i) (s.n.toNode c i) refl (o.toNode c i l a lo up))
-            (λ j i ne. refl) o.toClient o.liars;
-        sane = sane-quiet (hand c room) (byClient scan) refl;
+            (λ i a lo up. unsent z (asks u) i (st.to_node c i) (s.n.to_node c i) refl (o.to_node c i l a lo up))
+            (λ j i ne. refl) o.to_client o.liars;
+        sane = sane_quiet (hand c room) (by_client scan) refl;
       }
 
   -- the phase of the turn is good
-  good : (t : Turn) → s.c.turn c ≡ t → GoodPhase z (phaseOf z t)
-  good t e = subst (λ (u : Turn). GoodPhase z (phaseOf z u)) e (o.client c l).good.phase
+  good : (t : Turn) → s.c.turn c ≡ t → GoodPhase z (phase_of z t)
+  good t e = subst (λ (u : Turn). GoodPhase z (phase_of z u)) e (o.client c l).good.phase
 
   quiet : (t : Turn) → Quiet s.h (mark z c (asks t) st.history)
   unfolding asks
-  quiet t = rw o.history (quiet-mark z c (asks t) s.h s.h.replied refl)
+  quiet t = rw o.history (quiet_mark z c (asks t) s.h s.h.replied refl)
 
-  pub updated-follows : (x : Pointer) → s.c.turn c ≡ Turn.updated x
-      → Follows z honest s (hand c room) (returned z c [] (updateAnswer z c (st.clients c) room) st)
+  pub updated_follows : (x : Pointer) → s.c.turn c ≡ Turn.updated x
+      → Follows z honest s (hand c room) (returned z c [] (update_answer z c (st.clients c) room) st)
   unfolding asks
-  updated-follows x e = go (dec_le (roomSize z) (length room))
+  updated_follows x e = go (dec_le (room_size z) (length room))
     where
-      go : Dec (roomSize z ≤ length room) → Follows z honest s (hand c room) (returned z c [] (updateAnswer z c (st.clients c) room) st)
+      go : Dec (room_size z ≤ length room) → Follows z honest s (hand c room) (returned z c [] (update_answer z c (st.clients c) room) st)
       go (no short) = update-refused z honest passed st s o c l room [] (omega arith)
       go (yes enough) =
           rw (update-opened z honest passed st s o c l room enough)
@@ -89,11 +89,11 @@ module _ (z : Measures) (honest : ℕ → Bool) (passed : passes z ≡ true) (st
           (asked (Turn.updated x) (Turn.freezing x) e refl refl refl (good (Turn.updated x) e) tt refl refl
           (Next.acknowledged c x _ (quiet (Turn.freezing x)) l e)))
 
-  pub raised-follows : s.c.turn c ≡ Turn.raised → Follows z honest s (hand c room) (returned z c [] (updateAnswer z c (st.clients c) room) st)
+  pub raised_follows : s.c.turn c ≡ Turn.raised → Follows z honest s (hand c room) (returned z c [] (update_answer z c (st.clients c) room) st)
   unfolding asks
-  raised-follows e = go (dec_le (roomSize z) (length room))
+  raised_follows e = go (dec_le (room_size z) (length room))
     where
-      go : Dec (roomSize z ≤ length room) → Follows z honest s (hand c room) (returned z c [] (updateAnswer z c (st.clients c) room) st)
+      go : Dec (room_size z ≤ length room) → Follows z honest s (hand c room) (returned z c [] (update_answer z c (st.clients c) room) st)
       go (no short) = update-refused z honest passed st s o c l room [] (omega arith)
       go (yes enough) =
           rw (update-opened z honest passed st s o c l room enough)
@@ -107,99 +107,99 @@ module _ (z : Measures) (honest : ℕ → Bool) (passed : passes z ≡ true) (st
   page : Bytes bytes × (length bytes ≤ z.k * z.f - 4) × (a.written c ≡ s.c.written c) × KnownRows z s.p a
   page = subst (Own z s.p s.c c) e (inv.owned.own c l)
 
-  good-rows : GoodRows z a
-  good-rows = subst (GoodTurn z) e (o.client c l).turn
+  good_rows : GoodRows z a
+  good_rows = subst (GoodTurn z) e (o.client c l).turn
 
-  own-rows : ownRows 0 (rows_at z a) ≡ true
-  own-rows = rows-own z s.p a page.3
+  own_rows_lem : own_rows 0 (rows_at z a) ≡ true
+  own_rows_lem = rows_own z s.p a page.3
 
   -- the sequence is spent: the deposit ends
-  spentEnd : ClientEnd
-  spentEnd = record { answer = spent; client = writeClient z (withPhase Phase.idle (clientAt z s.c c)) ++ []; room = room; out = [] }
+  spent_end : ClientEnd
+  spent_end = record { answer = spent; client = write_client z (with_phase Phase.idle (client_at z s.c c)) ++ []; room = room; out = [] }
 
-  spends : Follows z honest s (hand c room) (returned z c [] spentEnd st)
-  unfolding spentEnd
+  spends : Follows z honest s (hand c room) (returned z c [] spent_end st)
+  unfolding spent_end
   spends =
       let w = o.client c l in
-      let h : History = mark z c spentEnd st.history in
+      let h : History = mark z c spent_end st.history in
       record {
         model = record { c = turned s.c c Turn.idle; d = s.d; n = s.n; p = s.p; h = h };
         step =
             Next.spent c bytes a h
             (rw o.history (record { time = refl; begun = refl; operations = refl; latest = refl; put = refl })) l e;
         shows =
-            goes-shows z honest st s o c l spentEnd (upd st.returns c []) st.toClient h (turned s.c c Turn.idle) s.n s.p
-            (own-turned z s.c c w.good Turn.idle _ _ tt tt (w.calls ∙ ap (calls_of (clientAt z s.c c)) e) (rw (eq-eqb c c refl) refl))
-            (λ j ne lj. others-answered z honest passed st s o c j Turn.idle [] ne lj)
+            goes-shows z honest st s o c l spent_end (upd st.returns c []) st.to_client h (turned s.c c Turn.idle) s.n s.p
+            (own_turned z s.c c w.good Turn.idle _ _ tt tt (w.calls ∙ ap (calls_of (client_at z s.c c)) e) (rw (eq-eqb c c refl) refl))
+            (λ j ne lj. others_answered z honest passed st s o c j Turn.idle [] ne lj)
             (rows-turned s c Turn.idle s.n s.p h (rw e refl) (rw e refl))
             refl
-            (λ i t lo up. unsent z spentEnd i (st.toNode c i) (s.n.toNode c i) refl (o.toNode c i l t lo up))
-            (λ j i ne. refl) o.toClient o.liars;
-        sane = sane-number (hand c room) (byClient spent) 7 refl refl;
+            (λ i t lo up. unsent z spent_end i (st.to_node c i) (s.n.to_node c i) refl (o.to_node c i l t lo up))
+            (λ j i ne. refl) o.to_client o.liars;
+        sane = sane_number (hand c room) (by_client spent) 7 refl refl;
       }
 
   -- a version is drawn and its pieces are sent
   version : Version
   version = record { sequence = record { 0 = (highest (rows_at z a)).0 + 1 }; client = c }
 
-  drawnEnd : ClientEnd
+  drawn_end : ClientEnd
   unfolding version
-  drawnEnd =
+  drawn_end =
       record {
         answer = stores version (columns z.k (length bytes));
-        client = writeClient z (withPhase (Phase.storing version 0 (digestsOf z version bytes)) (clientAt z s.c c)) ++ [];
-        room = storesRoom z version bytes room;
+        client = write_client z (with_phase (Phase.storing version 0 (digests_of z version bytes)) (client_at z s.c c)) ++ [];
+        room = stores_room z version bytes room;
         out = [];
       }
 
-  good-version : (highest (rows_at z a)).0 < 4294967295 → GoodNamedVersion z version
+  good_version : (highest (rows_at z a)).0 < 4294967295 → GoodNamedVersion z version
   unfolding version
-  good-version few =
+  good_version few =
       let m : z.m ≤ 8 = (measures z passed).clients.1 in
       ((omega arith, omega arith), simp (le-leb 1 ((highest (rows_at z a)).0 + 1) (omega arith), lt-ltb c z.m l))
 
-  draws : (highest (rows_at z a)).0 < 4294967295 → roomSize z ≤ length room → Follows z honest s (hand c room) (returned z c [] drawnEnd st)
-  unfolding drawnEnd version
+  draws : (highest (rows_at z a)).0 < 4294967295 → room_size z ≤ length room → Follows z honest s (hand c room) (returned z c [] drawn_end st)
+  unfolding drawn_end version
   draws few enough =
       let w = o.client c l in
       let v : Version = record { sequence = record { 0 = (highest (rows_at z a)).0 + 1 }; client = c } in
       let t : Turn = Turn.storing v bytes 0 in
       let n : Nodes = sent s.n c (λ i. ToNode.store v (piece z.k bytes i) ∷ []) in
-      let past : Past = drawnBy s.p (num v) bytes (s.h.latest c) in
-      let h : History = mark z c drawnEnd st.history in
+      let past : Past = drawn_by s.p (num v) bytes (s.h.latest c) in
+      let h : History = mark z c drawn_end st.history in
       record {
         model = record { c = turned s.c c t; d = s.d; n = n; p = past; h = h };
         step =
             Next.draw c bytes a v h (rw o.history (record { time = refl; begun = refl; operations = refl; latest = refl; put = refl })) l e
             refl (omega arith) (highest-rows z a);
         shows =
-            goes-shows z honest st s o c l drawnEnd (upd st.returns c []) st.toClient h (turned s.c c t) n past
-            (own-turned z s.c c w.good t _ _ (storing-good z passed v bytes (good-version few)) tt
-            (w.calls ∙ ap (calls_of (clientAt z s.c c)) e) (rw (eq-eqb c c refl) refl))
-            (λ j ne lj. others-answered z honest passed st s o c j t [] ne lj)
+            goes-shows z honest st s o c l drawn_end (upd st.returns c []) st.to_client h (turned s.c c t) n past
+            (own_turned z s.c c w.good t _ _ (storing_good z passed v bytes (good_version few)) tt
+            (w.calls ∙ ap (calls_of (client_at z s.c c)) e) (rw (eq-eqb c c refl) refl))
+            (λ j ne lj. others_answered z honest passed st s o c j t [] ne lj)
             (rows-turned s c t n past h (rw e refl) (rw e refl))
             refl
             (λ i x lo up.
             rw (eq-eqb c c refl)
-            (sent-shows z drawnEnd i lo up (ToNode.store v (piece z.k bytes i)) (stores-sent z passed v bytes room page.1 enough i lo up)
-            (good-version few, piece-stored z (measures z passed) bytes page.1 i) (st.toNode c i) (s.n.toNode c i) (o.toNode c i l x lo up)))
-            (λ j i ne. rw (ne_eqb j c ne) refl) o.toClient o.liars;
-        sane = sane-quiet (hand c room) (byClient drawnEnd.answer) refl;
+            (sent-shows z drawn_end i lo up (ToNode.store v (piece z.k bytes i)) (stores-sent z passed v bytes room page.1 enough i lo up)
+            (good_version few, piece-stored z (measures z passed) bytes page.1 i) (st.to_node c i) (s.n.to_node c i) (o.to_node c i l x lo up)))
+            (λ j i ne. rw (ne_eqb j c ne) refl) o.to_client o.liars;
+        sane = sane_quiet (hand c room) (by_client drawn_end.answer) refl;
       }
 
   -- whether there is a number after the highest
-  known : roomSize z ≤ length room → (more : Bool) → ltb (highest (rows_at z a)).0 4294967295 ≡ more
-      → Follows z honest s (hand c room) (returned z c [] (scanAnswer z c (st.clients c) (writeDirectory z (rows_at z a)) room) st)
-  unfolding drawnEnd spentEnd version
+  known : room_size z ≤ length room → (more : Bool) → ltb (highest (rows_at z a)).0 4294967295 ≡ more
+      → Follows z honest s (hand c room) (returned z c [] (scan_answer z c (st.clients c) (write_directory z (rows_at z a)) room) st)
+  unfolding drawn_end spent_end version
   known enough true f =
-      rw (scan-opened z honest passed st s o c l room a good-rows own-rows enough) (rw (e, f) (draws (ltb-true (highest (rows_at z a)).0 4294967295 f) enough))
-  known enough false f = rw (scan-opened z honest passed st s o c l room a good-rows own-rows enough) (rw (e, f) spends)
+      rw (scan-opened z honest passed st s o c l room a good_rows own_rows_lem enough) (rw (e, f) (draws (ltb-true (highest (rows_at z a)).0 4294967295 f) enough))
+  known enough false f = rw (scan-opened z honest passed st s o c l room a good_rows own_rows_lem enough) (rw (e, f) spends)
 
-  pub drawn-follows : Bytes room
-      → Follows z honest s (hand c room) (returned z c [] (scanAnswer z c (st.clients c) (writeDirectory z (rows_at z a)) room) st)
-  drawn-follows b = go (dec_le (roomSize z) (length room))
+  pub drawn_follows : Bytes room
+      → Follows z honest s (hand c room) (returned z c [] (scan_answer z c (st.clients c) (write_directory z (rows_at z a)) room) st)
+  drawn_follows b = go (dec_le (room_size z) (length room))
     where
-      go : Dec (roomSize z ≤ length room)
-          → Follows z honest s (hand c room) (returned z c [] (scanAnswer z c (st.clients c) (writeDirectory z (rows_at z a)) room) st)
-      go (no short) = scan-refused z honest passed st s o c l room [] a good-rows (omega arith)
+      go : Dec (room_size z ≤ length room)
+          → Follows z honest s (hand c room) (returned z c [] (scan_answer z c (st.clients c) (write_directory z (rows_at z a)) room) st)
+      go (no short) = scan-refused z honest passed st s o c l room [] a good_rows (omega arith)
       go (yes enough) = known enough (ltb (highest (rows_at z a)).0 4294967295) refl

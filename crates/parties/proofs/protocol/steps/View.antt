@@ -5,13 +5,13 @@ use mathlib.Core.List.{List, [], ◌∷◌, map}
 use Prim.Native.Nat.{ℕ, ◌≤◌, ◌<◌}
 use Rattle.coding.specs.Bytes.{tabulate}
 use Rattle.parties.specs.declared.Measures.{Measures}
-use Rattle.parties.specs.protocol.Directory.{Row, writeRecord, writeDirectory}
-use Rattle.parties.specs.protocol.NodeTable.{Held, writeTable}
-use Rattle.parties.specs.protocol.Message.{ToNode, ToClient, writeToNode, writeToClient}
-use Rattle.parties.specs.protocol.Client.{Phase, Client, writeClient}
-use Rattle.parties.specs.protocol.Deposit.{digestsOf, depositFields}
-use Rattle.parties.specs.protocol.Reading.{readingFields}
-use Rattle.parties.specs.protocol.Run.{Call, Return, scanCall, updateCall, updated, rows, State, Event, Result}
+use Rattle.parties.specs.protocol.Directory.{Row, write_record, write_directory}
+use Rattle.parties.specs.protocol.NodeTable.{Held, write_table}
+use Rattle.parties.specs.protocol.Message.{ToNode, ToClient, write_to_node, write_to_client}
+use Rattle.parties.specs.protocol.Client.{Phase, Client, write_client}
+use Rattle.parties.specs.protocol.Deposit.{digests_of, deposit_fields}
+use Rattle.parties.specs.protocol.Reading.{reading_fields}
+use Rattle.parties.specs.protocol.Run.{Call, Return, scan_call, update_call, updated, rows, State, Event, Result}
 use Rattle.parties.specs.protocol.Claim.{Sane}
 use Rattle.parties.proofs.protocol.formats.FormatLaws.{Each}
 use Rattle.parties.proofs.protocol.formats.RowLaws.{GoodRow}
@@ -22,31 +22,31 @@ use Rattle.parties.proofs.protocol.model.Model.{Rows, Turn, Clients, Model, Next
 
 -- ---- values of a model
 
-abbrev pub phaseOf : Measures → Turn → Phase
-phaseOf z Turn.idle = Phase.idle
-phaseOf z (Turn.scanning bytes) = Phase.scanning bytes
-phaseOf z (Turn.scanned bytes a) = Phase.scanning bytes
-phaseOf z (Turn.storing v bytes a) = Phase.storing v a (digestsOf z v bytes)
-phaseOf z (Turn.updating x) = Phase.updating x
-phaseOf z (Turn.updated x) = Phase.updating x
-phaseOf z (Turn.freezing x) = Phase.freezing x
-phaseOf z (Turn.noticing x a) = Phase.freezing x
-phaseOf z Turn.raising = Phase.raising
-phaseOf z Turn.raised = Phase.raising
-phaseOf z Turn.picking = Phase.picking
-phaseOf z (Turn.picked a) = Phase.picking
-phaseOf z (Turn.fetching x n m ps) = Phase.fetching x n m ps
+abbrev pub phase_of : Measures → Turn → Phase
+phase_of z Turn.idle = Phase.idle
+phase_of z (Turn.scanning bytes) = Phase.scanning bytes
+phase_of z (Turn.scanned bytes a) = Phase.scanning bytes
+phase_of z (Turn.storing v bytes a) = Phase.storing v a (digests_of z v bytes)
+phase_of z (Turn.updating x) = Phase.updating x
+phase_of z (Turn.updated x) = Phase.updating x
+phase_of z (Turn.freezing x) = Phase.freezing x
+phase_of z (Turn.noticing x a) = Phase.freezing x
+phase_of z Turn.raising = Phase.raising
+phase_of z Turn.raised = Phase.raising
+phase_of z Turn.picking = Phase.picking
+phase_of z (Turn.picked a) = Phase.picking
+phase_of z (Turn.fetching x n m ps) = Phase.fetching x n m ps
 
 -- client c's record
-abbrev pub clientAt : Measures → Clients → ℕ → Client
-clientAt z k c =
+abbrev pub client_at : Measures → Clients → ℕ → Client
+client_at z k c =
     record {
-      phase = phaseOf z (k.turn c);
-      readingIndex = record { 0 = k.reading c };
+      phase = phase_of z (k.turn c);
+      reading_index = record { 0 = k.reading c };
       written = k.written c;
       frozen = tabulate z.m (k.frozen c);
       reserved = tabulate z.m (k.reserved c);
-      frozenIndices = tabulate z.m (λ q. record { 0 = k.indices c q });
+      frozen_indices = tabulate z.m (λ q. record { 0 = k.indices c q });
     }
 
 abbrev pub row_at : Measures → Rows → ℕ → Row
@@ -54,8 +54,8 @@ row_at z a w =
     record {
       written = a.written w;
       frozen = tabulate z.m (a.frozen w);
-      frozenIndices = tabulate z.m (λ q. record { 0 = a.indices w q });
-      readingIndex = record { 0 = a.reading w };
+      frozen_indices = tabulate z.m (λ q. record { 0 = a.indices w q });
+      reading_index = record { 0 = a.reading w };
     }
 
 abbrev pub rows_at : Measures → Rows → List Row
@@ -64,34 +64,34 @@ rows_at z a = tabulate z.m (row_at z a)
 -- the call that is under way from a client with this record
 abbrev pub calls_of : Client → Turn → List Call
 calls_of x Turn.idle = []
-calls_of x (Turn.scanning bytes) = scanCall ∷ []
+calls_of x (Turn.scanning bytes) = scan_call ∷ []
 calls_of x (Turn.scanned bytes a) = []
 calls_of x (Turn.storing v bytes a) = []
-calls_of x (Turn.updating p) = updateCall (writeRecord (depositFields x p)) ∷ []
+calls_of x (Turn.updating p) = update_call (write_record (deposit_fields x p)) ∷ []
 calls_of x (Turn.updated p) = []
-calls_of x (Turn.freezing p) = scanCall ∷ []
+calls_of x (Turn.freezing p) = scan_call ∷ []
 calls_of x (Turn.noticing p a) = []
-calls_of x Turn.raising = updateCall (writeRecord (readingFields x.readingIndex)) ∷ []
+calls_of x Turn.raising = update_call (write_record (reading_fields x.reading_index)) ∷ []
 calls_of x Turn.raised = []
-calls_of x Turn.picking = scanCall ∷ []
+calls_of x Turn.picking = scan_call ∷ []
 calls_of x (Turn.picked a) = []
 calls_of x (Turn.fetching p n m ps) = []
 
 -- the answer that is under way to a client
-abbrev pub returnsOf : Measures → Turn → List Return
-returnsOf z Turn.idle = []
-returnsOf z (Turn.scanning bytes) = []
-returnsOf z (Turn.scanned bytes a) = rows (writeDirectory z (rows_at z a)) ∷ []
-returnsOf z (Turn.storing v bytes a) = []
-returnsOf z (Turn.updating x) = []
-returnsOf z (Turn.updated x) = updated ∷ []
-returnsOf z (Turn.freezing x) = []
-returnsOf z (Turn.noticing x a) = rows (writeDirectory z (rows_at z a)) ∷ []
-returnsOf z Turn.raising = []
-returnsOf z Turn.raised = updated ∷ []
-returnsOf z Turn.picking = []
-returnsOf z (Turn.picked a) = rows (writeDirectory z (rows_at z a)) ∷ []
-returnsOf z (Turn.fetching x n m ps) = []
+abbrev pub returns_of : Measures → Turn → List Return
+returns_of z Turn.idle = []
+returns_of z (Turn.scanning bytes) = []
+returns_of z (Turn.scanned bytes a) = rows (write_directory z (rows_at z a)) ∷ []
+returns_of z (Turn.storing v bytes a) = []
+returns_of z (Turn.updating x) = []
+returns_of z (Turn.updated x) = updated ∷ []
+returns_of z (Turn.freezing x) = []
+returns_of z (Turn.noticing x a) = rows (write_directory z (rows_at z a)) ∷ []
+returns_of z Turn.raising = []
+returns_of z Turn.raised = updated ∷ []
+returns_of z Turn.picking = []
+returns_of z (Turn.picked a) = rows (write_directory z (rows_at z a)) ∷ []
+returns_of z (Turn.fetching x n m ps) = []
 
 abbrev pub GoodRows : Measures → Rows → Type 0
 GoodRows z a = (w : ℕ) → w < z.m → GoodRow z (row_at z a w)
@@ -115,37 +115,37 @@ GoodTurn z (Turn.fetching x n m ps) = Unit {0}
 -- ---- what shows it
 
 pub record ClientShows (z : Measures) (b : List ℕ) (cs : List Call) (rs : List Return) (k : Clients) (c : ℕ) : Type 0 where
-  pub bytes : b ≡ writeClient z (clientAt z k c)
-  pub good : GoodClient z (clientAt z k c)
-  pub calls : cs ≡ calls_of (clientAt z k c) (k.turn c)
-  pub returns : rs ≡ returnsOf z (k.turn c)
+  pub bytes : b ≡ write_client z (client_at z k c)
+  pub good : GoodClient z (client_at z k c)
+  pub calls : cs ≡ calls_of (client_at z k c) (k.turn c)
+  pub returns : rs ≡ returns_of z (k.turn c)
   pub turn : GoodTurn z (k.turn c)
 
 pub record DirectoryShows (z : Measures) (b : List ℕ) (a : Rows) : Type 0 where
-  pub bytes : b ≡ writeDirectory z (rows_at z a)
+  pub bytes : b ≡ write_directory z (rows_at z a)
   pub good : GoodRows z a
 
 pub record TableShows (z : Measures) (b : List ℕ) (l : List Held) : Type 0 where
-  pub bytes : b ≡ writeTable z l
+  pub bytes : b ≡ write_table z l
   pub good : GoodTable z l
 
 pub record ToNodeShows (z : Measures) (b : List (List ℕ)) (q : List ToNode) : Type 0 where
-  pub bytes : b ≡ map writeToNode q
+  pub bytes : b ≡ map write_to_node q
   pub good : Each (GoodToNode z) q
 
 pub record ToClientShows (z : Measures) (b : List (List ℕ)) (q : List ToClient) : Type 0 where
-  pub bytes : b ≡ map writeToClient q
+  pub bytes : b ≡ map write_to_client q
   pub good : Each (GoodToClient z) q
 
 pub record Shows (z : Measures) (honest : ℕ → Bool) (st : State) (s : Model) : Type 0 where
   pub directory : DirectoryShows z st.directory (rows_of s)
   pub client : (c : ℕ) → c < z.m → ClientShows z (st.clients c) (st.calls c) (st.returns c) s.c c
   pub table : (i : ℕ) → honest i ≡ true → 1 ≤ i → i ≤ z.n → TableShows z (st.nodes i) (s.n.held i)
-  pub toNode : (c i : ℕ) → c < z.m → honest i ≡ true → 1 ≤ i → i ≤ z.n → ToNodeShows z (st.toNode c i) (s.n.toNode c i)
-  pub toClient : (i c : ℕ) → honest i ≡ true → 1 ≤ i → i ≤ z.n → c < z.m → ToClientShows z (st.toClient i c) (s.n.toClient i c)
+  pub to_node : (c i : ℕ) → c < z.m → honest i ≡ true → 1 ≤ i → i ≤ z.n → ToNodeShows z (st.to_node c i) (s.n.to_node c i)
+  pub to_client : (i c : ℕ) → honest i ≡ true → 1 ≤ i → i ≤ z.n → c < z.m → ToClientShows z (st.to_client i c) (s.n.to_client i c)
   -- nothing is under way from a stranger, or kept for a dishonest node
-  pub strangers : (c i : ℕ) → z.m ≤ c → st.toNode c i ≡ []
-  pub liars : (i c : ℕ) → honest i ≡ false → st.toClient i c ≡ []
+  pub strangers : (c i : ℕ) → z.m ≤ c → st.to_node c i ≡ []
+  pub liars : (i c : ℕ) → honest i ≡ false → st.to_client i c ≡ []
   pub history : st.history ≡ s.h
 
 -- an event carried out is a step of the model, and its answer is sane

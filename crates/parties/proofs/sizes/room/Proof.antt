@@ -3,8 +3,8 @@ use mathlib.Core.Path.{◌≡◌, sym, ◌∙◌}
 use mathlib.Core.Bool.{true}
 use borrow.Author.Tests.{not-true, not-false}
 use Rattle.parties.specs.protocol.Measures.{passes}
-use Rattle.parties.specs.protocol.ClientEvents.{roomSize}
-use Rattle.parties.proofs.SizesLaws.{sized-passed, sized-failed}
+use Rattle.parties.specs.protocol.ClientEvents.{room_size}
+use Rattle.parties.proofs.SizesLaws.{sized_passed, sized-failed}
 use Rattle.parties.proofs.sizes.room.Statement.{statement}
 use Rattle.parties.proofs.sizes.room.Tie as tie
 
@@ -15,13 +15,13 @@ pass-requires : tie.Need-pass-requires
 pass-requires c κs = search rules
 
 returns : tie.Need-returns
-returns c = let s = c.before.before.args.s in sym (sized-failed s (roomSize s) (sym c.before.pass.ensures ∙ not-true c.before.pass.result c.if1.true))
+returns c = let s = c.before.before.args.s in sym (sized-failed s (room_size s) (sym c.before.pass.ensures ∙ not-true c.before.pass.result c.if1.true))
 
 room-size-requires : tie.Need-room-size-requires
 room-size-requires c κs = good c
 
 returns-2 : tie.Need-returns-2
-returns-2 c = let s = c.before.before.before.args.s in c.room-size.ensures ∙ sym (sized-passed s (roomSize s) (good c.before))
+returns-2 c = let s = c.before.before.before.args.s in c.room-size.ensures ∙ sym (sized_passed s (room_size s) (good c.before))
 
 pub room-spec : {M : Type 1} → statement M
 room-spec = tie.close (tie.spec pass-requires returns room-size-requires returns-2)

@@ -6,7 +6,7 @@ use native.Mathlib.Omega.{arith}
 use lib.ListN.{length, get_or, drop, length-drop}
 use lib.Seq.{length-take-le}
 use Rattle.coding.proofs.AreasLaws.{columns-rest}
-use Rattle.recordings.specs.Planes.{amongPlanes}
+use Rattle.recordings.specs.Planes.{among_planes}
 use Rattle.recordings.proofs.arrange.lay_samples.Statement.{statement}
 use Rattle.recordings.proofs.arrange.lay_samples.Tie as tie
 
@@ -57,7 +57,7 @@ returns c =
     let h : r ≤ n = c.before.before.before.before.before.before.first-samples.ensures.0 in
     let e : r + (n - r) ≡ n = omega arith in
     rw e at
-    (columns-rest r (n - r) w w (λ s p. get_or c.before.before.before.before.before.before.before.before.before.before.args.bytes.now (amongPlanes n s p) 0) _ c.before.before.before.before.before.before.before.before.before.before.args.out.now _ _ (omega arith)
+    (columns-rest r (n - r) w w (λ s p. get_or c.before.before.before.before.before.before.before.before.before.before.args.bytes.now (among_planes n s p) 0) _ c.before.before.before.before.before.before.before.before.before.before.args.out.now _ _ (omega arith)
     (omega (arith, before c.before.before.before.before.before.before.before.before.before.before.args.width c.before.before.before.before.before.before.first-samples.ensures.0 c.before.before.before.before.before.before.before.before.before.before.requires.0, c.before.before.before.before.before.before.first-samples.ensures.1.same)) (λ i l. refl) c.before.before.before.before.before.before.first-samples.ensures.1 c.before.before.write-samples.ensures)
 
 pub lay-samples-spec : {M : Type 1} → statement M

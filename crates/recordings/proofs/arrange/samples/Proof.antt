@@ -2,15 +2,15 @@ use borrow.Author.Rules.{rules}
 use borrow.Author.Tests.{not-true, not-false}
 use mathlib.Core.Path.{sym, ap, ◌∙◌}
 use lib.ListN.{length}
-use Rattle.recordings.specs.Planes.{samplesOf}
+use Rattle.recordings.specs.Planes.{samples_of}
 use Rattle.recordings.specs.Arrange.{ArrangeEnd}
-use Rattle.recordings.proofs.ArrangeLaws.{wide, whole-samples, arrange-short, arrange-width, arrange-done, samples-laid}
+use Rattle.recordings.proofs.ArrangeLaws.{wide, whole-samples, arrange-short, arrange_width, arrange-done, samples-laid}
 use Rattle.recordings.proofs.arrange.samples.Statement.{statement}
 use Rattle.recordings.proofs.arrange.samples.Tie as tie
 
 returns : tie.Need-returns
 returns c =
-    let e = arrange-short samplesOf c.before.before.before.args.width c.before.before.before.args.bytes.now c.before.before.before.args.out.now c.if1.true in
+    let e = arrange-short samples_of c.before.before.before.args.width c.before.before.before.args.bytes.now c.before.before.before.args.out.now c.if1.true in
     (sym (ap (λ (z : ArrangeEnd). z.outcome) e), sym (ap (λ (z : ArrangeEnd). z.out) e))
 
 proper-requires : tie.Need-proper-requires
@@ -18,7 +18,7 @@ proper-requires c κs = search rules
 
 returns-2 : tie.Need-returns-2
 returns-2 c =
-    let e = arrange-width samplesOf c.before.before.before.before.before.args.width c.before.before.before.before.before.args.bytes.now c.before.before.before.before.before.args.out.now c.before.before.if1.false (sym c.before.proper.ensures ∙ not-true c.before.proper.result c.if2.true) in
+    let e = arrange_width samples_of c.before.before.before.before.before.args.width c.before.before.before.before.before.args.bytes.now c.before.before.before.before.before.args.out.now c.before.before.if1.false (sym c.before.proper.ensures ∙ not-true c.before.proper.result c.if2.true) in
     (sym (ap (λ (z : ArrangeEnd). z.outcome) e), sym (ap (λ (z : ArrangeEnd). z.out) e))
 
 div-lay-samples : tie.Need-nonzero-div-lay-samples
@@ -37,7 +37,7 @@ returns-3 c =
     let out = c.before.before.before.before.before.before.before.before.before.args.out.now in
     let r = c.before.before.before.before.before.before.if1.false in
     let p = (sym c.before.before.before.before.before.proper.ensures ∙ not-false c.before.before.before.before.before.proper.result c.before.before.before.before.if2.false) in
-    (sym (ap (λ (z : ArrangeEnd). z.outcome) (arrange-done samplesOf w d out r p)), samples-laid w d out _ r p c.before.before.lay-samples.ensures)
+    (sym (ap (λ (z : ArrangeEnd). z.outcome) (arrange-done samples_of w d out r p)), samples-laid w d out _ r p c.before.before.lay-samples.ensures)
 
 pub samples-spec : {M : Type 1} → statement M
 samples-spec =

@@ -5,13 +5,13 @@ use Prim.Native.Nat.{◌+◌, ◌-◌, ◌*◌, ◌≤◌}
 use native.Mathlib.Omega.{arith}
 use lib.ListN.{length, get_or}
 use Rattle.coding.proofs.BytesLaws.{Front, front-none, front_length}
-use Rattle.recordings.specs.Shuffle.{shuffled, inBlocks}
-use Rattle.recordings.proofs.BlockLaws.{shuffle-turn}
+use Rattle.recordings.specs.Shuffle.{shuffled, in_blocks}
+use Rattle.recordings.proofs.BlockLaws.{shuffle_turn}
 use Rattle.recordings.proofs.blocks.shuffle.Statement.{statement}
 use Rattle.recordings.proofs.blocks.shuffle.Tie as tie
 
 abbrev invariant-loop : tie.invariant-loop
-invariant-loop from at to₀ k₀ to k = (k ≤ 32) × (length to ≡ length to₀) × Front to₀ (λ m. get_or from (at + inBlocks shuffled m) 0) to (48 * k)
+invariant-loop from at to₀ k₀ to k = (k ≤ 32) × (length to ≡ length to₀) × Front to₀ (λ m. get_or from (at + in_blocks shuffled m) 0) to (48 * k)
 
 abbrev decreases-loop : tie.decreases-loop
 decreases-loop from at to₀ k₀ to k = 32 - k
@@ -76,7 +76,7 @@ loop-again c =
     let l₁ : length v₁ ≡ 16 = search rules in
     let l₂ : length v₂ ≡ 16 = search rules in
     let f =
-    shuffle-turn d c.before.before.before.before.before.before.before.before.before.before.before.before.before.before.before.before.before.before.before.args.to.now at k c.before.before.before.before.before.before.before.before.before.before.before.before.before.before.before.before.before.before.before.requires.1 c.before.before.before.before.before.before.before.before.before.before.before.before.before.before.before.loop-test.true _ _ _ _ v₀ v₁ v₂
+    shuffle_turn d c.before.before.before.before.before.before.before.before.before.before.before.before.before.before.before.before.before.before.before.args.to.now at k c.before.before.before.before.before.before.before.before.before.before.before.before.before.before.before.before.before.before.before.requires.1 c.before.before.before.before.before.before.before.before.before.before.before.before.before.before.before.loop-test.true _ _ _ _ v₀ v₁ v₂
     (l₀, c.before.before.before.before.before.before.before.before.before.before.before.before.before.pairs.ensures) (l₁, c.before.before.before.before.before.before.before.before.pairs2.ensures) (l₂, c.before.before.before.pairs3.ensures)
     c.before.before.before.before.before.before.before.before.before.before.before.before.store.ensures c.before.before.before.before.before.before.before.store2.ensures c.before.before.store3.ensures c.before.before.before.before.before.before.before.before.before.before.before.before.before.before.before.before.loop.invariant.2
     in (omega arith, front_length _ _ _ _ f, f)

@@ -7,7 +7,7 @@ use lib.ListN.{length, get_or}
 use Rattle.coding.specs.Areas.{Columns}
 use Rattle.coding.proofs.AreasLaws.{columns-empty}
 use Rattle.recordings.specs.Shuffle.{shuffled}
-use Rattle.recordings.proofs.BlockLaws.{spread-turn}
+use Rattle.recordings.proofs.BlockLaws.{spread_turn}
 use Rattle.recordings.proofs.blocks.spread.Statement.{statement}
 use Rattle.recordings.proofs.blocks.spread.Tie as tie
 
@@ -77,7 +77,7 @@ loop-again c =
     let l₁ : length v₁ ≡ 16 = search rules in
     let l₂ : length v₂ ≡ 16 = search rules in (
       omega arith,
-      spread-turn c.before.before.before.before.before.before.before.before.before.before.before.before.before.before.before.before.before.before.before.args.from.now c.before.before.before.before.before.before.before.before.before.before.before.before.before.before.before.before.before.before.before.args.out.now c.before.before.before.before.before.before.before.before.before.before.before.before.before.before.before.before.before.before.before.args.n c.before.before.before.before.before.before.before.before.before.before.before.before.before.before.before.before.before.before.before.args.s c.before.before.before.before.before.before.before.before.before.before.before.before.before.before.before.before.loop.k c.before.before.before.before.before.before.before.before.before.before.before.before.before.before.before.before.before.before.before.requires.2 c.before.before.before.before.before.before.before.before.before.before.before.before.before.before.before.before.before.before.before.requires.0 c.before.before.before.before.before.before.before.before.before.before.before.before.before.before.before.loop-test.true _ _ _ _ v₀ v₁ v₂
+      spread_turn c.before.before.before.before.before.before.before.before.before.before.before.before.before.before.before.before.before.before.before.args.from.now c.before.before.before.before.before.before.before.before.before.before.before.before.before.before.before.before.before.before.before.args.out.now c.before.before.before.before.before.before.before.before.before.before.before.before.before.before.before.before.before.before.before.args.n c.before.before.before.before.before.before.before.before.before.before.before.before.before.before.before.before.before.before.before.args.s c.before.before.before.before.before.before.before.before.before.before.before.before.before.before.before.before.loop.k c.before.before.before.before.before.before.before.before.before.before.before.before.before.before.before.before.before.before.before.requires.2 c.before.before.before.before.before.before.before.before.before.before.before.before.before.before.before.before.before.before.before.requires.0 c.before.before.before.before.before.before.before.before.before.before.before.before.before.before.before.loop-test.true _ _ _ _ v₀ v₁ v₂
           (l₀, c.before.before.before.before.before.before.before.before.before.before.before.before.before.pairs.ensures) (l₁, c.before.before.before.before.before.before.before.before.pairs2.ensures) (l₂, c.before.before.before.pairs3.ensures)
           c.before.before.before.before.before.before.before.before.before.before.before.before.store.ensures c.before.before.before.before.before.before.before.store2.ensures c.before.before.store3.ensures c.before.before.before.before.before.before.before.before.before.before.before.before.before.before.before.before.loop.invariant.1,
     )

@@ -7,12 +7,12 @@ use native.Mathlib.Omega.{arith}
 use lib.ListN.{length, get_or}
 use Rattle.coding.specs.Areas.{Columns}
 use Rattle.coding.proofs.AreasLaws.{columns-empty, columns-join}
-use Rattle.recordings.specs.Planes.{amongSamples}
+use Rattle.recordings.specs.Planes.{among_samples}
 use Rattle.recordings.proofs.blocks.write_blocks.Statement.{statement}
 use Rattle.recordings.proofs.blocks.write_blocks.Tie as tie
 
 abbrev invariant-loop : tie.invariant-loop
-invariant-loop n bytes out₀ x₀ y₀ s₀ out x y s = (s ≤ n) × (length x ≡ 1536) × (length y ≡ 1536) × Columns 3 n 0 s (λ p l. get_or bytes (amongSamples 3 l p) 0) out₀ out
+invariant-loop n bytes out₀ x₀ y₀ s₀ out x y s = (s ≤ n) × (length x ≡ 1536) × (length y ≡ 1536) × Columns 3 n 0 s (λ p l. get_or bytes (among_samples 3 l p) 0) out₀ out
 
 abbrev decreases-loop : tie.decreases-loop
 decreases-loop n bytes out₀ x₀ y₀ s₀ out x y s = n - s

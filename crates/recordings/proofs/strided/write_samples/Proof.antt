@@ -9,8 +9,8 @@ use lib.ListN.{get_or}
 use Rattle.coding.specs.Areas.{Columns}
 use Rattle.coding.proofs.BytesLaws.{stride}
 use Rattle.coding.proofs.AreasLaws.{columns-empty, columns-join}
-use Rattle.coding.proofs.SplitLaws.{columns-ext}
-use Rattle.recordings.specs.Planes.{amongPlanes}
+use Rattle.coding.proofs.SplitLaws.{columns_ext}
+use Rattle.recordings.specs.Planes.{among_planes}
 use Rattle.recordings.proofs.strided.write_samples.Statement.{statement}
 use Rattle.recordings.proofs.strided.write_samples.Tie as tie
 
@@ -22,20 +22,20 @@ below {n} {s} {p} {width} h r b =
 
 -- a plane more
 next : (d t u u' : List ℕ) (n s width p : ℕ) → p < width
-    → Columns (n - s) width 0 p (λ i q. get_or d (amongPlanes n (s + i) q) 0) t u
+    → Columns (n - s) width 0 p (λ i q. get_or d (among_planes n (s + i) q) 0) t u
     → Columns (n - s) width p 1 (λ i l. get_or d (p * n + s + i) 0) u u'
-    → Columns (n - s) width 0 (p + 1) (λ i q. get_or d (amongPlanes n (s + i) q) 0) t u'
+    → Columns (n - s) width 0 (p + 1) (λ i q. get_or d (among_planes n (s + i) q) 0) t u'
 next d t u u' n s width p h c x =
-    let w : ℕ → ℕ → ℕ = λ i l. get_or d (amongPlanes n (s + i) (p + l)) 0 in
+    let w : ℕ → ℕ → ℕ = λ i l. get_or d (among_planes n (s + i) (p + l)) 0 in
     let y : Columns (n - s) width p 1 w u u' =
-    columns-ext (n - s) width p 1 (λ i l. get_or d (p * n + s + i) 0) w u u'
+    columns_ext (n - s) width p 1 (λ i l. get_or d (p * n + s + i) 0) w u u'
     (λ i l _ hl. let e : p + l ≡ p = omega arith in ap (λ (q : ℕ). get_or d q 0) (add_assoc (p * n) s i ∙ ap (λ (q : ℕ). q * n + (s + i)) (sym e))) x
     in
     let z : Columns (n - s) width (0 + p) 1 w u u' = rw (zero-add p) y in
-    columns-join (n - s) width 0 p 1 (λ i q. get_or d (amongPlanes n (s + i) q) 0) w t u u' (omega arith) (λ i l. refl) c z
+    columns-join (n - s) width 0 p 1 (λ i q. get_or d (among_planes n (s + i) q) 0) w t u u' (omega arith) (λ i l. refl) c z
 
 abbrev invariant-loop : tie.invariant-loop
-invariant-loop width n s bytes out₀ p₀ out p = (p ≤ width) × Columns (n - s) width 0 p (λ i q. get_or bytes (amongPlanes n (s + i) q) 0) out₀ out
+invariant-loop width n s bytes out₀ p₀ out p = (p ≤ width) × Columns (n - s) width 0 p (λ i q. get_or bytes (among_planes n (s + i) q) 0) out₀ out
 
 abbrev decreases-loop : tie.decreases-loop
 decreases-loop width n s bytes out₀ p₀ out p = width - p

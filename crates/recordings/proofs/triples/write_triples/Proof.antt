@@ -8,7 +8,7 @@ use native.Mathlib.Omega.{arith}
 use lib.ListN.{length, get_or}
 use lib.Seq.{paste}
 use Rattle.coding.proofs.BytesLaws.{Front, front-none, front-more, front_length}
-use Rattle.recordings.specs.Planes.{amongPlanes}
+use Rattle.recordings.specs.Planes.{among_planes}
 use Rattle.recordings.proofs.PlaceLaws.{row_of, entry_of}
 use Rattle.recordings.proofs.FrontLaws.{front-columns}
 use Rattle.recordings.proofs.triples.write_triples.Statement.{statement}
@@ -16,12 +16,12 @@ use Rattle.recordings.proofs.triples.write_triples.Tie as tie
 
 -- sixteen samples more
 module _ (d t u u' v : List ℕ) (n s : ℕ) (long : length v ≡ 48) (room : 3 * s + 48 ≤ length t)
-    (p : (l : ℕ) → l < 48 → get_or v l 0 ≡ get_or d (amongPlanes n (s + l / 3) (l % 3)) 0)
-    (e : u' ≡ paste u (3 * s) v 48) (f : Front t (λ l. get_or d (amongPlanes n (l / 3) (l % 3)) 0) u (s * 3))
+    (p : (l : ℕ) → l < 48 → get_or v l 0 ≡ get_or d (among_planes n (s + l / 3) (l % 3)) 0)
+    (e : u' ≡ paste u (3 * s) v 48) (f : Front t (λ l. get_or d (among_planes n (l / 3) (l % 3)) 0) u (s * 3))
   where
-    turn : Front t (λ l. get_or d (amongPlanes n (l / 3) (l % 3)) 0) u' ((s + 16) * 3)
+    turn : Front t (λ l. get_or d (among_planes n (l / 3) (l % 3)) 0) u' ((s + 16) * 3)
     turn =
-        let g : ℕ → ℕ = λ l. get_or d (amongPlanes n (l / 3) (l % 3)) 0 in
+        let g : ℕ → ℕ = λ l. get_or d (among_planes n (l / 3) (l % 3)) 0 in
         let z : 3 * s ≡ s * 3 = omega arith in
         let z' : (s + 16) * 3 ≡ s * 3 + 48 = omega arith in
         rw e
@@ -37,7 +37,7 @@ module _ (d t u u' v : List ℕ) (n s : ℕ) (long : length v ≡ 48) (room : 3 
         byte l = omega arith
 
 abbrev invariant-loop : tie.invariant-loop
-invariant-loop n bytes out₀ s₀ out s = (s ≤ n) × (length out ≡ length out₀) × Front out₀ (λ l. get_or bytes (amongPlanes n (l / 3) (l % 3)) 0) out (s * 3)
+invariant-loop n bytes out₀ s₀ out s = (s ≤ n) × (length out ≡ length out₀) × Front out₀ (λ l. get_or bytes (among_planes n (l / 3) (l % 3)) 0) out (s * 3)
 
 abbrev decreases-loop : tie.decreases-loop
 decreases-loop n bytes out₀ s₀ out s = n - s

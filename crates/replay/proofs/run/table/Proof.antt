@@ -2,22 +2,22 @@
 use Prim.Native.Nat.{◌≤◌}
 use borrow.Author.Rules.{rules}
 use lib.ListN.{length}
-use Rattle.parties.specs.protocol.NodeEvents.{tableSize}
-use Rattle.title.specs.Memory.{tableAt}
+use Rattle.parties.specs.protocol.NodeEvents.{table_size}
+use Rattle.title.specs.Memory.{table_at}
 use Rattle.title.specs.Part.{Stands}
-use Rattle.title.proofs.MemoryLaws.{placed-within, part-order}
+use Rattle.title.proofs.MemoryLaws.{placed_within, part-order}
 use Rattle.replay.proofs.run.table.Statement.{statement}
 use Rattle.replay.proofs.run.table.Tie as tie
 
 standing : (c : tie.After-part) → let a = c.before.before.before.before.args in
-    Stands a.s (length a.memory.now) (tableAt a.s a.i) (tableSize a.s) c.part.given.0.0 c.part.given.0.1.0
+    Stands a.s (length a.memory.now) (table_at a.s a.i) (table_size a.s) c.part.given.0.0 c.part.given.0.1.0
 standing c =
     let a = c.before.before.before.before.args in
-    placed-within a.s (length a.memory.now) (tableAt a.s a.i) (tableSize a.s) c.before.before.table-part.result c.before.before.table-part.ensures c.part.given.0.0 c.part.given.0.1.0 c.part.given.1
+    placed_within a.s (length a.memory.now) (table_at a.s a.i) (table_size a.s) c.before.before.table-part.result c.before.before.table-part.ensures c.part.given.0.0 c.part.given.0.1.0 c.part.given.1
 
 ordered : (c : tie.After-part) → c.part.given.0.0 ≤ c.part.given.0.1.0
 ordered c =
-    let a = c.before.before.before.before.args in part-order a.s (tableAt a.s a.i) (tableSize a.s) a.memory.now _ _ (standing c)
+    let a = c.before.before.before.before.args in part-order a.s (table_at a.s a.i) (table_size a.s) a.memory.now _ _ (standing c)
 
 table-part-requires : tie.Need-table-part-requires
 table-part-requires c κs = search rules

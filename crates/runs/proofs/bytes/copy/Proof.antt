@@ -1,7 +1,7 @@
 -- The first l bytes are copied.
 use Prim.Native.Nat.{◌-◌}
 use native.Mathlib.Omega.{arith}
-use Rattle.parties.proofs.records.BytesLaws.{Copied, copied_none, copied-length, copied_more, copied_all}
+use Rattle.parties.proofs.records.BytesLaws.{Copied, copied_none, copied_length, copied_more, copied_all}
 use Rattle.runs.proofs.bytes.copy.Statement.{statement}
 use Rattle.runs.proofs.bytes.copy.Tie as tie
 
@@ -24,7 +24,7 @@ add-dst-2 : tie.Need-overflow-add-dst-2 invariant-loop decreases-loop
 add-dst-2 c = omega arith
 
 slice-write-dst : tie.Need-slice-write-dst invariant-loop decreases-loop
-slice-write-dst c = omega (arith, copied-length _ _ _ _ _ c.before.before.before.requires.0 c.before.before.before.requires.1 _ _ c.before.before.loop.invariant)
+slice-write-dst c = omega (arith, copied_length _ _ _ _ _ c.before.before.before.requires.0 c.before.before.before.requires.1 _ _ c.before.before.loop.invariant)
 
 add-l : tie.Need-overflow-add-l invariant-loop decreases-loop
 add-l c = omega arith
@@ -36,7 +36,7 @@ loop-again : tie.Need-loop-preserved invariant-loop decreases-loop
 loop-again c = copied_more _ _ _ _ _ c.before.before.before.requires.0 c.before.before.before.requires.1 _ _ c.before.before.loop.invariant c.before.loop-test.true
 
 same_length : tie.Need-same-length invariant-loop decreases-loop
-same_length c = copied-length _ _ _ _ _ c.before.before.requires.0 c.before.before.requires.1 _ _ c.before.loop.invariant
+same_length c = copied_length _ _ _ _ _ c.before.before.requires.0 c.before.before.requires.1 _ _ c.before.loop.invariant
 
 returns : tie.Need-returns invariant-loop decreases-loop
 returns c = copied_all _ _ _ _ _ c.before.before.requires.0 c.before.before.requires.1 _ _ c.before.loop.invariant c.loop-test.false

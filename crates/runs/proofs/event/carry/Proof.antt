@@ -1,16 +1,16 @@
 use borrow.Author.Rules.{rules}
 use mathlib.Core.Path.{refl, sym, ◌∙◌}
 use native.Mathlib.Omega.{arith}
-use Rattle.runs.specs.Parcels.{callKind, no_node}
+use Rattle.runs.specs.Parcels.{call_kind, no_node}
 use Rattle.runs.specs.Acts.{Acts}
 use Rattle.runs.specs.Event.{Waiting}
 use Rattle.runs.proofs.GoesLaws.{carry-none}
-use Rattle.runs.proofs.EventLaws.{ahead-ends, ahead-at, halted-happens, waiting-happens, call-bounds}
+use Rattle.runs.proofs.EventLaws.{ahead_ends, ahead_at, halted_happens, waiting_happens, call-bounds}
 use Rattle.runs.proofs.event.carry.Statement.{statement}
 use Rattle.runs.proofs.event.carry.Tie as tie
 
-seen : (c : tie.After-at) → let a = c.before.before.before.before.before.before.before.args in Waiting a.s callKind a.c no_node a.post.now a.used c.at.given.0.0 c.at.given.0.1.0
-seen c = let a = c.before.before.before.before.before.before.before.args in ahead-at a.s callKind a.c no_node a.post.now a.used c.before.before.look-ahead.result c.before.before.look-ahead.ensures c.at.given.0.0 c.at.given.0.1.0 c.at.given.1
+seen : (c : tie.After-at) → let a = c.before.before.before.before.before.before.before.args in Waiting a.s call_kind a.c no_node a.post.now a.used c.at.given.0.0 c.at.given.0.1.0
+seen c = let a = c.before.before.before.before.before.before.before.args in ahead_at a.s call_kind a.c no_node a.post.now a.used c.before.before.look-ahead.result c.before.before.look-ahead.ensures c.at.given.0.0 c.at.given.0.1.0 c.at.given.1
 
 look-ahead-requires : tie.Need-look-ahead-requires
 look-ahead-requires c κs = search rules
@@ -36,9 +36,9 @@ same_length c = search rules
 returns : tie.Need-returns
 returns c =
     λ honest. let a = c.before.before.before.before.before.before.before.before.args in
-    halted-happens (call-bounds _ _) refl
+    halted_happens (call-bounds _ _) refl
     (λ v. (Acts.rests _ v.none refl, λ es h. carry-none a.s v.roomy.measures honest es a.memory.now a.post.now a.used h a.c a.room.now (v.none.none h.parcels h.listed)))
-    (ahead-ends a.s callKind a.c no_node a.post.now a.used c.before.before.before.look-ahead.result c.before.before.before.look-ahead.ensures c.before.e.given.0.0 c.before.e.given.1)
+    (ahead_ends a.s call_kind a.c no_node a.post.now a.used c.before.before.before.look-ahead.result c.before.before.before.look-ahead.ensures c.before.e.given.0.0 c.before.e.given.1)
 
 same-length-2 : tie.Need-same-length-2
 same-length-2 c = search rules
@@ -52,7 +52,7 @@ same-length-4 c = search rules
 returns-2 : tie.Need-returns-2
 returns-2 c =
     λ honest. let t = c.before.before.before.before.before.before.carry-update in
-    waiting-happens (call-bounds _ _) (seen c.before.before.before.before.before.before.before.before.before.before.before.before.before.before) t.ensures.0 (t.ensures.1 honest)
+    waiting_happens (call-bounds _ _) (seen c.before.before.before.before.before.before.before.before.before.before.before.before.before.before) t.ensures.0 (t.ensures.1 honest)
 
 same-length-5 : tie.Need-same-length-5
 same-length-5 c = search rules
@@ -66,7 +66,7 @@ same-length-7 c = search rules
 returns-3 : tie.Need-returns-3
 returns-3 c =
     λ honest. let t = c.before.before.before.before.before.before.carry-scan in
-    waiting-happens (call-bounds _ _) (seen c.before.before.before.before.before.before.before.before.before.before.before.before.before.before) t.ensures.0 (t.ensures.1 honest)
+    waiting_happens (call-bounds _ _) (seen c.before.before.before.before.before.before.before.before.before.before.before.before.before.before) t.ensures.0 (t.ensures.1 honest)
 
 pub carry-spec : {M : Type 1} → statement M
 carry-spec =

@@ -3,17 +3,17 @@ use mathlib.Core.Path.{◌≡◌, sym, ◌∙◌}
 use mathlib.Core.Bool.{true}
 use native.Mathlib.Omega.{arith}
 use lib.ListN.{length}
-use Rattle.runs.specs.Parcels.{properKey}
+use Rattle.runs.specs.Parcels.{proper_key}
 use Rattle.runs.specs.Happens.{PostRoomy}
 use Rattle.runs.specs.Event.{Stopped, Halted}
-use Rattle.runs.proofs.EventLaws.{ready-yes, ready-no, looks-broken, looks-none, looks-at}
+use Rattle.runs.proofs.EventLaws.{ready_yes, ready_no, looks_broken, looks_none, looks_at}
 use Rattle.runs.proofs.event.look_ahead.Statement.{statement}
 use Rattle.runs.proofs.event.look_ahead.Tie as tie
 
 able : (c : tie.After-enum-told) → let a = c.before.before.before.before.args in PostRoomy a.s (length a.post.now) a.used
-able c = let a = c.before.before.before.before.args in ready-yes a.s (length a.post.now) a.used c.before.before.ready.result c.before.before.ready.ensures c.enum_told.given.1
+able c = let a = c.before.before.before.before.args in ready_yes a.s (length a.post.now) a.used c.before.before.ready.result c.before.before.ready.ensures c.enum_told.given.1
 
-key : (c : tie.Then1) → let a = c.before.before.before.before.before.before.args in properKey a.s a.kind a.c a.i ≡ true
+key : (c : tie.Then1) → let a = c.before.before.before.before.before.before.args in proper_key a.s a.kind a.c a.i ≡ true
 key c = sym c.before.proper.ensures ∙ c.if1.true
 
 ready-requires : tie.Need-ready-requires
@@ -41,16 +41,16 @@ enum-known-at : tie.Need-enum-known-at
 enum-known-at c = search rules
 
 returns : tie.Need-returns
-returns c = let a = c.before.before.before.before.before.before.before.before.before.before.args in record { roomy = able c.before.before.before.before.before.before; key = key c.before.before.before.before; stands = looks-at a.s a.kind a.c a.i a.used a.post.now c.before.before.before.find.result c.before.before.before.find.ensures c.before.at.given.0.0 c.before.at.given.0.1.0 c.before.at.given.1 }
+returns c = let a = c.before.before.before.before.before.before.before.before.before.before.args in record { roomy = able c.before.before.before.before.before.before; key = key c.before.before.before.before; stands = looks_at a.s a.kind a.c a.i a.used a.post.now c.before.before.before.find.result c.before.before.before.find.ensures c.before.at.given.0.0 c.before.at.given.0.1.0 c.before.at.given.1 }
 
 returns-2 : tie.Need-returns-2
-returns-2 c = let a = c.before.before.before.before.before.args in Halted.stopped _ (Stopped.cramped _ (ready-no a.s (length a.post.now) a.used c.before.before.before.ready.result c.before.before.before.ready.ensures c.before.x.given.0.0 c.before.x.given.1))
+returns-2 c = let a = c.before.before.before.before.before.args in Halted.stopped _ (Stopped.cramped _ (ready_no a.s (length a.post.now) a.used c.before.before.before.ready.result c.before.before.before.ready.ensures c.before.x.given.0.0 c.before.x.given.1))
 
 returns-3 : tie.Need-returns-3
-returns-3 c = let a = c.before.before.before.before.before.before.before.before.before.args in Halted.stopped _ (Stopped.form (able c.before.before.before.before.before) (key c.before.before.before) (looks-broken a.s a.kind a.c a.i a.used a.post.now c.before.before.find.result c.before.before.find.ensures c.enum-told2.given.1))
+returns-3 c = let a = c.before.before.before.before.before.before.before.before.before.args in Halted.stopped _ (Stopped.form (able c.before.before.before.before.before) (key c.before.before.before) (looks_broken a.s a.kind a.c a.i a.used a.post.now c.before.before.find.result c.before.before.find.ensures c.enum-told2.given.1))
 
 returns-4 : tie.Need-returns-4
-returns-4 c = let a = c.before.before.before.before.before.before.before.before.before.args in Halted.vacant (record { roomy = able c.before.before.before.before.before; key = key c.before.before.before; none = looks-none a.s a.kind a.c a.i a.used a.post.now c.before.before.find.result c.before.before.find.ensures c.enum-told3.given.1 })
+returns-4 c = let a = c.before.before.before.before.before.before.before.before.before.args in Halted.vacant (record { roomy = able c.before.before.before.before.before; key = key c.before.before.before; none = looks_none a.s a.kind a.c a.i a.used a.post.now c.before.before.find.result c.before.before.find.ensures c.enum-told3.given.1 })
 
 returns-5 : tie.Need-returns-5
 returns-5 c = Halted.stopped _ (Stopped.outside (able c.before.before) (sym c.before.proper.ensures ∙ c.if1.false))

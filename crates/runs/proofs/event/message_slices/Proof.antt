@@ -6,9 +6,9 @@ use Prim.Native.Nat.{◌≤◌}
 use native.Mathlib.Nat.{mul-le-mul}
 use borrow.Author.Tests.{not-true, not-false}
 use Rattle.parties.specs.protocol.Measures.{passes}
-use Rattle.parties.specs.protocol.ClientEvents.{roomSize}
+use Rattle.parties.specs.protocol.ClientEvents.{room_size}
 use Rattle.parties.proofs.protocol.formats.MeasureLaws.{passed}
-use Rattle.runs.proofs.EventLaws.{sized-is, both-short, both_long}
+use Rattle.runs.proofs.EventLaws.{sized_is, both-short, both_long}
 use Rattle.runs.proofs.event.message_slices.Statement.{statement}
 use Rattle.runs.proofs.event.message_slices.Tie as tie
 
@@ -27,7 +27,7 @@ room-requires c κs = search rules
 returns-2 : tie.Need-returns-2
 returns-2 c =
     λ ok. let a = c.before.before.before.before.args in
-    both-short (roomSize a.s) a.room _ (omega (arith, c.before.room.ensures ∙ sized-is a.s _ ok))
+    both-short (room_size a.s) a.room _ (omega (arith, c.before.room.ensures ∙ sized_is a.s _ ok))
 
 mul-result : tie.Need-overflow-mul-result
 mul-result c =
@@ -42,7 +42,7 @@ sub-result c = (passed c.before.before.before.before.before.args.s (passing c.be
 returns-3 : tie.Need-returns-3
 returns-3 c =
     λ ok. let a = c.before.before.before.before.before.args in
-    both_long (roomSize a.s) a.room _ (omega (arith, c.before.before.room.ensures ∙ sized-is a.s _ ok))
+    both_long (room_size a.s) a.room _ (omega (arith, c.before.before.room.ensures ∙ sized_is a.s _ ok))
 
 pub message-slices-spec : {M : Type 1} → statement M
 message-slices-spec =

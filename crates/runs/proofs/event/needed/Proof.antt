@@ -7,7 +7,7 @@ use borrow.Author.Tests.{not-true, not-false}
 use Rattle.parties.specs.protocol.Measures.{passes}
 use Rattle.runs.specs.Sent.{needed}
 use Rattle.runs.proofs.SentLaws.{room_small, rows-small}
-use Rattle.runs.proofs.EventLaws.{sized-is, sized-none, needed-small}
+use Rattle.runs.proofs.EventLaws.{sized_is, sized-none, needed-small}
 use Rattle.runs.proofs.event.needed.Statement.{statement}
 use Rattle.runs.proofs.event.needed.Tie as tie
 
@@ -27,16 +27,16 @@ room-requires : tie.Need-room-requires
 room-requires c κs = search rules
 
 add-result : tie.Need-overflow-add-result
-add-result c = let s = c.before.before.before.before.args.s in let ok = passing c.before.before in omega (arith, c.before.directory.ensures ∙ sized-is s _ ok, rows-small s ok)
+add-result c = let s = c.before.before.before.before.args.s in let ok = passing c.before.before in omega (arith, c.before.directory.ensures ∙ sized_is s _ ok, rows-small s ok)
 
 add-result-2 : tie.Need-overflow-add-result-2
-add-result-2 c = let s = c.before.before.before.before.args.s in let ok = passing c.before.before in omega (arith, c.room.ensures ∙ sized-is s _ ok, room_small s ok)
+add-result-2 c = let s = c.before.before.before.before.args.s in let ok = passing c.before.before in omega (arith, c.room.ensures ∙ sized_is s _ ok, room_small s ok)
 
 mul-result : tie.Need-overflow-mul-result
 mul-result c =
     let s = c.before.before.before.before.before.args.s in
     let ok = passing c.before.before.before in
-    omega (arith, ap (λ (x : ℕ). s.n * (7 + x)) (c.before.room.ensures ∙ sized-is s _ ok), needed-small s ok)
+    omega (arith, ap (λ (x : ℕ). s.n * (7 + x)) (c.before.room.ensures ∙ sized_is s _ ok), needed-small s ok)
 
 add-result-3 : tie.Need-overflow-add-result-3
 add-result-3 c =
@@ -44,8 +44,8 @@ add-result-3 c =
     let ok = passing c.before.before.before in
     omega (
       arith,
-      c.before.before.directory.ensures ∙ sized-is s _ ok,
-      ap (λ (x : ℕ). s.n * (7 + x)) (c.before.room.ensures ∙ sized-is s _ ok),
+      c.before.before.directory.ensures ∙ sized_is s _ ok,
+      ap (λ (x : ℕ). s.n * (7 + x)) (c.before.room.ensures ∙ sized_is s _ ok),
       needed-small s ok,
     )
 
@@ -53,9 +53,9 @@ returns-2 : tie.Need-returns-2
 returns-2 c =
     let s = c.before.before.before.before.before.args.s in
     let ok = passing c.before.before.before in
-    let e = c.before.before.directory.ensures ∙ sized-is s _ ok in
-    let f = c.before.room.ensures ∙ sized-is s _ ok in
-    (λ j. 8 + e j + s.n * (7 + f j)) ∙ sym (sized-is s (needed s) ok)
+    let e = c.before.before.directory.ensures ∙ sized_is s _ ok in
+    let f = c.before.room.ensures ∙ sized_is s _ ok in
+    (λ j. 8 + e j + s.n * (7 + f j)) ∙ sym (sized_is s (needed s) ok)
 
 pub needed-spec : {M : Type 1} → statement M
 needed-spec =

@@ -4,16 +4,16 @@ use mathlib.Core.Bool.{true}
 use mathlib.Core.List.{[]}
 use lib.ListN.{length}
 use Rattle.runs.specs.Happens.{PostRoomy, Happens}
-use Rattle.runs.specs.Parcels.{toClientKind, properKey, IsList}
+use Rattle.runs.specs.Parcels.{to_client_kind, proper_key, IsList}
 use Rattle.runs.specs.Acts.{Acts}
 use Rattle.runs.proofs.PostLaws.{key-client}
 use Rattle.runs.proofs.GoesLaws.{reading-goes}
-use Rattle.runs.proofs.EventLaws.{clear-yes, clear-ends, uncleared-happens, start-bounds, reading-sized, reading-suffices, sized-is}
+use Rattle.runs.proofs.EventLaws.{clear_yes, clear_ends, uncleared_happens, start_bounds, reading-sized, reading-suffices, sized_is}
 use Rattle.runs.proofs.event.reading.Statement.{statement}
 use Rattle.runs.proofs.event.reading.Tie as tie
 
-sound : (c : tie.After-enum-told) → let a = c.before.before.before.before.before.before.before.before.args in PostRoomy a.s (length a.post.now) a.used × (properKey a.s toClientKind a.c 1 ≡ true) × IsList a.s a.used a.post.now
-sound c = let a = c.before.before.before.before.before.before.before.before.args in clear-yes a.s a.c 1 (length a.memory.now) _ a.post.now a.used c.before.before.clearance.result c.before.before.clearance.ensures c.enum_told.given.1
+sound : (c : tie.After-enum-told) → let a = c.before.before.before.before.before.before.before.before.args in PostRoomy a.s (length a.post.now) a.used × (proper_key a.s to_client_kind a.c 1 ≡ true) × IsList a.s a.used a.post.now
+sound c = let a = c.before.before.before.before.before.before.before.before.args in clear_yes a.s a.c 1 (length a.memory.now) _ a.post.now a.used c.before.before.clearance.result c.before.before.clearance.ensures c.enum_told.given.1
 
 room-requires : tie.Need-room-requires
 room-requires c κs = search rules
@@ -39,9 +39,9 @@ same_length c = search rules
 returns : tie.Need-returns
 returns c =
     λ honest. let a = c.before.before.before.before.before.before.before.before.before.args in
-    uncleared-happens (λ ok. start-bounds a.s ok a.c)
-    (λ ok. reading-suffices a.s honest a.c a.room.now (record { memory = a.memory.now; post = a.post.now; room = a.room.now; out = [] }) _ (c.before.before.before.before.before.room.ensures ∙ sized-is a.s _ ok))
-    (clear-ends a.s a.c 1 (length a.memory.now) _ a.post.now a.used c.before.before.before.clearance.result c.before.before.before.clearance.ensures c.before.e.given.0.0 c.before.e.given.1)
+    uncleared_happens (λ ok. start_bounds a.s ok a.c)
+    (λ ok. reading-suffices a.s honest a.c a.room.now (record { memory = a.memory.now; post = a.post.now; room = a.room.now; out = [] }) _ (c.before.before.before.before.before.room.ensures ∙ sized_is a.s _ ok))
+    (clear_ends a.s a.c 1 (length a.memory.now) _ a.post.now a.used c.before.before.before.clearance.result c.before.before.before.clearance.ensures c.before.e.given.0.0 c.before.e.given.1)
 
 same-length-2 : tie.Need-same-length-2
 same-length-2 c = search rules
@@ -59,9 +59,9 @@ returns-2 c =
     let d = c.before.before.before.before.before.before.before.before.before.read in
     let t = c.before.before.starts in
     let y = sound c.before.before.before.before.before.before.before.before.before.before.before.before in
-    Happens.happens t.result (record { roomy = y.0; bounds = sym (start-bounds a.s y.0.measures a.c) ∙ y.1; list = y.2 }) t.ensures.0
+    Happens.happens t.result (record { roomy = y.0; bounds = sym (start_bounds a.s y.0.measures a.c) ∙ y.1; list = y.2 }) t.ensures.0
     (Acts.reads a.c d.result t.result (record { answer = d.ensures.0; memory = d.ensures.1; room = d.ensures.2 }) refl t.ensures.1)
-    (λ es h. reading-goes a.s y.0.measures honest es a.memory.now a.post.now a.used h a.c a.room.now d.new.1.1.1.0 d.result d.new.1.1.0 t.new.1.1.1.1.0 t.result (key-client a.s toClientKind a.c 1 y.1)
+    (λ es h. reading-goes a.s y.0.measures honest es a.memory.now a.post.now a.used h a.c a.room.now d.new.1.1.1.0 d.result d.new.1.1.0 t.new.1.1.1.1.0 t.result (key-client a.s to_client_kind a.c 1 y.1)
     (reading-sized a.s a.memory.now (λ i. (c.before.before.before.before.before.before.before.before.before.before.before.before.before.before.before.before.before.before.before.slice-known.given i).fits) a.c d.result a.room.now d.ensures.0) d.ensures.0 d.ensures.1 d.ensures.2 t.ensures.1)
 
 pub reading-spec : {M : Type 1} → statement M

@@ -5,7 +5,7 @@ use native.Mathlib.Omega.{arith}
 use borrow.Author.Tests.{not-true, not-false}
 use Rattle.parties.specs.protocol.Measures.{passes}
 use Rattle.runs.specs.Event.{Cramped}
-use Rattle.runs.proofs.EventLaws.{sized-is}
+use Rattle.runs.proofs.EventLaws.{sized_is}
 use Rattle.runs.proofs.event.ready.Statement.{statement}
 use Rattle.runs.proofs.event.ready.Tie as tie
 
@@ -25,10 +25,10 @@ needed-requires : tie.Need-needed-requires
 needed-requires c κs = search rules
 
 returns-3 : tie.Need-returns-3
-returns-3 c = Cramped.short (passing c.before.before.before) (omega (arith, c.before.needed.ensures ∙ sized-is c.before.before.before.before.before.args.s _ (passing c.before.before.before)))
+returns-3 c = Cramped.short (passing c.before.before.before) (omega (arith, c.before.needed.ensures ∙ sized_is c.before.before.before.before.before.args.s _ (passing c.before.before.before)))
 
 returns-4 : tie.Need-returns-4
-returns-4 c = record { measures = passing c.before.before.before; enough = omega (arith, c.before.needed.ensures ∙ sized-is c.before.before.before.before.before.args.s _ (passing c.before.before.before)) }
+returns-4 c = record { measures = passing c.before.before.before; enough = omega (arith, c.before.needed.ensures ∙ sized_is c.before.before.before.before.before.args.s _ (passing c.before.before.before)) }
 
 pub ready-spec : {M : Type 1} → statement M
 ready-spec =

@@ -1,5 +1,5 @@
 use borrow.Author.Rules.{rules}
-use Rattle.runs.proofs.EventLaws.{not-refused}
+use Rattle.runs.proofs.EventLaws.{not_refused}
 use Rattle.runs.proofs.event.refused.Statement.{statement}
 use Rattle.runs.proofs.event.refused.Tie as tie
 
@@ -10,7 +10,7 @@ returns : tie.Need-returns
 returns c = search rules
 
 returns-2 : tie.Need-returns-2
-returns-2 c = not-refused c.before.args.a c.match.keys2
+returns-2 c = not_refused c.before.args.a c.match.keys2
 
 pub refused-spec : {M : Type 1} → statement M
 refused-spec = tie.close (tie.spec enum_told returns returns-2)

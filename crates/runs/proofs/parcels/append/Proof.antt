@@ -1,5 +1,5 @@
 use borrow.Author.Rules.{rules}
-use Rattle.runs.proofs.PostLaws.{parcel-put}
+use Rattle.runs.proofs.PostLaws.{parcel_put}
 use Rattle.runs.proofs.parcels.append.Statement.{statement}
 use Rattle.runs.proofs.parcels.append.Tie as tie
 
@@ -40,7 +40,7 @@ returns : tie.Need-returns
 returns c =
     let s = c.before.before.before.before.before.before.before.before.before.before.before.before.before.before.before in
     let h = c.before.before.before.before.before.before.before.before.before.before.put-heading.ensures in
-    parcel-put _ _ _ _ _ s.args.front.now s.args.rest.now s.requires.0 _ h.0 h.1 _ c.before.before.before.before.before.before.copy.ensures _ c.before.before.copy2.ensures
+    parcel_put _ _ _ _ _ s.args.front.now s.args.rest.now s.requires.0 _ h.0 h.1 _ c.before.before.before.before.before.before.copy.ensures _ c.before.before.copy2.ensures
 
 pub append-spec : {M : Type 1} → statement M
 append-spec =

@@ -3,8 +3,8 @@ use Prim.Native.Nat.{◌-◌, ◌≤◌}
 use mathlib.Core.List.{List}
 use native.Mathlib.Omega.{arith}
 use Rattle.runs.specs.Parcels.{Parcel, Listed, FindsAt, ListFrom}
-use Rattle.runs.proofs.PostLaws.{Passed, passed_none, passed-end, next-found, next-passed}
-use Rattle.runs.proofs.FormLaws.{from_list, is-list, list-end, list-next, list-before}
+use Rattle.runs.proofs.PostLaws.{Passed, passed_none, passed_end, next-found, next_passed}
+use Rattle.runs.proofs.FormLaws.{from_list, is_list, list_end, list-next, list-before}
 use Rattle.runs.proofs.parcels.find.Statement.{statement}
 use Rattle.runs.proofs.parcels.find.Tie as tie
 
@@ -38,7 +38,7 @@ returns-2 c =
     let t = c.before.before.before.before.before.next.ensures.1 c.before.before.before.before.if1.false in
     let at = c.before.before.before.before.before.before.before.loop.at in
     record {
-      list = is-list b.args.s b.args.used b.args.post.now b.requires.1
+      list = is_list b.args.s b.args.used b.args.post.now b.requires.1
           (i.1 (list-before b.args.s b.requires.0 b.args.used b.args.post.now b.requires.1 at _ t (λ j. (c.before.before.before.before.before.before.before.before.shared-slice-known.given j).fits) (c.before.sound.ensures.0 c.if3.true)));
       first = omega (arith, t.last);
       last = t.within;
@@ -67,7 +67,7 @@ loop-again c =
       λ l. i.1 (list-before b.args.s b.requires.0 b.args.used b.args.post.now b.requires.1 at _ t (λ j. (c.before.before.before.before.before.before.shared-slice-known.given j).fits) l),
       λ l. list-next b.args.s b.requires.0 b.args.used b.args.post.now b.requires.1 at _ t (i.2 l),
       λ q l. subst (Passed b.args.s b.args.kind b.args.c b.args.i q b.args.used b.args.post.now) (sym t.last)
-          (next-passed b.args.s b.requires.0 _ _ _ q _ _ _ b.requires.1 i.0 (i.3 q l) (omega (arith, t.last, t.within)) t.len _ t.read _ c.before.keyed.ensures c.if2.false),
+          (next_passed b.args.s b.requires.0 _ _ _ q _ _ _ b.requires.1 i.0 (i.3 q l) (omega (arith, t.last, t.within)) t.len _ t.read _ c.before.keyed.ensures c.if2.false),
     )
 
 returns-4 : tie.Need-returns-4 invariant-loop decreases-loop
@@ -75,8 +75,8 @@ returns-4 c =
     let b = c.before.before.before in
     let i = c.before.loop.invariant in
     record {
-      list = is-list b.args.s b.args.used b.args.post.now b.requires.1 (i.1 (list-end b.args.s b.args.used b.args.post.now c.before.loop.at b.requires.1 (omega arith)));
-      none = λ q l. passed-end b.args.s b.requires.0 _ _ _ q _ _ _ b.requires.1 i.0 (i.3 q l) (omega arith);
+      list = is_list b.args.s b.args.used b.args.post.now b.requires.1 (i.1 (list_end b.args.s b.args.used b.args.post.now c.before.loop.at b.requires.1 (omega arith)));
+      none = λ q l. passed_end b.args.s b.requires.0 _ _ _ q _ _ _ b.requires.1 i.0 (i.3 q l) (omega arith);
     }
 
 pub find_spec : {M : Type 1} → statement M

@@ -1,7 +1,7 @@
 use native.Mathlib.Omega.{arith}
 use lib.ListN.{length-set}
 use borrow.Author.Rules.{rules}
-use Rattle.runs.proofs.PostLaws.{heading-put}
+use Rattle.runs.proofs.PostLaws.{heading_put}
 use Rattle.runs.proofs.parcels.put_heading.Statement.{statement}
 use Rattle.runs.proofs.parcels.put_heading.Tie as tie
 
@@ -33,7 +33,7 @@ put-u32-requires : tie.Need-put-u32-requires
 put-u32-requires c κs = simp length-set (omega arith)
 
 returns : tie.Need-returns
-returns c = heading-put _ _ _ _ _ _ c.before.before.before.before.before.requires _ c.before.before.put-u32.ensures
+returns c = heading_put _ _ _ _ _ _ c.before.before.before.before.before.requires _ c.before.before.put-u32.ensures
 
 same_length : tie.Need-same-length
 same_length c = (returns c).0

@@ -1,5 +1,5 @@
 use borrow.Author.Rules.{rules}
-use Rattle.runs.proofs.PostLaws.{removed-all}
+use Rattle.runs.proofs.PostLaws.{removed_all}
 use Rattle.runs.proofs.parcels.remove.Statement.{statement}
 use Rattle.runs.proofs.parcels.remove.Tie as tie
 
@@ -20,7 +20,7 @@ same_length c = search rules
 
 returns : tie.Need-returns
 returns c =
-    let p = c.before.before.before.before.before.requires in removed-all _ _ _ _ p.0 p.1 p.2 _ c.before.before.move_down.ensures
+    let p = c.before.before.before.before.before.requires in removed_all _ _ _ _ p.0 p.1 p.2 _ c.before.before.move_down.ensures
 
 pub remove-spec : {M : Type 1} → statement M
 remove-spec =

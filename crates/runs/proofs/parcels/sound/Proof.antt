@@ -2,7 +2,7 @@ use mathlib.Core.Bool.{false≢true, true≢false}
 use Prim.Native.Nat.{◌-◌, ◌≤◌}
 use native.Mathlib.Omega.{arith}
 use Rattle.runs.specs.Parcels.{ListFrom}
-use Rattle.runs.proofs.FormLaws.{list-end, list-next, list-before}
+use Rattle.runs.proofs.FormLaws.{list_end, list-next, list-before}
 use Rattle.runs.proofs.parcels.sound.Statement.{statement}
 use Rattle.runs.proofs.parcels.sound.Tie as tie
 
@@ -38,7 +38,7 @@ loop-again c =
 returns-2 : tie.Need-returns-2 invariant-loop decreases-loop
 returns-2 c =
     let b = c.before.before.before in
-    (λ e. c.before.loop.invariant.1 (list-end b.args.s b.args.used b.args.post.now c.before.loop.at b.requires.2 (omega arith)), λ e. absurd (true≢false e))
+    (λ e. c.before.loop.invariant.1 (list_end b.args.s b.args.used b.args.post.now c.before.loop.at b.requires.2 (omega arith)), λ e. absurd (true≢false e))
 
 pub sound-spec : {M : Type 1} → statement M
 sound-spec =

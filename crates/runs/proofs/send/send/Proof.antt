@@ -1,7 +1,7 @@
 use native.Mathlib.Omega.{arith}
 use borrow.Author.Rules.{rules}
 use Rattle.parties.specs.client.Answer.{answered}
-use Rattle.runs.proofs.PostLaws.{appended-more}
+use Rattle.runs.proofs.PostLaws.{appended_more}
 use Rattle.runs.proofs.SendLaws.{call-room}
 use Rattle.runs.proofs.send.send.Statement.{statement}
 use Rattle.runs.proofs.send.send.Tie as tie
@@ -21,7 +21,7 @@ same_length c = search rules
 
 returns : tie.Need-returns
 returns c =
-    appended-more _ _ _ _ _ _ _ _ c.before.before.before.before.before.before.send-call.ensures c.before.before.send-messages.ensures
+    appended_more _ _ _ _ _ _ _ _ c.before.before.before.before.before.before.send-call.ensures c.before.before.send-messages.ensures
 
 pub send-spec : {M : Type 1} → statement M
 send-spec = tie.close (tie.spec send-call-requires send-messages-requires same_length returns)

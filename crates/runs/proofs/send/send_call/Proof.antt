@@ -3,9 +3,9 @@ use native.Mathlib.Omega.{arith}
 use lib.ListN.{length-take}
 use lib.Seq.{length-take-le}
 use borrow.Author.Rules.{rules}
-use Rattle.runs.proofs.PostLaws.{appended-none}
+use Rattle.runs.proofs.PostLaws.{appended_none}
 use Rattle.runs.proofs.SentLaws.{row_within, rows-small}
-use Rattle.runs.proofs.SendLaws.{as-sent, scan-sent, update-sent, no_call, sized-update}
+use Rattle.runs.proofs.SendLaws.{as_sent, scan-sent, update-sent, no_call, sized-update}
 use Rattle.runs.proofs.send.send_call.Statement.{statement}
 use Rattle.runs.proofs.send.send_call.Tie as tie
 
@@ -48,7 +48,7 @@ same_length c = search rules
 returns : tie.Need-returns
 returns c =
     let a = c.before.before.before.before.before.before.before.before.before.before.args in
-    as-sent (scan-sent a.c a.a a.room.now c.before.before.before.before.before.before.enum_told.given.1) c.before.before.append.ensures
+    as_sent (scan-sent a.c a.a a.room.now c.before.before.before.before.before.before.enum_told.given.1) c.before.before.append.ensures
 
 same-length-2 : tie.Need-same-length-2
 same-length-2 c = search rules
@@ -57,11 +57,11 @@ returns-2 : tie.Need-returns-2
 returns-2 c =
     let x = c.before.before.before.before.before.before in
     let a = x.before.before.before.before.before.before.args in
-    as-sent (update-sent a.c a.a a.room.now _ _ x.before.before.a.given.1 x.least.ensures.0) c.before.before.append2.ensures
+    as_sent (update-sent a.c a.a a.room.now _ _ x.before.before.a.given.1 x.least.ensures.0) c.before.before.append2.ensures
 
 returns-3 : tie.Need-returns-3
 returns-3 c =
-    let a = c.before.before.before.args in as-sent (no_call a.c a.a a.room.now c.match.keys3) (appended-none _ _ (omega arith))
+    let a = c.before.before.before.args in as_sent (no_call a.c a.a a.room.now c.match.keys3) (appended_none _ _ (omega arith))
 
 pub send-call-spec : {M : Type 1} → statement M
 send-call-spec =

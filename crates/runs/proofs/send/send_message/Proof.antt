@@ -3,10 +3,10 @@ use native.Mathlib.Omega.{arith}
 use lib.ListN.{length-take}
 use lib.Seq.{length-take-le}
 use borrow.Author.Rules.{rules}
-use Rattle.parties.proofs.records.NodesLaws.{has-is}
-use Rattle.runs.proofs.PostLaws.{appended-none}
+use Rattle.parties.proofs.records.NodesLaws.{has_is}
+use Rattle.runs.proofs.PostLaws.{appended_none}
 use Rattle.runs.proofs.SentLaws.{room_small}
-use Rattle.runs.proofs.SendLaws.{as-sent, stores-sent, request-sent, no-request, free-sent, no-message, parts-fit, area_small, sized-stores, sized-deposited}
+use Rattle.runs.proofs.SendLaws.{as_sent, stores-sent, request-sent, no_request, free-sent, no_message, parts_fit, area_small, sized-stores, sized-deposited}
 use Rattle.runs.proofs.send.send_message.Statement.{statement}
 use Rattle.runs.proofs.send.send_message.Tie as tie
 
@@ -54,7 +54,7 @@ append-requires c κs =
     let b = c.before.before.before.before.before.before.before.before.before.before.before.before in
     let few = sized-stores b.args.s b.args.a _ _ b.requires.3 c.before.before.before.before.before.before.before.a.given.1 in
     let f =
-    parts-fit b.args.s b.args.room.now c.before.before.before.before.before.before.before.before.before.least.result c.before.before.before.before.least2.result c.before.before.before.least3.result _ b.requires.0 c.before.before.before.before.before.before.before.before.before.least.ensures.1 c.before.before.before.least3.ensures.1 few
+    parts_fit b.args.s b.args.room.now c.before.before.before.before.before.before.before.before.before.least.result c.before.before.before.before.least2.result c.before.before.before.least3.result _ b.requires.0 c.before.before.before.before.before.before.before.before.before.least.ensures.1 c.before.before.before.least3.ensures.1 few
     in
     (omega (arith, f, b.requires.4), omega (arith, f, room_small b.args.s b.requires.0))
 
@@ -104,7 +104,7 @@ returns : tie.Need-returns
 returns c =
     let a = c.before.before.before.before.before.before.before.before.before.before.before.before.before.before.before.args in
     let x = c.before.before.before.before.before.before in
-    as-sent
+    as_sent
     (stores-sent a.s a.c a.i a.a a.room.now _ _ _ _ _ c.before.before.before.before.before.before.before.before.before.before.a.given.1 c.before.before.before.before.before.before.before.before.before.before.before.before.least.ensures.0
     x.before.least2.ensures.0 x.least3.ensures.0)
     c.before.before.append.ensures
@@ -117,17 +117,17 @@ returns-2 c =
     let s = c.before.before.before.before.before.before.before.before.before.before.before.before.before.before in
     let a = s.args in
     let x = c.before.before.before.before.before.before in
-    as-sent
+    as_sent
     (request-sent a.s a.c a.i a.a a.room.now _ _ _ _ x.before.before.before.a2.given.1 c.before.before.before.before.before.before.before.before.before.before.before.least.ensures.0
-    (has-is _ a.i s.requires.1 (area_small a.s s.requires.0 a.i s.requires.2).0 _ x.before.has-node.ensures) x.if1.true)
+    (has_is _ a.i s.requires.1 (area_small a.s s.requires.0 a.i s.requires.2).0 _ x.before.has-node.ensures) x.if1.true)
     c.before.before.append2.ensures
 
 returns-3 : tie.Need-returns-3
 returns-3 c =
     let s = c.before.before.before.before.before.before.before.before in
     let a = s.args in
-    as-sent (no-request a.s a.c a.i a.a a.room.now _ _ _ c.before.before.before.a2.given.1 (has-is _ a.i s.requires.1 (area_small a.s s.requires.0 a.i s.requires.2).0 _ c.before.has-node.ensures) c.if1.false)
-    (appended-none _ _ (omega arith))
+    as_sent (no_request a.s a.c a.i a.a a.room.now _ _ _ c.before.before.before.a2.given.1 (has_is _ a.i s.requires.1 (area_small a.s s.requires.0 a.i s.requires.2).0 _ c.before.has-node.ensures) c.if1.false)
+    (appended_none _ _ (omega arith))
 
 same-length-3 : tie.Need-same-length-3
 same-length-3 c = search rules
@@ -136,11 +136,11 @@ returns-4 : tie.Need-returns-4
 returns-4 c =
     let a = c.before.before.before.before.before.before.before.before.before.before.before.before.before.args in
     let x = c.before.before.before.before.before.before in
-    as-sent (free-sent a.s a.c a.i a.a a.room.now _ _ _ x.before.before.a3.given.1 x.least4.ensures.0) c.before.before.append3.ensures
+    as_sent (free-sent a.s a.c a.i a.a a.room.now _ _ _ x.before.before.a3.given.1 x.least4.ensures.0) c.before.before.append3.ensures
 
 returns-5 : tie.Need-returns-5
 returns-5 c =
-    let a = c.before.before.before.before.args in as-sent (no-message a.s a.c a.i a.a a.room.now c.match.keys4) (appended-none _ _ (omega arith))
+    let a = c.before.before.before.before.args in as_sent (no_message a.s a.c a.i a.a a.room.now c.match.keys4) (appended_none _ _ (omega arith))
 
 pub send-message-spec : {M : Type 1} → statement M
 send-message-spec =

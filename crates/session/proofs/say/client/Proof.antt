@@ -1,7 +1,7 @@
 use mathlib.Core.Path.{sym}
 use lib.Seq.{length-take-le}
 use borrow.Author.Rules.{rules}
-use Rattle.session.proofs.SayLaws.{as-told, client-refused, client-deposited, client-empty, client-page, client-spent, client-failed, client-silent, untold}
+use Rattle.session.proofs.SayLaws.{as_told, client-refused, client-deposited, client-empty, client-page, client-spent, client-failed, client_silent, untold}
 use Rattle.session.proofs.say.client.Statement.{statement}
 use Rattle.session.proofs.say.client.Tie as tie
 
@@ -57,7 +57,7 @@ same_length c = search rules
 returns : tie.Need-returns
 returns c =
     let a = c.before.before.before.before.before.before.before.before.before.before.args in
-    as-told _ _ _ _ _ (client-refused a.c a.a a.out.now _ _ c.before.before.before.before.before.before.a.given.1 c.before.before.before.number.ensures) c.before.before.refused.ensures
+    as_told _ _ _ _ _ (client-refused a.c a.a a.out.now _ _ c.before.before.before.before.before.before.a.given.1 c.before.before.before.number.ensures) c.before.before.refused.ensures
 
 same-length-2 : tie.Need-same-length-2
 same-length-2 c = search rules
@@ -65,14 +65,14 @@ same-length-2 c = search rules
 returns-2 : tie.Need-returns-2
 returns-2 c =
     let a = c.before.before.before.before.before.before.before.before.before.before.args in
-    as-told _ _ _ _ _ (client-deposited a.c a.a a.out.now _ _ c.before.before.before.before.before.before.a2.given.1) c.before.before.deposited.ensures
+    as_told _ _ _ _ _ (client-deposited a.c a.a a.out.now _ _ c.before.before.before.before.before.before.a2.given.1) c.before.before.deposited.ensures
 
 same-length-3 : tie.Need-same-length-3
 same-length-3 c = search rules
 
 returns-3 : tie.Need-returns-3
 returns-3 c =
-    let a = c.before.before.before.before.before.before.before.before.args in as-told _ _ _ _ _ (client-empty a.c a.a a.out.now c.before.before.before.before.enum_told.given.1) c.before.before.read-nothing.ensures
+    let a = c.before.before.before.before.before.before.before.before.args in as_told _ _ _ _ _ (client-empty a.c a.a a.out.now c.before.before.before.before.enum_told.given.1) c.before.before.read-nothing.ensures
 
 same-length-4 : tie.Need-same-length-4
 same-length-4 c = search rules
@@ -80,25 +80,25 @@ same-length-4 c = search rules
 returns-4 : tie.Need-returns-4
 returns-4 c =
     let a = c.before.before.before.before.before.before.before.before.before.before.before.before.args in
-    as-told _ _ _ _ _ (client-page a.c a.a a.out.now _ _ _ c.before.before.before.before.before.before.before.before.a3.given.1 c.before.before.before.before.before.least.ensures.0) c.before.before.read-page.ensures
+    as_told _ _ _ _ _ (client-page a.c a.a a.out.now _ _ _ c.before.before.before.before.before.before.before.before.a3.given.1 c.before.before.before.before.before.least.ensures.0) c.before.before.read-page.ensures
 
 same-length-5 : tie.Need-same-length-5
 same-length-5 c = search rules
 
 returns-5 : tie.Need-returns-5
 returns-5 c =
-    let a = c.before.before.before.before.before.before.before.before.args in as-told _ _ _ _ _ (client-spent a.c a.a a.out.now c.before.before.before.before.enum-told2.given.1) c.before.before.refused2.ensures
+    let a = c.before.before.before.before.before.before.before.before.args in as_told _ _ _ _ _ (client-spent a.c a.a a.out.now c.before.before.before.before.enum-told2.given.1) c.before.before.refused2.ensures
 
 same-length-6 : tie.Need-same-length-6
 same-length-6 c = search rules
 
 returns-6 : tie.Need-returns-6
 returns-6 c =
-    let a = c.before.before.before.before.before.before.before.before.args in as-told _ _ _ _ _ (client-failed a.c a.a a.out.now c.before.before.before.before.enum-told3.given.1) c.before.before.refused3.ensures
+    let a = c.before.before.before.before.before.before.before.before.args in as_told _ _ _ _ _ (client-failed a.c a.a a.out.now c.before.before.before.before.enum-told3.given.1) c.before.before.refused3.ensures
 
 returns-7 : tie.Need-returns-7
 returns-7 c =
-    let a = c.before.before.before.args in untold _ a.text.now (client-silent a.c a.a a.out.now c.match.keys7)
+    let a = c.before.before.before.args in untold _ a.text.now (client_silent a.c a.a a.out.now c.match.keys7)
 
 pub client-spec : {M : Type 1} → statement M
 client-spec =

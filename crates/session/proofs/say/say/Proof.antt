@@ -1,5 +1,5 @@
 use borrow.Author.Rules.{rules}
-use Rattle.session.proofs.SayLaws.{as-told, happened-refused, happened-client, happened-silent, untold}
+use Rattle.session.proofs.SayLaws.{as_told, happened_refused, happened_client, happened_silent, untold}
 use Rattle.session.proofs.say.say.Statement.{statement}
 use Rattle.session.proofs.say.say.Tie as tie
 
@@ -24,18 +24,18 @@ same_length c = search rules
 returns : tie.Need-returns
 returns c =
     let a = c.before.before.before.before.before.before.before.before.before.before.args in
-    as-told _ _ _ _ _ (happened-refused a.c a.what a.out.now _ _ c.before.before.before.before.before.before.what.given.1 c.before.before.before.number.ensures) c.before.before.refused.ensures
+    as_told _ _ _ _ _ (happened_refused a.c a.what a.out.now _ _ c.before.before.before.before.before.before.what.given.1 c.before.before.before.number.ensures) c.before.before.refused.ensures
 
 same-length-2 : tie.Need-same-length-2
 same-length-2 c = search rules
 
 returns-2 : tie.Need-returns-2
 returns-2 c =
-    let a = c.before.before.before.before.before.before.before.before.before.args in happened-client a.c a.what a.out.now _ _ _ _ c.before.before.before.before.before.what2.given.1 c.before.before.client.ensures
+    let a = c.before.before.before.before.before.before.before.before.before.args in happened_client a.c a.what a.out.now _ _ _ _ c.before.before.before.before.before.what2.given.1 c.before.before.client.ensures
 
 returns-3 : tie.Need-returns-3
 returns-3 c =
-    let a = c.before.before.before.args in untold _ a.text.now (happened-silent a.c a.what a.out.now c.match.keys3)
+    let a = c.before.before.before.args in untold _ a.text.now (happened_silent a.c a.what a.out.now c.match.keys3)
 
 pub say-spec : {M : Type 1} → statement M
 say-spec =

@@ -1,6 +1,6 @@
 use mathlib.Core.Path.{refl}
 use borrow.Author.Rules.{rules}
-use Rattle.session.proofs.LineLaws.{not-both}
+use Rattle.session.proofs.LineLaws.{not_both}
 use Rattle.session.proofs.session.close.Statement.{statement}
 use Rattle.session.proofs.session.close.Tie as tie
 
@@ -24,11 +24,11 @@ same-length-5 c = search rules
 
 returns : tie.Need-returns
 returns c =
-    let k = c.before.before.before.before.before.before.before.before.before.before.line.ensures in record { live = k.0; ends = λ e. k.1; over = λ e. absurd (not-both c.before.before.before.before.before.before.before.before.before.before.before.before.before.before.before.before.before.before.before.before.before.before.before.args.x.«open» c.before.before.before.before.before.before.before.before.before.before.before.before.before.before.before.before.if1.true e) }
+    let k = c.before.before.before.before.before.before.before.before.before.before.line.ensures in record { live = k.0; ends = λ e. k.1; over = λ e. absurd (not_both c.before.before.before.before.before.before.before.before.before.before.before.before.before.before.before.before.before.before.before.before.before.before.before.args.x.«open» c.before.before.before.before.before.before.before.before.before.before.before.before.before.before.before.before.if1.true e) }
 
 returns-2 : tie.Need-returns-2
 returns-2 c =
-    record { live = λ l. l; ends = λ e. absurd (not-both c.before.before.before.before.before.before.before.args.x.«open» e c.if1.false); over = λ e. (refl, refl) }
+    record { live = λ l. l; ends = λ e. absurd (not_both c.before.before.before.before.before.before.before.args.x.«open» e c.if1.false); over = λ e. (refl, refl) }
 
 pub close_spec : {M : Type 1} → statement M
 close_spec =

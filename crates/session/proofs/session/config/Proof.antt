@@ -5,9 +5,9 @@ use borrow.Author.Tests.{not-false, not-true}
 use borrow.Author.Rules.{rules}
 use Rattle.parties.specs.protocol.Measures.{passes}
 use Rattle.session.specs.declared.session.Session.{Session}
-use Rattle.session.specs.Session.{small, slicesLong}
-use Rattle.session.proofs.LineLaws.{opens-measures, opens-big, opens-scarce, opens-short, opens-taken, replied}
-use Rattle.session.proofs.SessionLaws.{new-live, fresh-runs}
+use Rattle.session.specs.Session.{small, slices_long}
+use Rattle.session.proofs.LineLaws.{opens-measures, opens_big, opens_scarce, opens-short, opens-taken, replied}
+use Rattle.session.proofs.SessionLaws.{new_live, fresh-runs}
 use Rattle.session.proofs.session.config.Statement.{statement}
 use Rattle.session.proofs.session.config.Tie as tie
 
@@ -29,14 +29,14 @@ passing c = sym c.before.pass.ensures ∙ not-false c.before.pass.result c.if1.f
 fitting : (c : tie.Else2) → small c.before.before.before.before.before.before.args.s ≡ true
 fitting c = sym c.before.small.ensures ∙ not-false c.before.small.result c.if2.false
 
-sufficing : (c : tie.Else3) → let a = c.before.before.before.before.before.before.before.before.args in slicesLong a.s a.l ≡ true
+sufficing : (c : tie.Else3) → let a = c.before.before.before.before.before.before.before.before.args in slices_long a.s a.l ≡ true
 sufficing c = sym c.before.slices-long.ensures ∙ not-false c.before.slices-long.result c.if3.false
 
 returns : tie.Need-returns
 returns c =
     let a = c.at_stage.ensures in
     let no = sym c.before.before.before.before.before.before.pass.ensures ∙ not-true c.before.before.before.before.before.before.pass.result c.before.before.before.before.before.if1.true in (
-      λ post page. new-live _ _ _ _ _ post page a.1 (λ e. absurd (omega arith)),
+      λ post page. new_live _ _ _ _ _ post page a.1 (λ e. absurd (omega arith)),
       replied _ _ _ _ _ _ _ _ _ (opens-measures _ _ _ no) c.before.before.before.refused.ensures refl a.0 a.1,
     )
 
@@ -56,8 +56,8 @@ returns-2 : tie.Need-returns-2
 returns-2 c =
     let a = c.at-stage2.ensures in
     let no = sym c.before.before.before.before.before.before.small.ensures ∙ not-true c.before.before.before.before.before.before.small.result c.before.before.before.before.before.if2.true in (
-      λ post page. new-live _ _ _ _ _ post page a.1 (λ e. absurd (omega arith)),
-      replied _ _ _ _ _ _ _ _ _ (opens-big _ _ _ (passing c.before.before.before.before.before.before.before) no) c.before.before.before.refused2.ensures refl a.0 a.1,
+      λ post page. new_live _ _ _ _ _ post page a.1 (λ e. absurd (omega arith)),
+      replied _ _ _ _ _ _ _ _ _ (opens_big _ _ _ (passing c.before.before.before.before.before.before.before) no) c.before.before.before.refused2.ensures refl a.0 a.1,
     )
 
 slices-long-requires : tie.Need-slices-long-requires
@@ -76,8 +76,8 @@ returns-3 : tie.Need-returns-3
 returns-3 c =
     let a = c.at-stage3.ensures in
     let no = sym c.before.before.before.before.before.before.slices-long.ensures ∙ not-true c.before.before.before.before.before.before.slices-long.result c.before.before.before.before.before.if3.true in (
-      λ post page. new-live _ _ _ _ _ post page a.1 (λ e. absurd (omega arith)),
-      replied _ _ _ _ _ _ _ _ _ (opens-scarce _ _ _ (passing c.before.before.before.before.before.before.before.before.before) (fitting c.before.before.before.before.before.before.before) no) c.before.before.before.refused3.ensures refl a.0 a.1,
+      λ post page. new_live _ _ _ _ _ post page a.1 (λ e. absurd (omega arith)),
+      replied _ _ _ _ _ _ _ _ _ (opens_scarce _ _ _ (passing c.before.before.before.before.before.before.before.before.before) (fitting c.before.before.before.before.before.before.before) no) c.before.before.before.refused3.ensures refl a.0 a.1,
     )
 
 fresh-requires : tie.Need-fresh-requires
@@ -116,7 +116,7 @@ returns-4 c =
     let f = c.before.before.before.before.before.before.before.before.before.before.before.fresh in
     let g = c.before.before.before.before.before.before.before.before.before.before.before.before.before.before.before.before.before.before.before.before.before.args in
     let o = opens-short g.s g.l g.memory.now f.result _ _ (passing c.before.before.before.before.before.before.before.before.before.before.before.before.before.before.before.before.before) (fitting c.before.before.before.before.before.before.before.before.before.before.before.before.before.before.before) (sufficing c.before.before.before.before.before.before.before.before.before.before.before.before.before) c.before.before.before.before.before.before.before.x.given.1 f.ensures.0 c.before.before.before.before.number.ensures in (
-      λ post page. new-live _ _ _ _ _ post page a.1 (λ e. absurd (omega arith)),
+      λ post page. new_live _ _ _ _ _ post page a.1 (λ e. absurd (omega arith)),
       replied _ _ _ _ _ _ _ _ _ o.0 c.before.before.before.refused4.ensures (f.ensures.1 ∙ o.1) a.0 a.1,
     )
 
@@ -133,7 +133,7 @@ returns-5 c =
     let g = c.before.before.before.before.before.before.before.before.before.before.before.before.before.before.before.before.before.before.before.args in
     let ok = passing c.before.before.before.before.before.before.before.before.before.before.before.before.before.before.before in
     let t = c.before.before.before.before.before.enum_told.given.1 in (
-      λ post page. new-live _ _ _ _ _ post page a.1 (λ e. fresh-runs _ g.s g.memory.now _ post f.result _ (ap (λ (y : Session). y.measures) a.1) (ap (λ (y : Session). y.used) a.1) ok t f.ensures.0 f.ensures.1),
+      λ post page. new_live _ _ _ _ _ post page a.1 (λ e. fresh-runs _ g.s g.memory.now _ post f.result _ (ap (λ (y : Session). y.measures) a.1) (ap (λ (y : Session). y.used) a.1) ok t f.ensures.0 f.ensures.1),
       replied _ _ _ _ _ _ _ _ _ (opens-taken g.s g.l g.memory.now f.result _ ok (fitting c.before.before.before.before.before.before.before.before.before.before.before.before.before) (sufficing c.before.before.before.before.before.before.before.before.before.before.before) t f.ensures.0) c.before.before.before.header.ensures f.ensures.1 a.0 a.1,
     )
 

@@ -2,7 +2,7 @@ use mathlib.Core.Path.{refl, ◌∙◌}
 use native.Mathlib.Omega.{arith}
 use borrow.Author.Rules.{rules}
 use Rattle.session.proofs.LineLaws.{asked_is, replied, first-other, first-config}
-use Rattle.session.proofs.SessionLaws.{new-live}
+use Rattle.session.proofs.SessionLaws.{new_live}
 use Rattle.session.proofs.session.first.Statement.{statement}
 use Rattle.session.proofs.session.first.Tie as tie
 
@@ -43,7 +43,7 @@ returns-2 : tie.Need-returns-2
 returns-2 c =
     let a = c.at_stage.ensures in
     let k = c.before.before.before.before.before.before.before in (
-      λ post page. new-live _ _ _ _ _ post page a.1 (λ e. absurd (omega arith)),
+      λ post page. new_live _ _ _ _ _ post page a.1 (λ e. absurd (omega arith)),
       λ page. rw (asked_is _ _ _ k.before.ended.ensures k.asked.ensures) (first-other k.asked.result page _ _ _ _ _ _ _ _ c.before.before.before.before.before.before.match.keys2 (replied _ _ _ _ _ _ _ _ _ refl c.before.before.before.refused.ensures refl a.0 a.1)),
     )
 

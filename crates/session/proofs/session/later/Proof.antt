@@ -1,8 +1,8 @@
 use mathlib.Core.Path.{refl, ap, ◌∙◌}
 use borrow.Author.Rules.{rules}
 use Rattle.session.specs.declared.session.Session.{Session}
-use Rattle.session.proofs.LineLaws.{asked_is, later-reads, later-deposits, later-other, refused-again}
-use Rattle.session.proofs.SessionLaws.{new-live, new-same, runs_same}
+use Rattle.session.proofs.LineLaws.{asked_is, later-reads, later-deposits, later-other, refused_again}
+use Rattle.session.proofs.SessionLaws.{new_live, new_same, runs_same}
 use Rattle.session.proofs.session.later.Statement.{statement}
 use Rattle.session.proofs.session.later.Tie as tie
 
@@ -89,9 +89,9 @@ returns-3 c =
     let k = c.before.before.before.before.before.before in
     let g = c.before.before.before.before.before.before.before.before.before.before.before.before.before.before.before.before.args in
     let u = ap (λ (y : Session). y.used) a.1 in (
-      λ e l. new-live _ _ _ _ _ _ _ a.1 (λ f. runs_same _ _ _ _ (ap (λ (y : Session). y.measures) a.1) u (l.runs e)),
-      rw (asked_is _ _ _ k.before.ended.ensures k.asked.ensures) (later-other k.asked.result g.page.now _ _ _ c.before.before.before.before.before.match.keys3 (refused-again _ _ _ _ _ _ _ _ a.0 u c.before.before.before.refused.ensures)),
-      new-same _ _ _ _ a.1,
+      λ e l. new_live _ _ _ _ _ _ _ a.1 (λ f. runs_same _ _ _ _ (ap (λ (y : Session). y.measures) a.1) u (l.runs e)),
+      rw (asked_is _ _ _ k.before.ended.ensures k.asked.ensures) (later-other k.asked.result g.page.now _ _ _ c.before.before.before.before.before.match.keys3 (refused_again _ _ _ _ _ _ _ _ a.0 u c.before.before.before.refused.ensures)),
+      new_same _ _ _ _ a.1,
     )
 
 pub later-spec : {M : Type 1} → statement M

@@ -2,11 +2,11 @@ use mathlib.Core.Path.{sym, ap, refl}
 use native.Mathlib.Omega.{arith}
 use lib.Seq.{length-take-le}
 use borrow.Author.Rules.{rules}
-use Rattle.runs.specs.Oldest.{honestAll}
-use Rattle.runs.proofs.SendLaws.{least-taken}
+use Rattle.runs.specs.Oldest.{honest_all}
+use Rattle.runs.proofs.SendLaws.{least_taken}
 use Rattle.session.specs.declared.session.Session.{Session}
 use Rattle.session.proofs.LineLaws.{deposits}
-use Rattle.session.proofs.SessionLaws.{new-live, new-same, front_bytes, operation-runs}
+use Rattle.session.proofs.SessionLaws.{new_live, new_same, front_bytes, operation-runs}
 use Rattle.session.proofs.session.put.Statement.{statement}
 use Rattle.session.proofs.session.put.Tie as tie
 
@@ -47,9 +47,9 @@ returns c =
     let e = c.before.before.before.before.before.before.before.before.before.before.before.settle.ensures in
     let g = c.before.before.before.before.before.before.before.before.before.before.before.before.before.before.before.before.before.before.before.before.before.before.before.before.before.before.before.before.before.before.before.before.args in
     let l = c.before.before.before.before.before.before.before.before.before.before.before.before.before.before.before.before.before.before.before.before.before.before.before.before.before.least in (
-      λ page x m u h. new-live _ _ _ _ _ _ page a.1 (λ q. operation-runs x _ _ _ _ _ _ _ _ _ _ _ _ _ m u h (ap (λ (y : Session). y.measures) a.1) (ap (λ (y : Session). y.used) a.1) o (front_bytes l.result g.page.now (λ i. (c.before.before.before.before.before.before.before.before.before.before.before.before.before.before.before.before.before.before.before.before.before.before.before.before.before.before.before.shared-slice-known.given i).fits)) refl refl e),
-      rw (sym (least-taken _ _ g.page.now l.ensures.0)) (deposits _ _ _ _ _ _ _ _ _ _ _ _ e (ap (λ (y : Session). y.used) a.1) a.0 _ (o honestAll) refl refl),
-      new-same _ _ _ _ a.1,
+      λ page x m u h. new_live _ _ _ _ _ _ page a.1 (λ q. operation-runs x _ _ _ _ _ _ _ _ _ _ _ _ _ m u h (ap (λ (y : Session). y.measures) a.1) (ap (λ (y : Session). y.used) a.1) o (front_bytes l.result g.page.now (λ i. (c.before.before.before.before.before.before.before.before.before.before.before.before.before.before.before.before.before.before.before.before.before.before.before.before.before.before.before.shared-slice-known.given i).fits)) refl refl e),
+      rw (sym (least_taken _ _ g.page.now l.ensures.0)) (deposits _ _ _ _ _ _ _ _ _ _ _ _ e (ap (λ (y : Session). y.used) a.1) a.0 _ (o honest_all) refl refl),
+      new_same _ _ _ _ a.1,
     )
 
 pub put_spec : {M : Type 1} → statement M

@@ -3,12 +3,12 @@ use mathlib.Core.Path.{ap, ◌∙◌}
 use lib.Dec.{leb}
 use Prim.Native.Nat.{ℕ, ◌-◌, ◌*◌, ◌+◌, ◌≤◌, ◌<◌}
 use native.Mathlib.Omega.{arith}
-use Rattle.parties.specs.protocol.ClientEvents.{roomSize}
-use Rattle.parties.specs.protocol.DirectoryEvents.{directorySize}
-use Rattle.parties.proofs.SizesLaws.{sized-passed}
+use Rattle.parties.specs.protocol.ClientEvents.{room_size}
+use Rattle.parties.specs.protocol.DirectoryEvents.{directory_size}
+use Rattle.parties.proofs.SizesLaws.{sized_passed}
 use Rattle.runs.specs.Sent.{needed}
-use Rattle.runs.proofs.EventLaws.{sized-is, needed-small}
-use Rattle.session.proofs.LineLaws.{frame_bound, no_room, no_rows, no_output, no-page, no_text, by-post}
+use Rattle.runs.proofs.EventLaws.{sized_is, needed-small}
+use Rattle.session.proofs.LineLaws.{frame_bound, no_room, no_rows, no_output, no_page, no_text, by_post}
 use Rattle.session.proofs.session.slices_long.Statement.{statement}
 use Rattle.session.proofs.session.slices_long.Tie as tie
 
@@ -18,11 +18,11 @@ room-requires c κs = search rules
 directory-requires : tie.Need-directory-requires
 directory-requires c κs = search rules
 
-wide : (c : tie.Else1) → let a = c.before.before.before.before.before.args in roomSize a.s ≤ a.l.room
-wide c = let x = c.before.before.before.before.before in omega (arith, c.before.before.before.before.room.ensures, sized-passed x.args.s (roomSize x.args.s) x.requires)
+wide : (c : tie.Else1) → let a = c.before.before.before.before.before.args in room_size a.s ≤ a.l.room
+wide c = let x = c.before.before.before.before.before in omega (arith, c.before.before.before.before.room.ensures, sized_passed x.args.s (room_size x.args.s) x.requires)
 
-rows : (c : tie.Else2) → let a = c.before.before.before.before.before.before.before.args in directorySize a.s ≤ a.l.room
-rows c = let x = c.before.before.before.before.before.before.before in omega (arith, c.before.before.before.before.before.directory.ensures, sized-passed x.args.s (directorySize x.args.s) x.requires)
+rows : (c : tie.Else2) → let a = c.before.before.before.before.before.before.before.args in directory_size a.s ≤ a.l.room
+rows c = let x = c.before.before.before.before.before.before.before in omega (arith, c.before.before.before.before.before.directory.ensures, sized_passed x.args.s (directory_size x.args.s) x.requires)
 
 output : (c : tie.Else3) → let a = c.before.before.before.before.before.before.before.before.before.args in a.s.k * a.s.f - 4 ≤ a.l.out
 output c = omega arith
@@ -39,12 +39,12 @@ mul-frame c = omega (arith, (frame_bound c.before.before.before.args.s c.before.
 returns : tie.Need-returns
 returns c =
     let x = c.before.before.before.before.before in
-    no_room x.args.s x.args.l (omega (arith, c.before.before.before.before.room.ensures, sized-passed x.args.s (roomSize x.args.s) x.requires))
+    no_room x.args.s x.args.l (omega (arith, c.before.before.before.before.room.ensures, sized_passed x.args.s (room_size x.args.s) x.requires))
 
 returns-2 : tie.Need-returns-2
 returns-2 c =
     let x = c.before.before.before.before.before.before.before in
-    no_rows x.args.s x.args.l (wide c.before.before) (omega (arith, c.before.before.before.before.before.directory.ensures, sized-passed x.args.s (directorySize x.args.s) x.requires))
+    no_rows x.args.s x.args.l (wide c.before.before) (omega (arith, c.before.before.before.before.before.directory.ensures, sized_passed x.args.s (directory_size x.args.s) x.requires))
 
 sub-if3 : tie.Need-overflow-sub-if3
 sub-if3 c = omega (arith, (frame_bound c.before.before.before.before.before.before.before.args.s c.before.before.before.before.before.before.before.requires).0)
@@ -56,7 +56,7 @@ sub-if4 : tie.Need-overflow-sub-if4
 sub-if4 c = omega (arith, (frame_bound c.before.before.before.before.before.before.before.before.before.args.s c.before.before.before.before.before.before.before.before.before.requires).0)
 
 returns-4 : tie.Need-returns-4
-returns-4 c = let a = c.before.before.before.before.before.before.before.before.before.before.before.args in no-page a.s a.l (wide c.before.before.before.before.before.before) (rows c.before.before.before.before) (output c.before.before) (omega arith)
+returns-4 c = let a = c.before.before.before.before.before.before.before.before.before.before.before.args in no_page a.s a.l (wide c.before.before.before.before.before.before) (rows c.before.before.before.before) (output c.before.before) (omega arith)
 
 mul-if5 : tie.Need-overflow-mul-if5
 mul-if5 c = omega (arith, (frame_bound c.before.before.before.before.before.before.before.before.before.before.before.args.s c.before.before.before.before.before.before.before.before.before.before.before.requires).1)
@@ -71,14 +71,14 @@ needed-requires : tie.Need-needed-requires
 needed-requires c κs = search rules
 
 mul-result : tie.Need-overflow-mul-result
-mul-result c = let x = c.before.before.before.before.before.before.before.before.before.before.before.before.before.before in omega (arith, c.needed.ensures ∙ sized-is x.args.s _ x.requires, needed-small x.args.s x.requires)
+mul-result c = let x = c.before.before.before.before.before.before.before.before.before.before.before.before.before.before in omega (arith, c.needed.ensures ∙ sized_is x.args.s _ x.requires, needed-small x.args.s x.requires)
 
 returns-6 : tie.Need-returns-6
 returns-6 c =
     let x = c.before.before.before.before.before.before.before.before.before.before.before.before.before.before.before in
-    let e = c.before.needed.ensures ∙ sized-is x.args.s (needed x.args.s) x.requires in
+    let e = c.before.needed.ensures ∙ sized_is x.args.s (needed x.args.s) x.requires in
     ap (λ (n : ℕ). leb (2 * n) x.args.l.post) e
-    ∙ by-post x.args.s x.args.l (wide c.before.before.before.before.before.before.before.before.before.before) (rows c.before.before.before.before.before.before.before.before) (output c.before.before.before.before.before.before) (page c.before.before.before.before) (text c.before.before)
+    ∙ by_post x.args.s x.args.l (wide c.before.before.before.before.before.before.before.before.before.before) (rows c.before.before.before.before.before.before.before.before) (output c.before.before.before.before.before.before) (page c.before.before.before.before) (text c.before.before)
 
 pub slices-long-spec : {M : Type 1} → statement M
 slices-long-spec =

@@ -1,10 +1,10 @@
 use native.Mathlib.Omega.{arith}
-use Rattle.session.proofs.LineLaws.{small-not, small_by}
+use Rattle.session.proofs.LineLaws.{small_not, small_by}
 use Rattle.session.proofs.session.small.Statement.{statement}
 use Rattle.session.proofs.session.small.Tie as tie
 
 returns : tie.Need-returns
-returns c = small-not c.before.before.args.s (omega arith)
+returns c = small_not c.before.before.args.s (omega arith)
 
 returns-2 : tie.Need-returns-2
 returns-2 c = small_by c.before.before.before.args.s (λ h. omega arith)

@@ -32,7 +32,7 @@ returns : tie.Need-returns
 returns c =
     λ start n h.
     Hands.goes n _ _ _ h (λ i. (c.before.before.before.before.before.before.before.before.before.before.before.before.before.before.before.before.before.before.before.before.before.before.slice-known2.given i).fits, λ i. (c.before.before.before.before.before.before.before.before.before.before.before.before.before.before.before.before.before.before.before.before.before.slice-known3.given i).fits) c.before.before.before.before.before.before.before.before.before.before.before.before.before.before.oldest.ensures refl
-    (record { n = c.before.before.before.say.result; says = c.before.before.before.say.ensures; lineLength = c.latest.ensures })
+    (record { n = c.before.before.before.say.result; says = c.before.before.before.say.ensures; line_length = c.latest.ensures })
 
 pub hand-over-spec : {M : Type 1} → statement M
 hand-over-spec =

@@ -5,7 +5,7 @@ use native.Mathlib.Omega.{arith}
 use lib.ListN.{length}
 use borrow.Author.Rules.{rules}
 use Rattle.session.specs.Settle.{lend, desk}
-use Rattle.session.proofs.SettleLaws.{Settling, settling-begins, settling-more, settling-ends}
+use Rattle.session.proofs.SettleLaws.{Settling, settling_begins, settling_more, settling_ends}
 use Rattle.session.proofs.settle.settle.Statement.{statement}
 use Rattle.session.proofs.settle.settle.Tie as tie
 
@@ -21,7 +21,7 @@ say-requires : tie.Need-say-requires invariant-loop decreases-loop
 say-requires c κs = search rules
 
 loop-holds : tie.Need-loop-init invariant-loop decreases-loop
-loop-holds c = (settling-begins _ _ _, refl, refl, refl, refl, refl)
+loop-holds c = (settling_begins _ _ _, refl, refl, refl, refl, refl)
 
 same_length : tie.Need-same-length invariant-loop decreases-loop
 same_length c = c.before.before.before.loop.invariant.1
@@ -40,7 +40,7 @@ same-length-5 c = omega (arith, c.before.before.before.loop.invariant.5)
 
 returns : tie.Need-returns invariant-loop decreases-loop
 returns c =
-    settling-ends _ _ _ _ _ _ _ _ _ _ _ c.before.before.before.before.before.before.say.ensures c.before.before.before.loop.invariant.0 (inl (omega arith))
+    settling_ends _ _ _ _ _ _ _ _ _ _ _ c.before.before.before.before.before.before.say.ensures c.before.before.before.loop.invariant.0 (inl (omega arith))
 
 hand-over-requires : tie.Need-hand-over-requires invariant-loop decreases-loop
 hand-over-requires c κs = search rules
@@ -55,7 +55,7 @@ loop-again : tie.Need-loop-preserved invariant-loop decreases-loop
 loop-again c =
     let l = c.before.before.before.before.before.before.before.before.before.before.before.before.before.before.before.before.before.before.before.loop in
     let h = l.invariant in (
-      settling-more _ _ _ _ _ l.left c.before.before.before.before.before.before.before.before.before.before.before.before.before.before.before.before.before.before.loop-test.true h.0 c.before.before.before.before.before.before.before.before.before.before.hand-over.ensures,
+      settling_more _ _ _ _ _ l.left c.before.before.before.before.before.before.before.before.before.before.before.before.before.before.before.before.before.before.loop-test.true h.0 c.before.before.before.before.before.before.before.before.before.before.hand-over.ensures,
       omega (arith, h.1),
       omega (arith, h.2),
       omega (arith, h.3),
@@ -80,7 +80,7 @@ same-length-10 c = omega (arith, c.before.loop.invariant.5)
 
 returns-2 : tie.Need-returns-2 invariant-loop decreases-loop
 returns-2 c =
-    settling-ends _ _ _ _ _ _ _ _ _ _ _ c.before.before.before.before.say.ensures c.before.loop.invariant.0 (inr (omega arith))
+    settling_ends _ _ _ _ _ _ _ _ _ _ _ c.before.before.before.before.say.ensures c.before.loop.invariant.0 (inr (omega arith))
 
 pub settle-spec : {M : Type 1} → statement M
 settle-spec =

@@ -5,7 +5,7 @@ use lib.ListN.{length, take}
 use borrow.Author.Rules.{rules}
 use Rattle.session.specs.Settle.{lend}
 use Rattle.session.specs.Session.{held, FeedsAll}
-use Rattle.session.proofs.SessionLaws.{feeds-more, feeds-whole}
+use Rattle.session.proofs.SessionLaws.{feeds_more, feeds_whole}
 use Rattle.session.proofs.stream.feed_all.Statement.{statement}
 use Rattle.session.proofs.stream.feed_all.Tie as tie
 
@@ -39,7 +39,7 @@ loop-again : tie.Need-loop-preserved invariant-loop decreases-loop
 loop-again c =
     let h = c.before.before.before.before.before.before.before.before.before.before.before.before.before.before.before.before.before.before.before.before.before.before.before.loop.invariant in (
       omega (arith, c.before.before.before.before.before.before.before.before.before.before.before.before.before.before.before.before.before.before.before.before.before.before.loop-test.true),
-      feeds-more _ _ _ _ _ _ _ _ _ _ c.before.before.before.before.before.before.before.before.before.before.before.before.before.before.before.before.before.before.before.before.before.before.loop-test.true h.1 c.put.ensures c.before.before.before.before.before.before.before.before.before.before.before.before.before.before.feed.ensures,
+      feeds_more _ _ _ _ _ _ _ _ _ _ c.before.before.before.before.before.before.before.before.before.before.before.before.before.before.before.before.before.before.before.before.before.before.loop-test.true h.1 c.put.ensures c.before.before.before.before.before.before.before.before.before.before.before.before.before.before.feed.ensures,
       omega (arith, h.2, c.before.before.before.before.before.before.before.before.before.before.before.before.before.memory.given),
       omega (arith, h.3, c.before.before.before.before.before.before.before.before.before.before.before.room.given),
       omega (arith, h.4, c.before.before.before.before.before.before.before.before.before.out.given),
@@ -67,7 +67,7 @@ same-length-6 : tie.Need-same-length-6 invariant-loop decreases-loop
 same-length-6 c = c.before.loop.invariant.7
 
 returns : tie.Need-returns invariant-loop decreases-loop
-returns c = feeds-whole _ _ _ _ c.before.loop.invariant.0 (λ l. omega arith) c.before.loop.invariant.1
+returns c = feeds_whole _ _ _ _ c.before.loop.invariant.0 (λ l. omega arith) c.before.loop.invariant.1
 
 pub feed-all-spec : {M : Type 1} → statement M
 feed-all-spec =

@@ -5,7 +5,7 @@ use lib.Seq.{length-take-le}
 use borrow.Author.Rules.{rules}
 use Rattle.session.specs.Settle.{lend}
 use Rattle.session.specs.Session.{held, FeedsParts}
-use Rattle.session.proofs.SessionLaws.{input-ends, input-more}
+use Rattle.session.proofs.SessionLaws.{input_ends, input_more}
 use Rattle.session.proofs.stream.feed_input.Statement.{statement}
 use Rattle.session.proofs.stream.feed_input.Tie as tie
 
@@ -48,7 +48,7 @@ same-length-7 c = c.before.before.before.before.before.before.loop.invariant.6
 returns : tie.Need-returns invariant-loop decreases-loop
 returns c =
     let h = c.before.before.before.before.before.before.loop.invariant in
-    input-ends _ _ _ _ _ _ _ _ h.7 (omega arith) c.if1.true c.before.before.before.more.ensures.2 c.before.before.before.more.ensures.3
+    input_ends _ _ _ _ _ _ _ _ h.7 (omega arith) c.if1.true c.before.before.before.more.ensures.2 c.before.before.before.more.ensures.3
 
 slice-reshare-prefix-feed-all : tie.Need-slice-reshare-prefix-feed-all invariant-loop decreases-loop
 slice-reshare-prefix-feed-all c = c.before.before.before.more.ensures.1
@@ -75,7 +75,7 @@ loop-again c =
       omega (arith, h.4, c.before.before.before.before.before.post.given),
       omega (arith, h.5, c.before.before.before.page.given),
       omega (arith, h.6, c.before.text.given),
-      input-more _ _ _ _ _ _ _ _ _ h.7 c.before.before.before.before.before.before.before.before.before.before.before.before.before.before.before.before.before.before.before.before.before.before.before.more.ensures.2 c.before.before.before.before.before.before.before.before.before.before.before.before.before.before.before.before.before.before.before.before.before.before.before.more.ensures.3 c.before.before.before.before.before.before.before.before.before.before.before.before.before.before.before.before.before.before.before.before.if1.false c.before.before.before.before.before.before.before.before.before.before.before.before.feed-all.ensures,
+      input_more _ _ _ _ _ _ _ _ _ h.7 c.before.before.before.before.before.before.before.before.before.before.before.before.before.before.before.before.before.before.before.before.before.before.before.more.ensures.2 c.before.before.before.before.before.before.before.before.before.before.before.before.before.before.before.before.before.before.before.before.before.before.before.more.ensures.3 c.before.before.before.before.before.before.before.before.before.before.before.before.before.before.before.before.before.before.before.before.if1.false c.before.before.before.before.before.before.before.before.before.before.before.before.feed-all.ensures,
     )
 
 same-length-8 : tie.Need-same-length-8 invariant-loop decreases-loop

@@ -2,19 +2,19 @@ use borrow.Author.Rules.{rules}
 use mathlib.Core.Path.{◌∙◌}
 use native.Mathlib.Omega.{arith}
 use lib.ListN.{length}
-use Rattle.parties.specs.protocol.DirectoryEvents.{directorySize}
+use Rattle.parties.specs.protocol.DirectoryEvents.{directory_size}
 use Rattle.parties.specs.records.Answer.{number}
 use Rattle.title.specs.Part.{Stands}
-use Rattle.title.proofs.MemoryLaws.{placed-within, placed-refused}
-use Rattle.title.proofs.FreshMemoryLaws.{fresh-refused, tables-fit, records-fit, fresh-written}
+use Rattle.title.proofs.MemoryLaws.{placed_within, placed_refused}
+use Rattle.title.proofs.FreshMemoryLaws.{fresh-refused, tables_fit, records_fit, fresh-written}
 use Rattle.title.proofs.fresh.fresh.Statement.{statement}
 use Rattle.title.proofs.fresh.fresh.Tie as tie
 
 standing : (c : tie.After-part2) → let a = c.before.before.before.before.args in
-    Stands a.s (length a.memory.now) 0 (directorySize a.s) c.part2.given.0.0 c.part2.given.0.1.0
+    Stands a.s (length a.memory.now) 0 (directory_size a.s) c.part2.given.0.0 c.part2.given.0.1.0
 standing c =
     let a = c.before.before.before.before.args in
-    placed-within a.s (length a.memory.now) 0 (directorySize a.s) c.before.before.directory-part.result c.before.before.directory-part.ensures c.part2.given.0.0 c.part2.given.0.1.0 c.part2.given.1
+    placed_within a.s (length a.memory.now) 0 (directory_size a.s) c.before.before.directory-part.result c.before.before.directory-part.ensures c.part2.given.0.0 c.part2.given.0.1.0 c.part2.given.1
 
 directory-part-requires : tie.Need-directory-part-requires
 directory-part-requires c κs = search rules
@@ -44,7 +44,7 @@ put-tables-requires c κs =
     let z = standing c.before.before.before.before.before.before.before.before.before in (
       z.measures,
       c.before.before.before.before.before.before.before.table-size.ensures,
-      tables-fit a.s a.memory.now _ _ z _ c.before.before.before.put-directory.auto.1.1.1.0,
+      tables_fit a.s a.memory.now _ _ z _ c.before.before.before.put-directory.auto.1.1.1.0,
     )
 
 put-records-requires : tie.Need-put-records-requires
@@ -53,14 +53,14 @@ put-records-requires c κs =
     let z = standing c.before.before.before.before.before.before.before.before.before.before.before.before.before in (
       z.measures,
       c.before.before.before.before.before.before.before.before.before.record-size.ensures,
-      records-fit a.s a.memory.now _ _ z _ c.before.before.before.before.before.before.before.before.before.before.records-at.ensures _ (c.before.before.before.put-tables.auto.1.1.1.0 ∙ c.before.before.before.before.before.before.before.put-directory.auto.1.1.1.0),
+      records_fit a.s a.memory.now _ _ z _ c.before.before.before.before.before.before.before.before.before.before.records-at.ensures _ (c.before.before.before.put-tables.auto.1.1.1.0 ∙ c.before.before.before.before.before.before.before.put-directory.auto.1.1.1.0),
     )
 
 returns : tie.Need-returns
 returns c =
     let a = c.before.before.before.before.before.args in
     let n = c.before.part.given.0.0 in
-    let r = placed-refused a.s (length a.memory.now) 0 (directorySize a.s) c.before.before.before.directory-part.result c.before.before.before.directory-part.ensures n c.before.part.given.1 in
+    let r = placed_refused a.s (length a.memory.now) 0 (directory_size a.s) c.before.before.before.directory-part.result c.before.before.before.directory-part.ensures n c.before.part.given.1 in
     fresh-refused a.s a.memory.now (number n) r
 
 same_length : tie.Need-same-length

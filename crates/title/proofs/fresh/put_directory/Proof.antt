@@ -1,5 +1,5 @@
 use borrow.Author.Rules.{rules}
-use Rattle.title.proofs.FreshMemoryLaws.{directory-put}
+use Rattle.title.proofs.FreshMemoryLaws.{directory_put}
 use Rattle.title.proofs.fresh.put_directory.Statement.{statement}
 use Rattle.title.proofs.fresh.put_directory.Tie as tie
 
@@ -21,7 +21,7 @@ same_length c = search rules
 returns : tie.Need-returns
 returns c =
     let a = c.before.before.before.before.before.args in
-    let p = c.before.before.before.before.before.requires in directory-put a.s p.0 a.memory.now a.at a.to p.2 p.1 _ c.before.before.fresh-directory.ensures.1
+    let p = c.before.before.before.before.before.requires in directory_put a.s p.0 a.memory.now a.at a.to p.2 p.1 _ c.before.before.fresh-directory.ensures.1
 
 pub put-directory-spec : {M : Type 1} → statement M
 put-directory-spec =

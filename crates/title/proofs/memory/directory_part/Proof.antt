@@ -4,7 +4,7 @@ use mathlib.Core.Bool.{true}
 use native.Mathlib.Omega.{arith}
 use borrow.Author.Tests.{not-true, not-false}
 use Rattle.parties.specs.protocol.Measures.{passes}
-use Rattle.parties.specs.protocol.DirectoryEvents.{directorySize}
+use Rattle.parties.specs.protocol.DirectoryEvents.{directory_size}
 use Rattle.title.specs.Part.{measures, short}
 use Rattle.title.proofs.MemoryLaws.{stands}
 use Rattle.title.proofs.memory.directory_part.Statement.{statement}
@@ -32,7 +32,7 @@ returns-3 : tie.Need-returns-3
 returns-3 c =
     let a = c.before.before.before.before.before.args in
     let h = measured c.before.before.before in
-    stands a.s a.len 0 (directorySize a.s) h (omega (arith, c.before.if2.false, c.before.before.memory-size.ensures)) (omega arith) _ _ refl (omega (arith, c.directory-size.ensures))
+    stands a.s a.len 0 (directory_size a.s) h (omega (arith, c.before.if2.false, c.before.before.memory-size.ensures)) (omega arith) _ _ refl (omega (arith, c.directory-size.ensures))
 
 pub directory-part-spec : {M : Type 1} → statement M
 directory-part-spec =

@@ -5,10 +5,10 @@ use Prim.Native.Nat.{◌+◌}
 use native.Mathlib.Omega.{arith}
 use borrow.Author.Tests.{not-true, not-false}
 use Rattle.parties.specs.protocol.Measures.{passes}
-use Rattle.parties.specs.protocol.Client.{clientSize}
-use Rattle.title.specs.Memory.{recordAt}
+use Rattle.parties.specs.protocol.Client.{client_size}
+use Rattle.title.specs.Memory.{record_at}
 use Rattle.title.specs.Part.{measures, short}
-use Rattle.title.proofs.MemoryLaws.{memory-bound, record-within, stands}
+use Rattle.title.proofs.MemoryLaws.{memory_bound, record_within, stands}
 use Rattle.title.proofs.memory.record_part.Statement.{statement}
 use Rattle.title.proofs.memory.record_part.Tie as tie
 
@@ -37,13 +37,13 @@ add-t11 : tie.Need-overflow-add-t11
 add-t11 c =
     let s = c.before.before.before.before.before.before.args.s in
     let h = measured c.before.before.before.before in
-    omega (arith, memory-bound s h, record-within s h c.before.before.before.before.before.before.args.c, c.before.record-at.ensures, c.record-size.ensures)
+    omega (arith, memory_bound s h, record_within s h c.before.before.before.before.before.before.args.c, c.before.record-at.ensures, c.record-size.ensures)
 
 returns-3 : tie.Need-returns-3
 returns-3 c =
     let a = c.before.before.before.before.before.before.args in
     let h = measured c.before.before.before.before in
-    stands a.s a.len (recordAt a.s a.c) (clientSize a.s) h (omega (arith, c.before.before.if2.false, c.before.before.before.memory-size.ensures)) (record-within a.s h a.c) _ _ c.before.record-at.ensures (λ j. c.before.record-at.ensures j + c.record-size.ensures j)
+    stands a.s a.len (record_at a.s a.c) (client_size a.s) h (omega (arith, c.before.before.if2.false, c.before.before.before.memory-size.ensures)) (record_within a.s h a.c) _ _ c.before.record-at.ensures (λ j. c.before.record-at.ensures j + c.record-size.ensures j)
 
 pub record-part-spec : {M : Type 1} → statement M
 record-part-spec =

@@ -2,7 +2,7 @@ use borrow.Author.Rules.{rules}
 use mathlib.Core.Path.{ap}
 use Prim.Native.Nat.{ℕ, ◌*◌}
 use native.Mathlib.Omega.{arith}
-use Rattle.title.proofs.MemoryLaws.{memory-bound}
+use Rattle.title.proofs.MemoryLaws.{memory_bound}
 use Rattle.title.proofs.memory.records_at.Statement.{statement}
 use Rattle.title.proofs.memory.records_at.Tie as tie
 
@@ -13,10 +13,10 @@ table-size-requires : tie.Need-table-size-requires
 table-size-requires c κs = search rules
 
 mul-result : tie.Need-overflow-mul-result
-mul-result c = omega (arith, memory-bound c.before.before.before.args.s c.before.before.before.requires, ap (λ (x : ℕ). c.before.before.before.args.s.n * x) c.before.table-size.ensures)
+mul-result c = omega (arith, memory_bound c.before.before.before.args.s c.before.before.before.requires, ap (λ (x : ℕ). c.before.before.before.args.s.n * x) c.before.table-size.ensures)
 
 add-result : tie.Need-overflow-add-result
-add-result c = omega (arith, memory-bound c.before.before.before.args.s c.before.before.before.requires, c.before.before.directory-size.ensures, ap (λ (x : ℕ). c.before.before.before.args.s.n * x) c.before.table-size.ensures)
+add-result c = omega (arith, memory_bound c.before.before.before.args.s c.before.before.before.requires, c.before.before.directory-size.ensures, ap (λ (x : ℕ). c.before.before.before.args.s.n * x) c.before.table-size.ensures)
 
 returns : tie.Need-returns
 returns c = omega (arith, c.before.before.directory-size.ensures, ap (λ (x : ℕ). c.before.before.before.args.s.n * x) c.before.table-size.ensures)

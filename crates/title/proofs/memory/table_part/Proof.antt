@@ -5,10 +5,10 @@ use Prim.Native.Nat.{◌+◌}
 use native.Mathlib.Omega.{arith}
 use borrow.Author.Tests.{not-true, not-false}
 use Rattle.parties.specs.protocol.Measures.{passes}
-use Rattle.parties.specs.protocol.NodeEvents.{tableSize}
-use Rattle.title.specs.Memory.{tableAt}
+use Rattle.parties.specs.protocol.NodeEvents.{table_size}
+use Rattle.title.specs.Memory.{table_at}
 use Rattle.title.specs.Part.{measures, short}
-use Rattle.title.proofs.MemoryLaws.{memory-bound, table-within, stands}
+use Rattle.title.proofs.MemoryLaws.{memory_bound, table-within, stands}
 use Rattle.title.proofs.memory.table_part.Statement.{statement}
 use Rattle.title.proofs.memory.table_part.Tie as tie
 
@@ -37,13 +37,13 @@ add-t11 : tie.Need-overflow-add-t11
 add-t11 c =
     let s = c.before.before.before.before.before.before.args.s in
     let h = measured c.before.before.before.before in
-    omega (arith, memory-bound s h, table-within s h c.before.before.before.before.before.before.args.i, c.before.table_at.ensures, c.table-size.ensures)
+    omega (arith, memory_bound s h, table-within s h c.before.before.before.before.before.before.args.i, c.before.table_at.ensures, c.table-size.ensures)
 
 returns-3 : tie.Need-returns-3
 returns-3 c =
     let a = c.before.before.before.before.before.before.args in
     let h = measured c.before.before.before.before in
-    stands a.s a.len (tableAt a.s a.i) (tableSize a.s) h (omega (arith, c.before.before.if2.false, c.before.before.before.memory-size.ensures)) (table-within a.s h a.i) _ _ c.before.table_at.ensures (λ j. c.before.table_at.ensures j + c.table-size.ensures j)
+    stands a.s a.len (table_at a.s a.i) (table_size a.s) h (omega (arith, c.before.before.if2.false, c.before.before.before.memory-size.ensures)) (table-within a.s h a.i) _ _ c.before.table_at.ensures (λ j. c.before.table_at.ensures j + c.table-size.ensures j)
 
 pub table-part-spec : {M : Type 1} → statement M
 table-part-spec =

@@ -1,22 +1,22 @@
 use borrow.Author.Rules.{rules}
 use mathlib.Core.List.{[]}
 use lib.ListN.{length}
-use Rattle.parties.specs.protocol.Client.{clientSize}
-use Rattle.parties.specs.protocol.ClientEvents.{startDeposit}
+use Rattle.parties.specs.protocol.Client.{client_size}
+use Rattle.parties.specs.protocol.ClientEvents.{start_deposit}
 use Rattle.parties.proofs.protocol.events.LacksLaws.{deposit-lacks}
 use Rattle.parties.specs.records.Answer.{number}
-use Rattle.title.specs.Memory.{recordAt}
+use Rattle.title.specs.Memory.{record_at}
 use Rattle.title.specs.Part.{Stands}
-use Rattle.title.proofs.MemoryLaws.{placed-within, placed-refused, part-order}
-use Rattle.title.proofs.RecordPartLaws.{record-lacks, refused-ends, told-two}
+use Rattle.title.proofs.MemoryLaws.{placed_within, placed_refused, part-order}
+use Rattle.title.proofs.RecordPartLaws.{record_lacks, refused-ends, told-two}
 use Rattle.title.proofs.title.deposit.Statement.{statement}
 use Rattle.title.proofs.title.deposit.Tie as tie
 
 standing : (c : tie.After-part2) → let a = c.before.before.before.before.before.args in
-    Stands a.s (length a.memory.now) (recordAt a.s a.c) (clientSize a.s) c.part2.given.0.0 c.part2.given.0.1.0
+    Stands a.s (length a.memory.now) (record_at a.s a.c) (client_size a.s) c.part2.given.0.0 c.part2.given.0.1.0
 standing c =
     let a = c.before.before.before.before.before.args in
-    placed-within a.s (length a.memory.now) (recordAt a.s a.c) (clientSize a.s) c.before.before.record-part.result c.before.before.record-part.ensures c.part2.given.0.0 c.part2.given.0.1.0 c.part2.given.1
+    placed_within a.s (length a.memory.now) (record_at a.s a.c) (client_size a.s) c.before.before.record-part.result c.before.before.record-part.ensures c.part2.given.0.0 c.part2.given.0.1.0 c.part2.given.1
 
 record-part-requires : tie.Need-record-part-requires
 record-part-requires c κs = search rules
@@ -28,10 +28,10 @@ enum-known-part-2 : tie.Need-enum-known-part-2
 enum-known-part-2 c = search rules
 
 sub-deposit : tie.Need-overflow-sub-deposit
-sub-deposit c = let a = c.before.before.before.before.before.before.args in part-order a.s (recordAt a.s a.c) (clientSize a.s) a.memory.now _ _ (standing c.before)
+sub-deposit c = let a = c.before.before.before.before.before.before.args in part-order a.s (record_at a.s a.c) (client_size a.s) a.memory.now _ _ (standing c.before)
 
 part-deposit-start : tie.Need-slice-bounds-deposit-start
-part-deposit-start c = let a = c.before.before.before.before.before.before.args in part-order a.s (recordAt a.s a.c) (clientSize a.s) a.memory.now _ _ (standing c.before)
+part-deposit-start c = let a = c.before.before.before.before.before.before.args in part-order a.s (record_at a.s a.c) (client_size a.s) a.memory.now _ _ (standing c.before)
 
 part-deposit-end : tie.Need-slice-bounds-deposit-end
 part-deposit-end c = (standing c.before).within
@@ -43,8 +43,8 @@ returns : tie.Need-returns
 returns c =
     let a = c.before.before.before.before.before.before.args in
     let n = c.before.part.given.0.0 in
-    let r = placed-refused a.s (length a.memory.now) (recordAt a.s a.c) (clientSize a.s) c.before.before.before.record-part.result c.before.before.before.record-part.ensures n c.before.part.given.1 in
-    let l = record-lacks a.s a.memory.now a.c (number n) r in
+    let r = placed_refused a.s (length a.memory.now) (record_at a.s a.c) (client_size a.s) c.before.before.before.record-part.result c.before.before.before.record-part.ensures n c.before.part.given.1 in
+    let l = record_lacks a.s a.memory.now a.c (number n) r in
     let e = refused-ends a.s a.memory.now a.c (number n) _ [] [] (deposit-lacks a.s _ (number n) l a.c a.page.now) in (e.0, e.1)
 
 same_length : tie.Need-same-length
@@ -54,7 +54,7 @@ returns-2 : tie.Need-returns-2
 returns-2 c =
     let a = c.before.before.before.before.before.before.before.before.before.before.args in
     let u = c.before.before.deposit in
-    told-two a.s a.memory.now _ _ a.c (standing c.before.before.before.before.before) (λ l. startDeposit a.s a.c l a.page.now) _ u.new.1.1.0 u.auto.1.1.0 u.ensures
+    told-two a.s a.memory.now _ _ a.c (standing c.before.before.before.before.before) (λ l. start_deposit a.s a.c l a.page.now) _ u.new.1.1.0 u.auto.1.1.0 u.ensures
 
 pub deposit-spec : {M : Type 1} → statement M
 deposit-spec =

@@ -4,7 +4,7 @@ use mathlib.Core.Bool.{true, false}
 use native.Mathlib.Omega.{arith}
 use borrow.Author.Tests.{not-true, not-false}
 use Rattle.parties.proofs.client.FormLaws.{sizes}
-use Rattle.parties.proofs.client.AcknowledgeLaws.{map-there, adds-at, map_at, stored_other, stored-old, stored-few}
+use Rattle.parties.proofs.client.AcknowledgeLaws.{map-there, adds_at, map_at, stored_other, stored_old, stored-few}
 use Rattle.parties.proofs.client.GateLaws.{Opened}
 use Rattle.parties.proofs.client.acknowledge.acknowledge.Statement.{statement}
 use Rattle.parties.proofs.client.acknowledge.acknowledge.Tie as tie
@@ -43,8 +43,8 @@ returns-2 c =
     let d = c.before.before.before.before.before in
     let work-at = c.before.before.before.work-at in
     let adds = c.before.adds in
-    sym (stored-old a.s a.p a.area.now (opened d) a.i a.v c.before.before.before.before.if1.false
-    (adds-at a.s a.p a.area.now (opened d) a.i a.v work-at.result work-at.ensures adds.result false adds.ensures (not-true adds.result c.if2.true))
+    sym (stored_old a.s a.p a.area.now (opened d) a.i a.v c.before.before.before.before.if1.false
+    (adds_at a.s a.p a.area.now (opened d) a.i a.v work-at.result work-at.ensures adds.result false adds.ensures (not-true adds.result c.if2.true))
     a.room.now out)
 
 add-u16-at : tie.Need-overflow-add-u16-at
@@ -90,13 +90,13 @@ returns-3 c =
     let work-at = y.before.work-at in
     let adds = x.before.before.before.before.before.adds in
     let u16-at = x.before.before.u16-at in
-    let with-node = x.before.with-node in
+    let with_node_lem = x.before.with_node_lem in
     let count = x.count in
     sym (stored-few a.s a.p a.area.now (opened d) a.i a.v y.before.before.if1.false
-    (adds-at a.s a.p a.area.now (opened d) a.i a.v work-at.result work-at.ensures adds.result true adds.ensures
+    (adds_at a.s a.p a.area.now (opened d) a.i a.v work-at.result work-at.ensures adds.result true adds.ensures
     (not-false adds.result x.before.before.before.before.if2.false))
-    with-node.result (map_at a.s a.p a.area.now (opened d) a.i a.v work-at.result work-at.ensures u16-at.result _ u16-at.ensures with-node.result
-    with-node.ensures)
+    with_node_lem.result (map_at a.s a.p a.area.now (opened d) a.i a.v work-at.result work-at.ensures u16-at.result _ u16-at.ensures with_node_lem.result
+    with_node_lem.ensures)
     (omega (arith, count.ensures, c.before.before.before.before.if3.true)) work-at.result work-at.ensures _ c.before.before.put-u16.ensures a.room.now out)
 
 publish-requires : tie.Need-publish-requires
@@ -109,7 +109,7 @@ publish-requires c κs =
     let work-at = x.before.before.before.before.before.work-at in
     let adds = x.before.before.before.adds in
     let u16-at = x.u16-at in
-    let with-node = c.before.before.before.before.before.with-node in
+    let with_node_lem = c.before.before.before.before.before.with_node_lem in
     let count = c.before.before.before.before.count in (
       q.0,
       q.1,
@@ -117,8 +117,8 @@ publish-requires c κs =
       q.3,
       q.4,
       y.if1.false,
-      adds-at a.s a.p a.area.now (opened d) a.i a.v work-at.result work-at.ensures adds.result true adds.ensures (not-false adds.result x.before.before.if2.false),
-      map_at a.s a.p a.area.now (opened d) a.i a.v work-at.result work-at.ensures u16-at.result _ u16-at.ensures with-node.result with-node.ensures,
+      adds_at a.s a.p a.area.now (opened d) a.i a.v work-at.result work-at.ensures adds.result true adds.ensures (not-false adds.result x.before.before.if2.false),
+      map_at a.s a.p a.area.now (opened d) a.i a.v work-at.result work-at.ensures u16-at.result _ u16-at.ensures with_node_lem.result with_node_lem.ensures,
       omega (arith, count.ensures, c.before.before.if3.false),
     )
 

@@ -7,7 +7,7 @@ use borrow.Author.Tests.{not-true, not-false}
 use Rattle.parties.specs.protocol.Nodes.{stands}
 use Rattle.parties.specs.records.Places.{number_at}
 use Rattle.parties.proofs.records.PlaceLaws.{number-told}
-use Rattle.parties.proofs.client.AcknowledgeLaws.{adds-by}
+use Rattle.parties.proofs.client.AcknowledgeLaws.{adds_by}
 use Rattle.parties.proofs.client.acknowledge.adds.Statement.{statement}
 use Rattle.parties.proofs.client.acknowledge.adds.Tie as tie
 
@@ -21,7 +21,7 @@ returns : tie.Need-returns
 returns c =
     let a = c.before.before.before.before.args in
     let w = c.before.before.version-at in
-    adds-by a.v w.result _ (not (stands (number_at a.area.now (a.at + 5)) a.i)) false w.ensures
+    adds_by a.v w.result _ (not (stands (number_at a.area.now (a.at + 5)) a.i)) false w.ensures
     (sym c.before.same_version.ensures ∙ not-true c.before.same_version.result c.if1.true)
 
 add-u16-at : tie.Need-overflow-add-u16-at
@@ -41,7 +41,7 @@ returns-2 c =
     let e = c.before.before.before.same_version in
     let n = number-told a.area.now (a.at + 5) c.before.u16-at.result _ (omega (arith, p.2)) c.before.u16-at.ensures in
     ap not (c.stands.ensures ∙ ap (λ (m : ℕ). stands m a.i) n)
-    ∙ adds-by a.v w.result _ (not (stands (number_at a.area.now (a.at + 5)) a.i)) true w.ensures
+    ∙ adds_by a.v w.result _ (not (stands (number_at a.area.now (a.at + 5)) a.i)) true w.ensures
     (sym e.ensures ∙ not-false e.result c.before.before.if1.false)
 
 pub adds-spec : {M : Type 1} → statement M

@@ -1,8 +1,8 @@
 use borrow.Author.Rules.{rules}
 use mathlib.Core.Path.{sym}
 use native.Mathlib.Omega.{arith}
-use Rattle.parties.proofs.client.AcknowledgeLaws.{published-bits, published-enough, published-retained, published-pointer, published-long, stored-published}
-use Rattle.parties.proofs.client.GateLaws.{work-within, Opened}
+use Rattle.parties.proofs.client.AcknowledgeLaws.{published_bits, published_enough, published_retained, published_pointer, published_long, stored_published}
+use Rattle.parties.proofs.client.GateLaws.{work_within, Opened}
 use Rattle.parties.proofs.client.acknowledge.publish.Statement.{statement}
 use Rattle.parties.proofs.client.acknowledge.publish.Tie as tie
 
@@ -26,9 +26,9 @@ form-pointer-requires c κs =
     let q = c.before.before.before.before.requires in
     let d = c.before in (
       q.0,
-      published-bits a.s a.p a.area.now (opened d) a.i a.v q.5 q.6 a.map q.7 q.1 q.2 q.8,
-      published-enough a.s a.p a.area.now (opened d) a.i a.v q.5 q.6 a.map q.7 q.1 q.2 q.8,
-      omega (arith, work-within a.s a.p a.area.now (opened d), d.work-at.ensures),
+      published_bits a.s a.p a.area.now (opened d) a.i a.v q.5 q.6 a.map q.7 q.1 q.2 q.8,
+      published_enough a.s a.p a.area.now (opened d) a.i a.v q.5 q.6 a.map q.7 q.1 q.2 q.8,
+      omega (arith, work_within a.s a.p a.area.now (opened d), d.work-at.ensures),
     )
 
 put-update-requires : tie.Need-put-update-requires
@@ -38,9 +38,9 @@ put-update-requires c κs =
     let d = c.before.before.before.before.before.before in
     let form-pointer = c.before.before.before.before.form-pointer in (
       q.0,
-      published-retained a.s a.p a.area.now (opened d) a.i a.v q.5 q.6 a.map q.7 q.1 q.2 q.8 d.work-at.result d.work-at.ensures _ form-pointer.ensures,
-      published-pointer a.s a.p a.area.now (opened d) a.i a.v q.5 q.6 a.map q.7 q.1 q.2 q.8 d.work-at.result d.work-at.ensures _ form-pointer.ensures,
-      published-long a.s a.p a.area.now (opened d) a.i a.v q.5 q.6 a.map q.7 q.1 q.2 q.8 d.work-at.result d.work-at.ensures _ form-pointer.ensures,
+      published_retained a.s a.p a.area.now (opened d) a.i a.v q.5 q.6 a.map q.7 q.1 q.2 q.8 d.work-at.result d.work-at.ensures _ form-pointer.ensures,
+      published_pointer a.s a.p a.area.now (opened d) a.i a.v q.5 q.6 a.map q.7 q.1 q.2 q.8 d.work-at.result d.work-at.ensures _ form-pointer.ensures,
+      published_long a.s a.p a.area.now (opened d) a.i a.v q.5 q.6 a.map q.7 q.1 q.2 q.8 d.work-at.result d.work-at.ensures _ form-pointer.ensures,
       q.4,
     )
 
@@ -59,7 +59,7 @@ returns c =
     let q = y.before.requires in
     let d = x.before.before.before.before in
     let put-update = c.before.before.put-update in
-    sym (stored-published a.s a.p a.area.now (opened d) a.i a.v q.5 q.6 a.map q.7 q.1 q.2 q.8 d.work-at.result d.work-at.ensures _
+    sym (stored_published a.s a.p a.area.now (opened d) a.i a.v q.5 q.6 a.map q.7 q.1 q.2 q.8 d.work-at.result d.work-at.ensures _
     x.before.before.form-pointer.ensures
     a.room.now put-update.result put-update.ensures.0 _ put-update.ensures.1 out)
 

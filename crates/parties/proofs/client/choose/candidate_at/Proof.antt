@@ -2,7 +2,7 @@ use borrow.Author.Rules.{rules}
 use mathlib.Core.Path.{◌∙◌}
 use Prim.Native.Nat.{◌+◌}
 use native.Mathlib.Omega.{arith}
-use Rattle.parties.proofs.client.ChooseLaws.{front_reads, others-read, index-room, picked-whole, offered-picks}
+use Rattle.parties.proofs.client.ChooseLaws.{front_reads, others_read, index-room, picked_whole, offered_picks}
 use Rattle.parties.proofs.client.choose.candidate_at.Statement.{statement}
 use Rattle.parties.proofs.client.choose.candidate_at.Tie as tie
 
@@ -28,7 +28,7 @@ past-requires-2 c κs =
     let f = c.before.past in (
       p.0,
       f.ensures.1,
-      others-read a.s a.own a.index a.rows.now a.at (λ i. (c.before.before.shared-slice-known.given i).fits) p.1 p.3 f.result f.ensures.0,
+      others_read a.s a.own a.index a.rows.now a.at (λ i. (c.before.before.shared-slice-known.given i).fits) p.1 p.3 f.result f.ensures.0,
     )
 
 mul-u32-at : tie.Need-overflow-mul-u32-at
@@ -76,8 +76,8 @@ returns c =
     let g = x.past2 in
     let u = c.before.before.before.u32-at in
     c.picked.ensures
-    ∙ picked-whole a.rows.now (a.at + 1) f.result a.index (record { 0 = u.result })
-    ∙ offered-picks a.s a.own a.index a.rows.now a.at (λ i. (x.before.before.before.shared-slice-known.given i).fits) p.1 p.3 f.result f.ensures.0
+    ∙ picked_whole a.rows.now (a.at + 1) f.result a.index (record { 0 = u.result })
+    ∙ offered_picks a.s a.own a.index a.rows.now a.at (λ i. (x.before.before.before.shared-slice-known.given i).fits) p.1 p.3 f.result f.ensures.0
     g.result g.ensures.0 u.result _ u.ensures
 
 pub candidate-at-spec : {M : Type 1} → statement M

@@ -1,10 +1,10 @@
 use borrow.Author.Rules.{rules}
 use lib.ListN.{drop}
-use Rattle.parties.specs.protocol.Format.{readMany}
-use Rattle.parties.specs.protocol.Pointer.{readPointer}
+use Rattle.parties.specs.protocol.Format.{read_many}
+use Rattle.parties.specs.protocol.Pointer.{read_pointer}
 use Rattle.parties.specs.records.Form.{rest}
-use Rattle.parties.proofs.records.FormLaws.{formed-sound, formed-broken}
-use Rattle.parties.proofs.client.ChooseLaws.{no-rest}
+use Rattle.parties.proofs.records.FormLaws.{formed_sound, formed_broken}
+use Rattle.parties.proofs.client.ChooseLaws.{no_rest}
 use Rattle.parties.proofs.client.choose.past.Statement.{statement}
 use Rattle.parties.proofs.client.choose.past.Tie as tie
 
@@ -22,14 +22,14 @@ returns c =
     let a = c.before.before.before.before.args in
     let p = c.before.before.pointers in
     absurd
-    (no-rest (readMany (readPointer a.s) a.n (drop a.at a.t.now)) c.before.before.before.before.requires.2
-    (formed-broken a.t.now a.at (rest (readMany (readPointer a.s) a.n (drop a.at a.t.now))) p.result p.ensures c.enum_told.given.1))
+    (no_rest (read_many (read_pointer a.s) a.n (drop a.at a.t.now)) c.before.before.before.before.requires.2
+    (formed_broken a.t.now a.at (rest (read_many (read_pointer a.s) a.n (drop a.at a.t.now))) p.result p.ensures c.enum_told.given.1))
 
 returns-2 : tie.Need-returns-2
 returns-2 c =
     let a = c.before.before.before.before.before.args in
     let p = c.before.before.before.pointers in
-    let g = formed-sound a.t.now a.at c.before.next.given.0.0 (rest (readMany (readPointer a.s) a.n (drop a.at a.t.now))) p.result p.ensures
+    let g = formed_sound a.t.now a.at c.before.next.given.0.0 (rest (read_many (read_pointer a.s) a.n (drop a.at a.t.now))) p.result p.ensures
     c.before.next.given.1
     in
     (g.left, g.to)

@@ -4,7 +4,7 @@ use mathlib.Core.List.{List}
 use Prim.Native.Nat.{ℕ, ◌+◌, ◌-◌}
 use lib.ListN.{length, replicate}
 use lib.Seq.{paste}
-use Rattle.parties.proofs.client.ChooseLaws.{fetched-laid}
+use Rattle.parties.proofs.client.ChooseLaws.{fetched_laid}
 use Rattle.parties.proofs.client.choose.put_fetched.Statement.{statement}
 use Rattle.parties.proofs.client.choose.put_fetched.Tie as tie
 
@@ -32,7 +32,7 @@ returns c =
     let k = a.at + a.size - (a.at + n) in
     c.before.before.clear.ensures
     ∙ ap (λ (u : List ℕ). paste u (a.at + n) (replicate k 0) k) x.copy.ensures
-    ∙ fetched-laid a.area.now a.at a.size a.p.now q.0 q.1
+    ∙ fetched_laid a.area.now a.at a.size a.p.now q.0 q.1
 
 pub put-fetched-spec : {M : Type 1} → statement M
 put-fetched-spec =

@@ -4,8 +4,8 @@ use native.Mathlib.Omega.{arith}
 use Rattle.coding.proofs.FrameLaws.{columns-within}
 use Rattle.parties.proofs.protocol.formats.MeasureLaws.{passed}
 use Rattle.parties.proofs.client.FormLaws.{sizes}
-use Rattle.parties.proofs.client.DrawEndLaws.{page-fits, page-short-at, drawn-at}
-use Rattle.parties.proofs.client.GateLaws.{work-within, Opened}
+use Rattle.parties.proofs.client.DrawEndLaws.{page-fits, page_short_at, drawn_at}
+use Rattle.parties.proofs.client.GateLaws.{work_within, Opened}
 use borrow.Author.Rules.{rules}
 use Rattle.parties.proofs.client.draw.draw.Statement.{statement}
 use Rattle.parties.proofs.client.draw.draw.Tie as tie
@@ -28,7 +28,7 @@ u32-at-requires : tie.Need-u32-at-requires
 u32-at-requires c κs =
     let a = c.before.before.before.before.args in
     let q = c.before.before.before.before.requires in
-    omega (arith, work-within a.s a.p a.area.now (opened c.before.before.before), c.before.work-at.ensures)
+    omega (arith, work_within a.s a.p a.area.now (opened c.before.before.before), c.before.work-at.ensures)
 
 cast-to : tie.Need-overflow-cast-to
 cast-to c = search rules
@@ -64,7 +64,7 @@ put-pieces-requires c κs =
     let a = x.before.before.args in
     let q = x.before.before.requires in (
       q.0,
-      page-short-at a.s a.own q.1 a.p a.area.now (opened x.before) q.2 c.before.before.before.before.before.work-at.result
+      page_short_at a.s a.own q.1 a.p a.area.now (opened x.before) q.2 c.before.before.before.before.before.work-at.result
           c.before.before.before.before.before.work-at.ensures c.before.before.before.u32-at.result _ c.before.before.before.u32-at.ensures,
       q.4,
     )
@@ -75,7 +75,7 @@ put-stores-requires c κs =
     let y = x.before.before.before.before.before.before in
     let a = y.before.args in
     let q = y.before.requires in
-    let f = page-short-at a.s a.own q.1 a.p a.area.now (opened y) q.2 x.before.before.before.before.work-at.result
+    let f = page_short_at a.s a.own q.1 a.p a.area.now (opened y) q.2 x.before.before.before.before.work-at.result
     x.before.before.before.before.work-at.ensures x.before.before.u32-at.result _ x.before.before.u32-at.ensures
     in
     let g = columns-within a.s.k a.s.f _ (passed a.s q.0).parts (passed a.s q.0).frame f in (
@@ -83,7 +83,7 @@ put-stores-requires c κs =
       omega (arith, g, c.before.before.before.before.put-pieces.ensures.0),
       search rules,
       omega
-          (arith, work-within a.s a.p a.area.now (opened y), x.before.before.before.before.work-at.ensures),
+          (arith, work_within a.s a.p a.area.now (opened y), x.before.before.before.before.work-at.ensures),
     )
 
 same_length : tie.Need-same-length
@@ -98,7 +98,7 @@ returns c =
     let y = x.before.before.before.before.before.before in
     let a = y.before.before.before.before.before.args in
     let q = y.before.before.before.before.before.requires in
-    sym (drawn-at a.s a.own q.1 a.p a.area.now (opened y.before.before.before.before) q.2 y.before.before.work-at.result
+    sym (drawn_at a.s a.own q.1 a.p a.area.now (opened y.before.before.before.before) q.2 y.before.before.work-at.result
     y.before.before.work-at.ensures y.u32-at.result _ y.u32-at.ensures a.q q.5 (small-sequence y.before.before) a.room.now q.4 x.before.before.put-pieces.result
     x.before.before.put-pieces.ensures.0 _ x.before.before.put-pieces.ensures.1 _ c.before.before.put-stores.ensures)
 

@@ -4,10 +4,10 @@ use Prim.Native.Nat.{◌+◌, ◌-◌, ◌*◌, ◌≤◌}
 use native.Mathlib.Omega.{arith}
 use lib.ListN.{take, drop}
 use lib.Seq.{paste}
-use Rattle.coding.specs.Placed.{pieceDigest}
+use Rattle.coding.specs.Placed.{piece_digest}
 use Rattle.coding.proofs.BytesLaws.{stride}
-use Rattle.parties.specs.protocol.Pointer.{writeVersion}
-use Rattle.parties.specs.client.Draw.{roomDigests}
+use Rattle.parties.specs.protocol.Pointer.{write_version}
+use Rattle.parties.specs.client.Draw.{room_digests}
 use Rattle.parties.proofs.records.BytesLaws.{Copied, copied_none}
 use Rattle.parties.proofs.records.SizeLaws.{below_rows}
 use Rattle.parties.proofs.client.FormLaws.{sizes}
@@ -16,7 +16,7 @@ use Rattle.parties.proofs.client.draw.put_digests.Statement.{statement}
 use Rattle.parties.proofs.client.draw.put_digests.Tie as tie
 
 abbrev invariant-loop : tie.invariant-loop
-invariant-loop v len room area₀ from n f p₀ at₀ i₀ area p at i = (i ≤ n) × (p ≡ 6 + i * f) × (at ≡ from + 32 * i) × Copied area₀ from (roomDigests n f v len room) 0 (32 * n) area (32 * i)
+invariant-loop v len room area₀ from n f p₀ at₀ i₀ area p at i = (i ≤ n) × (p ≡ 6 + i * f) × (at ≡ from + 32 * i) × Copied area₀ from (room_digests n f v len room) 0 (32 * n) area (32 * i)
 
 abbrev decreases-loop : tie.decreases-loop
 decreases-loop v len room area₀ from n f p₀ at₀ i₀ area p at i = n - i
@@ -70,7 +70,7 @@ loop-again c =
       omega (arith, l.invariant.2),
       digests-more a.s.n a.s.f a.v a.len a.room.now a.area.now a.from q.3 l.area l.i l.invariant.3 t _
           (c.before.before.put-piece-digest.ensures
-          ∙ (λ j. paste l.area (l.invariant.2 j) (pieceDigest (writeVersion a.v) (l.i + 1) (take a.len (drop (l.invariant.1 j) a.room.now))) 32)),
+          ∙ (λ j. paste l.area (l.invariant.2 j) (piece_digest (write_version a.v) (l.i + 1) (take a.len (drop (l.invariant.1 j) a.room.now))) 32)),
     )
 
 same_length : tie.Need-same-length invariant-loop decreases-loop

@@ -3,7 +3,7 @@ use mathlib.Core.List.{List}
 use Prim.Native.Nat.{ℕ}
 use native.Mathlib.Omega.{arith}
 use lib.ListN.{length, set, length-set}
-use Rattle.parties.proofs.client.DrawLaws.{front-put, length-front-put}
+use Rattle.parties.proofs.client.DrawLaws.{front_put, length_front_put}
 use borrow.Author.Rules.{rules}
 use Rattle.parties.proofs.client.draw.put_front.Statement.{statement}
 use Rattle.parties.proofs.client.draw.put_front.Tie as tie
@@ -20,12 +20,12 @@ slice-write-room-2 c = search rules
 same_length : tie.Need-same-length
 same_length c =
     ap (λ (l : List ℕ). length (set l 5 c.before.before.before.before.before.args.v.client)) c.before.before.put-u32.ensures
-    ∙ length-front-put c.before.before.before.before.before.args.v c.before.before.before.before.before.args.room.now c.before.before.before.before.before.requires
+    ∙ length_front_put c.before.before.before.before.before.args.v c.before.before.before.before.before.args.room.now c.before.before.before.before.before.requires
 
 returns : tie.Need-returns
 returns c =
     ap (λ (l : List ℕ). set l 5 c.before.before.before.before.before.args.v.client) c.before.before.put-u32.ensures
-    ∙ front-put c.before.before.before.before.before.args.v c.before.before.before.before.before.args.room.now (omega arith) c.before.before.before.before.before.requires
+    ∙ front_put c.before.before.before.before.before.args.v c.before.before.before.before.before.args.room.now (omega arith) c.before.before.before.before.before.requires
 
 pub put-front-spec : {M : Type 1} → statement M
 put-front-spec =

@@ -4,8 +4,8 @@ use Prim.Native.Nat.{ℕ, ◌+◌, ◌-◌}
 use native.Mathlib.Omega.{arith}
 use lib.ListN.{take, drop}
 use lib.Seq.{paste}
-use Rattle.coding.specs.Placed.{pieceDigest}
-use Rattle.parties.specs.protocol.Pointer.{writeVersion}
+use Rattle.coding.specs.Placed.{piece_digest}
+use Rattle.parties.specs.protocol.Pointer.{write_version}
 use borrow.Author.Rules.{rules}
 use Rattle.parties.proofs.client.draw.put_piece_digest.Statement.{statement}
 use Rattle.parties.proofs.client.draw.put_piece_digest.Tie as tie
@@ -38,7 +38,7 @@ returns c =
     c.before.before.put-digest.ensures
     ∙ ap (λ (d : List ℕ). paste a.area.now a.at d 32)
     (c.before.before.before.before.digest-piece.ensures
-    ∙ ap (λ (k : ℕ). pieceDigest (writeVersion a.v) a.node (take k (drop a.from a.room.now))) n)
+    ∙ ap (λ (k : ℕ). piece_digest (write_version a.v) a.node (take k (drop a.from a.room.now))) n)
 
 pub put-piece-digest-spec : {M : Type 1} → statement M
 put-piece-digest-spec =

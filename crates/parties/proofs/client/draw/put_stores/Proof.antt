@@ -3,9 +3,9 @@ use mathlib.Core.List.{List}
 use Prim.Native.Nat.{ℕ, ◌+◌, ◌-◌, ◌*◌}
 use lib.ListN.{replicate}
 use lib.Seq.{paste}
-use Rattle.parties.specs.protocol.Format.{writeNumber}
-use Rattle.parties.specs.client.Draw.{roomDigests}
-use Rattle.parties.proofs.client.DrawLaws.{length-room-digests, stores-put}
+use Rattle.parties.specs.protocol.Format.{write_number}
+use Rattle.parties.specs.client.Draw.{room_digests}
+use Rattle.parties.proofs.client.DrawLaws.{length-room-digests, stores_put}
 use borrow.Author.Rules.{rules}
 use Rattle.parties.proofs.client.draw.put_stores.Statement.{statement}
 use Rattle.parties.proofs.client.draw.put_stores.Tie as tie
@@ -53,16 +53,16 @@ returns c =
     let z = y.before.before.before.before.before.before in
     let a = z.before.before.args in
     let q = z.before.before.requires in
-    let ds = roomDigests a.s.n a.s.f a.v a.len a.room.now in
+    let ds = room_digests a.s.n a.s.f a.v a.len a.room.now in
     let rest : ℕ = a.at + 7 + 32 * a.s.n in
     let e = x.put-digests.ensures
     ∙ ap (λ (l : List ℕ). paste l (a.at + 7) ds (32 * a.s.n))
-    (x.before.before.before.before.put-u16.ensures ∙ ap (λ (l : List ℕ). paste l (a.at + 5) (writeNumber 2 0) 2) y.before.before.put-version.ensures)
+    (x.before.before.before.before.put-u16.ensures ∙ ap (λ (l : List ℕ). paste l (a.at + 5) (write_number 2 0) 2) y.before.before.put-version.ensures)
     in
     let w = y.before.before.before.before.before.work-size.ensures in
     c.before.before.clear.ensures
     ∙ (λ i. paste (e i) rest (replicate (a.at + w i - rest) 0) (a.at + w i - rest))
-    ∙ stores-put a.s q.0 a.v ds a.area.now a.at rest (length-room-digests a.s.n a.s.f a.v a.len a.room.now) q.3 refl
+    ∙ stores_put a.s q.0 a.v ds a.area.now a.at rest (length-room-digests a.s.n a.s.f a.v a.len a.room.now) q.3 refl
 
 pub put-stores-spec : {M : Type 1} → statement M
 put-stores-spec =

@@ -40,9 +40,9 @@ use denote.Triple.Table.{entered, cited}
 use denote.Triple.Walked.{says, Stays, stay_ref, stay_none, gave_slice, walk_of, AllGo, Goes-none, Goes-ref, Goes-gave_slice, Walks, ends_at, walked, walk_Meets}
 use denote.Exit.{yes}
 use denote.Triple.Clauses.{ensured, lasts}
-use Rattle.parties.specs.protocol.ClientEvents.{clientFresh}
+use Rattle.parties.specs.protocol.ClientEvents.{client_fresh}
 use Rattle.parties.specs.client.Answer.{answered}
-use Rattle.parties.specs.client.Record.{recordOf}
+use Rattle.parties.specs.client.Record.{record_of}
 use Rattle.parties.specs.declared.Phase.{Phase}
 use Rattle.parties.specs.declared.Turned.{Turned}
 use Rattle.parties.specs.declared.Measures.{Measures}
@@ -67,8 +67,8 @@ abbrev stayed : Stays (event.ended).signature.params (event.ended).kept
 stayed = (stay_ref (0 ∷ []) tt (plain (λ _. S.the_row)), (stay_none (λ _. X0.the_row) yes, (gave_slice (1 ∷ []) tt (plain (λ _. u8)), tt)))
 
 -- the machine value of the struct
-abbrev structVal : Phase → Val
-structVal = LL.val S.the_type S'.the_laws
+abbrev struct_val : Phase → Val
+struct_val = LL.val S.the_type S'.the_laws
 
 -- what the result's fields are
 struct_is : (r : Turned) (vs : List Val) → Is T.the_row r vs → Is S.the_row r.phase (LL.vals S.the_type S'.the_laws r.phase)
@@ -104,17 +104,17 @@ module _ {M : Type 1} {𝓤 : Ura M} (𝓛 : Logic 𝓤) (at_mem : Memory → SP
 
   -- what the callee's triple binds outside: each slice at its own lifetime, share and name
   abbrev to : (Callee 𝓛 at_mem run).Ghost
-  to = (((κ1, tt), (q1, tt), tt, (h, (n0, (x1, tt))), (structVal h ∷ [], (LL.val X0.the_type X0'.the_laws n0 ∷ [], (v1 ∷ [], tt)))), tt)
+  to = (((κ1, tt), (q1, tt), tt, (h, (n0, (x1, tt))), (struct_val h ∷ [], (LL.val X0.the_type X0'.the_laws n0 ∷ [], (v1 ∷ [], tt)))), tt)
 
   abbrev Owned : Fml
-  Owned = owns (S.the_row ∷ X0.the_row ∷ MutSlice (named 0) κ1 u8 ∷ []) (h, (n0, (x1, tt))) (structVal h ∷ [], (LL.val X0.the_type X0'.the_laws n0 ∷ [], (v1 ∷ [], tt)))
+  Owned = owns (S.the_row ∷ X0.the_row ∷ MutSlice (named 0) κ1 u8 ∷ []) (h, (n0, (x1, tt))) (struct_val h ∷ [], (LL.val X0.the_type X0'.the_laws n0 ∷ [], (v1 ∷ [], tt)))
 
   asked : ent 𝓤 (⋆ 𝓛 ((‵ (flft κ1 q1) ⊛ ‵ ftrue) ∷ ‵ Owned ∷ [])) ((Callee 𝓛 at_mem run).pre to)
   asked = qed 𝓛 ((‵ (flft κ1 q1) ⊛ ‵ ftrue) ∷ ‵ Owned ∷ []) ∵ join ! $ frame ! $ done !
 
   -- what the callee says of its result and of the slices' last lists
   abbrev Said : Turned → List ℕ → Type 0
-  Said r zs1 = (answered r.answer ≡ (clientFresh n0 (recordOf h ys1)).answer) × (recordOf r.phase zs1 ≡ (clientFresh n0 (recordOf h ys1)).client)
+  Said r zs1 = (answered r.answer ≡ (client_fresh n0 (record_of h ys1)).answer) × (record_of r.phase zs1 ≡ (client_fresh n0 (record_of h ys1)).client)
 
   exits : (r : Turned) (zs1 : List ℕ) → Is N.the_row r.answer (EL.vals N.the_type N'.the_laws r.answer) → Said r zs1 → length zs1 ≡ length ys1
       → ent 𝓤 (⋆ 𝓛 (‵ (fobs γ ((S.the_row).coded.code r.phase)) ∷ ‵ (fbor κ0 (Body (mem S.the_row) b o γ)) ∷ ‵ (flft κ0 q0) ∷ (‵ (flft κ1 q1) ⊛ ‵ ftrue) ∷ ‵ (finally u8 γ1 zs1) ∷ [])) (Post (only (EL.vals N.the_type N'.the_laws r.answer)))
@@ -131,7 +131,7 @@ module _ {M : Type 1} {𝓤 : Ura M} (𝓛 : Logic 𝓤) (at_mem : Memory → SP
         alloc1 ! (λ l0. alloc1 ! (λ l1. alloc1 ! (λ l2. alloc1 ! (λ l3. alloc1 ! (λ l4. alloc1 ! (λ l5. alloc1 ! (λ l6. alloc1 ! (λ l7. alloc0 ! $ params1 ! $
         pass1 ! (init ! 12 refl (tt, tt)) $ pass1 ! (init ! 10 refl ((LL.lawful X0.the_type X0'.the_laws 𝓛).typed n0 _ f0).0) $ pass1 ! (init ! 8 refl (tt, (tt, (record { fits = room1.0 }, tt)))) $ pass0 ! $
         -- the borrow is opened
-        move ! (17 ∷ []) $ fsplit ! $ fsplit3 ! $ drop ! $ move ! (2 ∷ []) $ fsplit ! $ move ! (1 ∷ []) $ fsplit ! $ move ! (21 ∷ []) $ split ! $ move ! (5 ∷ 6 ∷ 0 ∷ []) $ opens ! tt S.the_row {h = h} b o (λ vs. spelt ! S.the_row (Is S.the_row) (shows 𝓛 S.the_row) (LL.vals S.the_type S'.the_laws) (LL.tells S.the_type S'.the_laws) full_share h vs b o $ move ! (1 ∷ []) $ peeks ! S.the_row (Is S.the_row) (shows 𝓛 S.the_row) h (structVal h ∷ []) (λ g. move ! (1 ∷ 0 ∷ []) $
+        move ! (17 ∷ []) $ fsplit ! $ fsplit3 ! $ drop ! $ move ! (2 ∷ []) $ fsplit ! $ move ! (1 ∷ []) $ fsplit ! $ move ! (21 ∷ []) $ split ! $ move ! (5 ∷ 6 ∷ 0 ∷ []) $ opens ! tt S.the_row {h = h} b o (λ vs. spelt ! S.the_row (Is S.the_row) (shows 𝓛 S.the_row) (LL.vals S.the_type S'.the_laws) (LL.tells S.the_type S'.the_laws) full_share h vs b o $ move ! (1 ∷ []) $ peeks ! S.the_row (Is S.the_row) (shows 𝓛 S.the_row) h (struct_val h ∷ []) (λ g. move ! (1 ∷ 0 ∷ []) $
         -- the struct is copied out, and each &mut slice is made anew for the call
         assigns ! (of_opd ! (load ! (from ! (hop ! (look ! 21 refl) (stop !))) (look_raw ! 0 refl))) (from ! (stop !)) (init ! 13 refl ((LL.lawful S.the_type S'.the_laws 𝓛).typed h _ g).0) $
         assigns ! (addr ! (from ! (fld ! refl (hop ! (look_in ! 17 (sub ! 0 refl (whole !))) (stop !))))) (from ! (stop !)) (init ! 11 refl (tt, tt)) $
@@ -149,7 +149,7 @@ module _ {M : Type 1} {𝓤 : Ura M} (𝓛 : Logic 𝓤) (at_mem : Memory → SP
         assigns ! (of_opd ! (load ! (from ! (fld ! refl (stop !))) (look_in ! 17 (sub ! 0 refl (whole !))))) (from ! (hop ! (look ! 23 refl) (stop !))) (store_raw ! 4 refl ((LL.lawful S.the_type S'.the_laws 𝓛).typed r.phase _ (struct_is r _ is)).0) $
         assigns ! (of_opd ! (load ! (from ! (fld ! refl (stop !))) (look_in ! 17 (sub ! 1 refl (whole !))))) (from ! (stop !)) (init ! 25 refl ((EL.lawful N.the_type N'.the_laws 𝓛 tt).typed r.answer _ (answer-is r _ is)).0) $
         -- the borrow is closed at the new struct
-        drop ! $ move ! (4 ∷ []) $ drop ! $ owned ! S.the_row (Is S.the_row) (LL.makes S.the_type S'.the_plain 𝓛) r.phase _ (struct_is r _ is) $ move ! (4 ∷ 0 ∷ 5 ∷ 6 ∷ 7 ∷ []) $ closes ! tt S.the_row r.phase (structVal r.phase ∷ []) b o $
+        drop ! $ move ! (4 ∷ []) $ drop ! $ owned ! S.the_row (Is S.the_row) (LL.makes S.the_type S'.the_plain 𝓛) r.phase _ (struct_is r _ is) $ move ! (4 ∷ 0 ∷ 5 ∷ 6 ∷ 7 ∷ []) $ closes ! tt S.the_row r.phase (struct_val r.phase ∷ []) b o $
         returns ! (look ! 22 refl) $ forget ! 8 refl $ forget ! 10 refl $ forget ! 12 refl $ forget ! 14 refl $ forget ! 16 refl $ forget ! 18 refl $ forget ! 20 refl $ forget ! 22 refl $
         move ! (22 ∷ 23 ∷ []) $ free1 ! $ move ! (20 ∷ 21 ∷ []) $ free1 ! $ move ! (18 ∷ 19 ∷ []) $ free1 ! $ move ! (16 ∷ 17 ∷ []) $ free1 ! $ move ! (14 ∷ 15 ∷ []) $ free1 ! $ move ! (12 ∷ 13 ∷ []) $ free1 ! $ move ! (10 ∷ 11 ∷ []) $ free1 ! $ move ! (8 ∷ 9 ∷ []) $ free1 ! $ free0 ! $
         keep ! (0 ∷ 1 ∷ 2 ∷ 3 ∷ 4 ∷ []) $ by ! (exits r zs.1.1.0 (answer-is r _ is) e e1)))))))))))))))))

@@ -41,9 +41,9 @@ use denote.Triple.Table.{entered, cited}
 use denote.Triple.Walked.{says, Stays, stay_ref, stay_none, gave_slice, walk_of, AllGo, Goes-none, Goes-ref, Goes-gave_slice, Walks, ends_at, walked, walk_Meets}
 use denote.Exit.{yes}
 use denote.Triple.Clauses.{ensured, lasts}
-use Rattle.parties.specs.protocol.ClientEvents.{startReading}
+use Rattle.parties.specs.protocol.ClientEvents.{start_reading}
 use Rattle.parties.specs.client.Answer.{answered}
-use Rattle.parties.specs.client.Record.{recordOf}
+use Rattle.parties.specs.client.Record.{record_of}
 use Rattle.parties.specs.declared.Phase.{Phase}
 use Rattle.parties.specs.declared.Turned.{Turned}
 use Rattle.parties.specs.declared.Measures.{Measures}
@@ -68,8 +68,8 @@ abbrev stayed : Stays (event.ended).signature.params (event.ended).kept
 stayed = (stay_ref (0 ∷ []) tt (plain (λ _. S.the_row)), (stay_none (λ _. X0.the_row) yes, (stay_none (λ _. usize) yes, (gave_slice (1 ∷ []) tt (plain (λ _. u8)), (gave_slice (2 ∷ []) tt (plain (λ _. u8)), tt)))))
 
 -- the machine value of the struct
-abbrev structVal : Phase → Val
-structVal = LL.val S.the_type S'.the_laws
+abbrev struct_val : Phase → Val
+struct_val = LL.val S.the_type S'.the_laws
 
 -- what the result's fields are
 struct_is : (r : Turned) (vs : List Val) → Is T.the_row r vs → Is S.the_row r.phase (LL.vals S.the_type S'.the_laws r.phase)
@@ -111,17 +111,17 @@ module _ {M : Type 1} {𝓤 : Ura M} (𝓛 : Logic 𝓤) (at_mem : Memory → SP
 
   -- what the callee's triple binds outside: each slice at its own lifetime, share and name
   abbrev to : (Callee 𝓛 at_mem run).Ghost
-  to = (((κ1, (κ2, tt)), (q1, (q2, tt)), tt, (h, (n0, (n1, (x2, (x3, tt))))), (structVal h ∷ [], (LL.val X0.the_type X0'.the_laws n0 ∷ [], (vint w64 n1 ∷ [], (v2 ∷ [], (v3 ∷ [], tt)))))), tt)
+  to = (((κ1, (κ2, tt)), (q1, (q2, tt)), tt, (h, (n0, (n1, (x2, (x3, tt))))), (struct_val h ∷ [], (LL.val X0.the_type X0'.the_laws n0 ∷ [], (vint w64 n1 ∷ [], (v2 ∷ [], (v3 ∷ [], tt)))))), tt)
 
   abbrev Owned : Fml
-  Owned = owns (S.the_row ∷ X0.the_row ∷ usize ∷ MutSlice (named 0) κ1 u8 ∷ MutSlice (named 1) κ2 u8 ∷ []) (h, (n0, (n1, (x2, (x3, tt))))) (structVal h ∷ [], (LL.val X0.the_type X0'.the_laws n0 ∷ [], (vint w64 n1 ∷ [], (v2 ∷ [], (v3 ∷ [], tt)))))
+  Owned = owns (S.the_row ∷ X0.the_row ∷ usize ∷ MutSlice (named 0) κ1 u8 ∷ MutSlice (named 1) κ2 u8 ∷ []) (h, (n0, (n1, (x2, (x3, tt))))) (struct_val h ∷ [], (LL.val X0.the_type X0'.the_laws n0 ∷ [], (vint w64 n1 ∷ [], (v2 ∷ [], (v3 ∷ [], tt)))))
 
   asked : ent 𝓤 (⋆ 𝓛 ((‵ (flft κ1 q1) ⊛ ‵ (flft κ2 q2) ⊛ ‵ ftrue) ∷ ‵ Owned ∷ [])) ((Callee 𝓛 at_mem run).pre to)
   asked = qed 𝓛 ((‵ (flft κ1 q1) ⊛ ‵ (flft κ2 q2) ⊛ ‵ ftrue) ∷ ‵ Owned ∷ []) ∵ join ! $ frame ! $ done !
 
   -- what the callee says of its result and of the slices' last lists
   abbrev Said : Turned → List ℕ → List ℕ → Type 0
-  Said r zs2 zs3 = (answered r.answer ≡ (startReading n0 n1 (recordOf h ys2) ys3).answer) × (recordOf r.phase zs2 ≡ (startReading n0 n1 (recordOf h ys2) ys3).client) × (zs3 ≡ (startReading n0 n1 (recordOf h ys2) ys3).room)
+  Said r zs2 zs3 = (answered r.answer ≡ (start_reading n0 n1 (record_of h ys2) ys3).answer) × (record_of r.phase zs2 ≡ (start_reading n0 n1 (record_of h ys2) ys3).client) × (zs3 ≡ (start_reading n0 n1 (record_of h ys2) ys3).room)
 
   exits : (r : Turned) (zs2 : List ℕ) (zs3 : List ℕ) → Is N.the_row r.answer (EL.vals N.the_type N'.the_laws r.answer) → Said r zs2 zs3 → length zs2 ≡ length ys2 → length zs3 ≡ length ys3
       → ent 𝓤 (⋆ 𝓛 (‵ (fobs γ ((S.the_row).coded.code r.phase)) ∷ ‵ (fbor κ0 (Body (mem S.the_row) b o γ)) ∷ ‵ (flft κ0 q0) ∷ (‵ (flft κ1 q1) ⊛ ‵ (flft κ2 q2) ⊛ ‵ ftrue) ∷ ‵ (finally u8 γ2 zs2) ∷ ‵ (finally u8 γ3 zs3) ∷ [])) (Post (only (EL.vals N.the_type N'.the_laws r.answer)))
@@ -138,7 +138,7 @@ module _ {M : Type 1} {𝓤 : Ura M} (𝓛 : Logic 𝓤) (at_mem : Memory → SP
         alloc1 ! (λ l0. alloc1 ! (λ l1. alloc1 ! (λ l2. alloc1 ! (λ l3. alloc1 ! (λ l4. alloc1 ! (λ l5. alloc1 ! (λ l6. alloc1 ! (λ l7. alloc1 ! (λ l8. alloc1 ! (λ l9. alloc1 ! (λ l10. alloc1 ! (λ l11. alloc0 ! $ params1 ! $
         pass1 ! (init ! 20 refl (tt, tt)) $ pass1 ! (init ! 18 refl ((LL.lawful X0.the_type X0'.the_laws 𝓛).typed n0 _ f0).0) $ pass1 ! (init ! 16 refl (tt, record { fits = f1 })) $ pass1 ! (init ! 14 refl (tt, (tt, (record { fits = room2.0 }, tt)))) $ pass1 ! (init ! 12 refl (tt, (tt, (record { fits = room3.0 }, tt)))) $ pass0 ! $
         -- the borrow is opened
-        move ! (25 ∷ []) $ fsplit ! $ fsplit3 ! $ drop ! $ move ! (2 ∷ []) $ fsplit ! $ move ! (1 ∷ []) $ fsplit ! $ move ! (1 ∷ []) $ fsplit ! $ move ! (1 ∷ []) $ fsplit ! $ move ! (31 ∷ []) $ split ! $ move ! (7 ∷ 8 ∷ 0 ∷ []) $ opens ! tt S.the_row {h = h} b o (λ vs. spelt ! S.the_row (Is S.the_row) (shows 𝓛 S.the_row) (LL.vals S.the_type S'.the_laws) (LL.tells S.the_type S'.the_laws) full_share h vs b o $ move ! (1 ∷ []) $ peeks ! S.the_row (Is S.the_row) (shows 𝓛 S.the_row) h (structVal h ∷ []) (λ g. move ! (1 ∷ 0 ∷ []) $
+        move ! (25 ∷ []) $ fsplit ! $ fsplit3 ! $ drop ! $ move ! (2 ∷ []) $ fsplit ! $ move ! (1 ∷ []) $ fsplit ! $ move ! (1 ∷ []) $ fsplit ! $ move ! (1 ∷ []) $ fsplit ! $ move ! (31 ∷ []) $ split ! $ move ! (7 ∷ 8 ∷ 0 ∷ []) $ opens ! tt S.the_row {h = h} b o (λ vs. spelt ! S.the_row (Is S.the_row) (shows 𝓛 S.the_row) (LL.vals S.the_type S'.the_laws) (LL.tells S.the_type S'.the_laws) full_share h vs b o $ move ! (1 ∷ []) $ peeks ! S.the_row (Is S.the_row) (shows 𝓛 S.the_row) h (struct_val h ∷ []) (λ g. move ! (1 ∷ 0 ∷ []) $
         -- the struct is copied out, and each &mut slice is made anew for the call
         assigns ! (of_opd ! (load ! (from ! (hop ! (look ! 31 refl) (stop !))) (look_raw ! 0 refl))) (from ! (stop !)) (init ! 19 refl ((LL.lawful S.the_type S'.the_laws 𝓛).typed h _ g).0) $
         assigns ! (addr ! (from ! (fld ! refl (hop ! (look_in ! 25 (sub ! 0 refl (whole !))) (stop !))))) (from ! (stop !)) (init ! 17 refl (tt, tt)) $
@@ -158,7 +158,7 @@ module _ {M : Type 1} {𝓤 : Ura M} (𝓛 : Logic 𝓤) (at_mem : Memory → SP
         assigns ! (of_opd ! (load ! (from ! (fld ! refl (stop !))) (look_in ! 23 (sub ! 0 refl (whole !))))) (from ! (hop ! (look ! 33 refl) (stop !))) (store_raw ! 5 refl ((LL.lawful S.the_type S'.the_laws 𝓛).typed r.phase _ (struct_is r _ is)).0) $
         assigns ! (of_opd ! (load ! (from ! (fld ! refl (stop !))) (look_in ! 23 (sub ! 1 refl (whole !))))) (from ! (stop !)) (init ! 35 refl ((EL.lawful N.the_type N'.the_laws 𝓛 tt).typed r.answer _ (answer-is r _ is)).0) $
         -- the borrow is closed at the new struct
-        drop ! $ move ! (5 ∷ []) $ drop ! $ owned ! S.the_row (Is S.the_row) (LL.makes S.the_type S'.the_plain 𝓛) r.phase _ (struct_is r _ is) $ move ! (5 ∷ 0 ∷ 6 ∷ 7 ∷ 8 ∷ []) $ closes ! tt S.the_row r.phase (structVal r.phase ∷ []) b o $
+        drop ! $ move ! (5 ∷ []) $ drop ! $ owned ! S.the_row (Is S.the_row) (LL.makes S.the_type S'.the_plain 𝓛) r.phase _ (struct_is r _ is) $ move ! (5 ∷ 0 ∷ 6 ∷ 7 ∷ 8 ∷ []) $ closes ! tt S.the_row r.phase (struct_val r.phase ∷ []) b o $
         returns ! (look ! 32 refl) $ forget ! 10 refl $ forget ! 12 refl $ forget ! 14 refl $ forget ! 16 refl $ forget ! 18 refl $ forget ! 20 refl $ forget ! 22 refl $ forget ! 24 refl $ forget ! 26 refl $ forget ! 28 refl $ forget ! 30 refl $ forget ! 32 refl $
         move ! (32 ∷ 33 ∷ []) $ free1 ! $ move ! (30 ∷ 31 ∷ []) $ free1 ! $ move ! (28 ∷ 29 ∷ []) $ free1 ! $ move ! (26 ∷ 27 ∷ []) $ free1 ! $ move ! (24 ∷ 25 ∷ []) $ free1 ! $ move ! (22 ∷ 23 ∷ []) $ free1 ! $ move ! (20 ∷ 21 ∷ []) $ free1 ! $ move ! (18 ∷ 19 ∷ []) $ free1 ! $ move ! (16 ∷ 17 ∷ []) $ free1 ! $ move ! (14 ∷ 15 ∷ []) $ free1 ! $ move ! (12 ∷ 13 ∷ []) $ free1 ! $ move ! (10 ∷ 11 ∷ []) $ free1 ! $ free0 ! $
         keep ! (0 ∷ 1 ∷ 2 ∷ 3 ∷ 6 ∷ 4 ∷ []) $ by ! (exits r zs.1.1.1.0 zs.1.1.1.1.0 (answer-is r _ is) e e2 e3))))))))))))))))))))))

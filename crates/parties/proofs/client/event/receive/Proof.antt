@@ -41,9 +41,9 @@ use denote.Triple.Table.{entered, cited}
 use denote.Triple.Walked.{says, Stays, stay_ref, stay_none, stay_none_slice, gave_slice, walk_of, AllGo, Goes-none, Goes-none_slice, Goes-ref, Goes-gave_slice, Walks, ends_at, walked, walk_Meets}
 use denote.Exit.{yes}
 use denote.Triple.Clauses.{ensured, lasts}
-use Rattle.parties.specs.protocol.ClientEvents.{clientMessage}
+use Rattle.parties.specs.protocol.ClientEvents.{client_message}
 use Rattle.parties.specs.client.Answer.{answered}
-use Rattle.parties.specs.client.Record.{recordOf}
+use Rattle.parties.specs.client.Record.{record_of}
 use Rattle.parties.specs.declared.Phase.{Phase}
 use Rattle.parties.specs.declared.Turned.{Turned}
 use Rattle.parties.specs.declared.Measures.{Measures}
@@ -68,8 +68,8 @@ abbrev stayed : Stays (event.ended).signature.params (event.ended).kept
 stayed = (stay_ref (0 ∷ []) tt (plain (λ _. S.the_row)), (stay_none (λ _. X0.the_row) yes, (stay_none (λ _. usize) yes, (stay_none (λ _. usize) yes, (gave_slice (1 ∷ []) tt (plain (λ _. u8)), (stay_none_slice (2 ∷ []) tt (plain (λ _. u8)) yes, (gave_slice (3 ∷ []) tt (plain (λ _. u8)), (gave_slice (4 ∷ []) tt (plain (λ _. u8)), tt))))))))
 
 -- the machine value of the struct
-abbrev structVal : Phase → Val
-structVal = LL.val S.the_type S'.the_laws
+abbrev struct_val : Phase → Val
+struct_val = LL.val S.the_type S'.the_laws
 
 -- what the result's fields are
 struct_is : (r : Turned) (vs : List Val) → Is T.the_row r vs → Is S.the_row r.phase (LL.vals S.the_type S'.the_laws r.phase)
@@ -123,17 +123,17 @@ module _ {M : Type 1} {𝓤 : Ura M} (𝓛 : Logic 𝓤) (at_mem : Memory → SP
 
   -- what the callee's triple binds outside: each slice at its own lifetime, share and name
   abbrev to : (Callee 𝓛 at_mem run).Ghost
-  to = (((κ1, (κ2, (κ3, (κ4, tt)))), (q1, (q2, (q3, (q4, tt)))), tt, (h, (n0, (n1, (n2, (x3, (s4, (x5, (x6, tt)))))))), (structVal h ∷ [], (LL.val X0.the_type X0'.the_laws n0 ∷ [], (vint w64 n1 ∷ [], (vint w64 n2 ∷ [], (v3 ∷ [], (v4 ∷ [], (v5 ∷ [], (v6 ∷ [], tt))))))))), tt)
+  to = (((κ1, (κ2, (κ3, (κ4, tt)))), (q1, (q2, (q3, (q4, tt)))), tt, (h, (n0, (n1, (n2, (x3, (s4, (x5, (x6, tt)))))))), (struct_val h ∷ [], (LL.val X0.the_type X0'.the_laws n0 ∷ [], (vint w64 n1 ∷ [], (vint w64 n2 ∷ [], (v3 ∷ [], (v4 ∷ [], (v5 ∷ [], (v6 ∷ [], tt))))))))), tt)
 
   abbrev Owned : Fml
-  Owned = owns (S.the_row ∷ X0.the_row ∷ usize ∷ usize ∷ MutSlice (named 0) κ1 u8 ∷ ShrSlice (named 1) κ2 u8 ∷ MutSlice (named 2) κ3 u8 ∷ MutSlice (named 3) κ4 u8 ∷ []) (h, (n0, (n1, (n2, (x3, (s4, (x5, (x6, tt)))))))) (structVal h ∷ [], (LL.val X0.the_type X0'.the_laws n0 ∷ [], (vint w64 n1 ∷ [], (vint w64 n2 ∷ [], (v3 ∷ [], (v4 ∷ [], (v5 ∷ [], (v6 ∷ [], tt))))))))
+  Owned = owns (S.the_row ∷ X0.the_row ∷ usize ∷ usize ∷ MutSlice (named 0) κ1 u8 ∷ ShrSlice (named 1) κ2 u8 ∷ MutSlice (named 2) κ3 u8 ∷ MutSlice (named 3) κ4 u8 ∷ []) (h, (n0, (n1, (n2, (x3, (s4, (x5, (x6, tt)))))))) (struct_val h ∷ [], (LL.val X0.the_type X0'.the_laws n0 ∷ [], (vint w64 n1 ∷ [], (vint w64 n2 ∷ [], (v3 ∷ [], (v4 ∷ [], (v5 ∷ [], (v6 ∷ [], tt))))))))
 
   asked : ent 𝓤 (⋆ 𝓛 ((‵ (flft κ1 q1) ⊛ ‵ (flft κ2 q2) ⊛ ‵ (flft κ3 q3) ⊛ ‵ (flft κ4 q4) ⊛ ‵ ftrue) ∷ ‵ Owned ∷ [])) ((Callee 𝓛 at_mem run).pre to)
   asked = qed 𝓛 ((‵ (flft κ1 q1) ⊛ ‵ (flft κ2 q2) ⊛ ‵ (flft κ3 q3) ⊛ ‵ (flft κ4 q4) ⊛ ‵ ftrue) ∷ ‵ Owned ∷ []) ∵ join ! $ frame ! $ done !
 
   -- what the callee says of its result and of the slices' last lists
   abbrev Said : Turned → List ℕ → List ℕ → List ℕ → Type 0
-  Said r zs3 zs5 zs6 = (answered r.answer ≡ (clientMessage n0 n1 n2 (recordOf h ys3) s4.now ys5 ys6).answer) × (recordOf r.phase zs3 ≡ (clientMessage n0 n1 n2 (recordOf h ys3) s4.now ys5 ys6).client) × (zs5 ≡ (clientMessage n0 n1 n2 (recordOf h ys3) s4.now ys5 ys6).room) × (zs6 ≡ (clientMessage n0 n1 n2 (recordOf h ys3) s4.now ys5 ys6).out)
+  Said r zs3 zs5 zs6 = (answered r.answer ≡ (client_message n0 n1 n2 (record_of h ys3) s4.now ys5 ys6).answer) × (record_of r.phase zs3 ≡ (client_message n0 n1 n2 (record_of h ys3) s4.now ys5 ys6).client) × (zs5 ≡ (client_message n0 n1 n2 (record_of h ys3) s4.now ys5 ys6).room) × (zs6 ≡ (client_message n0 n1 n2 (record_of h ys3) s4.now ys5 ys6).out)
 
   exits : (r : Turned) (zs3 : List ℕ) (zs5 : List ℕ) (zs6 : List ℕ) → Is N.the_row r.answer (EL.vals N.the_type N'.the_laws r.answer) → Said r zs3 zs5 zs6 → length zs3 ≡ length ys3 → length zs5 ≡ length ys5 → length zs6 ≡ length ys6
       → ent 𝓤 (⋆ 𝓛 (‵ (fobs γ ((S.the_row).coded.code r.phase)) ∷ ‵ (fbor κ0 (Body (mem S.the_row) b o γ)) ∷ ‵ (flft κ0 q0) ∷ (‵ (flft κ1 q1) ⊛ ‵ (flft κ2 q2) ⊛ ‵ (flft κ3 q3) ⊛ ‵ (flft κ4 q4) ⊛ ‵ ftrue) ∷ ‵ (finally u8 γ3 zs3) ∷ ‵ (finally u8 γ5 zs5) ∷ ‵ (finally u8 γ6 zs6) ∷ ‵ Shr4 ∷ [])) (Post (only (EL.vals N.the_type N'.the_laws r.answer)))
@@ -150,7 +150,7 @@ module _ {M : Type 1} {𝓤 : Ura M} (𝓛 : Logic 𝓤) (at_mem : Memory → SP
         alloc1 ! (λ l0. alloc1 ! (λ l1. alloc1 ! (λ l2. alloc1 ! (λ l3. alloc1 ! (λ l4. alloc1 ! (λ l5. alloc1 ! (λ l6. alloc1 ! (λ l7. alloc1 ! (λ l8. alloc1 ! (λ l9. alloc1 ! (λ l10. alloc1 ! (λ l11. alloc1 ! (λ l12. alloc1 ! (λ l13. alloc1 ! (λ l14. alloc1 ! (λ l15. alloc1 ! (λ l16. alloc0 ! $ params1 ! $
         pass1 ! (init ! 30 refl (tt, tt)) $ pass1 ! (init ! 28 refl ((LL.lawful X0.the_type X0'.the_laws 𝓛).typed n0 _ f0).0) $ pass1 ! (init ! 26 refl (tt, record { fits = f1 })) $ pass1 ! (init ! 24 refl (tt, record { fits = f2 })) $ pass1 ! (init ! 22 refl (tt, (tt, (record { fits = room3.0 }, tt)))) $ pass1 ! (init ! 20 refl ((shr_slice_Lawful 𝓛 (named 2) κ2 u8).typed s4 (v4 ∷ []) g4).0) $ pass1 ! (init ! 18 refl (tt, (tt, (record { fits = room5.0 }, tt)))) $ pass1 ! (init ! 16 refl (tt, (tt, (record { fits = room6.0 }, tt)))) $ pass0 ! $
         -- the borrow is opened
-        move ! (35 ∷ []) $ fsplit ! $ fsplit3 ! $ drop ! $ move ! (2 ∷ []) $ fsplit ! $ move ! (1 ∷ []) $ fsplit ! $ move ! (1 ∷ []) $ fsplit ! $ move ! (1 ∷ []) $ fsplit ! $ move ! (1 ∷ []) $ fsplit ! $ move ! (1 ∷ []) $ fsplit ! $ move ! (1 ∷ []) $ fsplit ! $ move ! (44 ∷ []) $ split ! $ move ! (10 ∷ 11 ∷ 0 ∷ []) $ opens ! tt S.the_row {h = h} b o (λ vs. spelt ! S.the_row (Is S.the_row) (shows 𝓛 S.the_row) (LL.vals S.the_type S'.the_laws) (LL.tells S.the_type S'.the_laws) full_share h vs b o $ move ! (1 ∷ []) $ peeks ! S.the_row (Is S.the_row) (shows 𝓛 S.the_row) h (structVal h ∷ []) (λ g. move ! (1 ∷ 0 ∷ []) $
+        move ! (35 ∷ []) $ fsplit ! $ fsplit3 ! $ drop ! $ move ! (2 ∷ []) $ fsplit ! $ move ! (1 ∷ []) $ fsplit ! $ move ! (1 ∷ []) $ fsplit ! $ move ! (1 ∷ []) $ fsplit ! $ move ! (1 ∷ []) $ fsplit ! $ move ! (1 ∷ []) $ fsplit ! $ move ! (1 ∷ []) $ fsplit ! $ move ! (44 ∷ []) $ split ! $ move ! (10 ∷ 11 ∷ 0 ∷ []) $ opens ! tt S.the_row {h = h} b o (λ vs. spelt ! S.the_row (Is S.the_row) (shows 𝓛 S.the_row) (LL.vals S.the_type S'.the_laws) (LL.tells S.the_type S'.the_laws) full_share h vs b o $ move ! (1 ∷ []) $ peeks ! S.the_row (Is S.the_row) (shows 𝓛 S.the_row) h (struct_val h ∷ []) (λ g. move ! (1 ∷ 0 ∷ []) $
         -- the struct is copied out, and each &mut slice is made anew for the call
         assigns ! (of_opd ! (load ! (from ! (hop ! (look ! 44 refl) (stop !))) (look_raw ! 0 refl))) (from ! (stop !)) (init ! 26 refl ((LL.lawful S.the_type S'.the_laws 𝓛).typed h _ g).0) $
         assigns ! (addr ! (from ! (fld ! refl (hop ! (look_in ! 36 (sub ! 0 refl (whole !))) (stop !))))) (from ! (stop !)) (init ! 24 refl (tt, tt)) $
@@ -172,7 +172,7 @@ module _ {M : Type 1} {𝓤 : Ura M} (𝓛 : Logic 𝓤) (at_mem : Memory → SP
         assigns ! (of_opd ! (load ! (from ! (fld ! refl (stop !))) (look_in ! 30 (sub ! 0 refl (whole !))))) (from ! (hop ! (look ! 46 refl) (stop !))) (store_raw ! 7 refl ((LL.lawful S.the_type S'.the_laws 𝓛).typed r.phase _ (struct_is r _ is)).0) $
         assigns ! (of_opd ! (load ! (from ! (fld ! refl (stop !))) (look_in ! 30 (sub ! 1 refl (whole !))))) (from ! (stop !)) (init ! 48 refl ((EL.lawful N.the_type N'.the_laws 𝓛 tt).typed r.answer _ (answer-is r _ is)).0) $
         -- the borrow is closed at the new struct
-        drop ! $ move ! (7 ∷ []) $ drop ! $ owned ! S.the_row (Is S.the_row) (LL.makes S.the_type S'.the_plain 𝓛) r.phase _ (struct_is r _ is) $ move ! (7 ∷ 0 ∷ 8 ∷ 9 ∷ 10 ∷ []) $ closes ! tt S.the_row r.phase (structVal r.phase ∷ []) b o $
+        drop ! $ move ! (7 ∷ []) $ drop ! $ owned ! S.the_row (Is S.the_row) (LL.makes S.the_type S'.the_plain 𝓛) r.phase _ (struct_is r _ is) $ move ! (7 ∷ 0 ∷ 8 ∷ 9 ∷ 10 ∷ []) $ closes ! tt S.the_row r.phase (struct_val r.phase ∷ []) b o $
         returns ! (look ! 45 refl) $ forget ! 13 refl $ forget ! 15 refl $ forget ! 17 refl $ forget ! 19 refl $ forget ! 21 refl $ forget ! 23 refl $ forget ! 25 refl $ forget ! 27 refl $ forget ! 29 refl $ forget ! 31 refl $ forget ! 33 refl $ forget ! 35 refl $ forget ! 37 refl $ forget ! 39 refl $ forget ! 41 refl $ forget ! 43 refl $ forget ! 45 refl $
         move ! (45 ∷ 46 ∷ []) $ free1 ! $ move ! (43 ∷ 44 ∷ []) $ free1 ! $ move ! (41 ∷ 42 ∷ []) $ free1 ! $ move ! (39 ∷ 40 ∷ []) $ free1 ! $ move ! (37 ∷ 38 ∷ []) $ free1 ! $ move ! (35 ∷ 36 ∷ []) $ free1 ! $ move ! (33 ∷ 34 ∷ []) $ free1 ! $ move ! (31 ∷ 32 ∷ []) $ free1 ! $ move ! (29 ∷ 30 ∷ []) $ free1 ! $ move ! (27 ∷ 28 ∷ []) $ free1 ! $ move ! (25 ∷ 26 ∷ []) $ free1 ! $ move ! (23 ∷ 24 ∷ []) $ free1 ! $ move ! (21 ∷ 22 ∷ []) $ free1 ! $ move ! (19 ∷ 20 ∷ []) $ free1 ! $ move ! (17 ∷ 18 ∷ []) $ free1 ! $ move ! (15 ∷ 16 ∷ []) $ free1 ! $ move ! (13 ∷ 14 ∷ []) $ free1 ! $ free0 ! $
         keep ! (0 ∷ 1 ∷ 2 ∷ 3 ∷ 7 ∷ 6 ∷ 4 ∷ 8 ∷ []) $ by ! (exits r zs.1.1.1.1.0 zs.1.1.1.1.1.1.0 zs.1.1.1.1.1.1.1.0 (answer-is r _ is) e e3 e5 e6))))))))))))))))))))))))))))

@@ -8,17 +8,17 @@ use borrow.Author.Tests.{not-true, not-false, lt-ltb, le-ltb}
 use lib.Dec.{ltb}
 use lib.ListN.{length, drop}
 use Rattle.parties.specs.protocol.Nodes.{count}
-use Rattle.parties.specs.protocol.Client.{readSome, readPieces, readFetches}
+use Rattle.parties.specs.protocol.Client.{read_some, read_pieces, read_fetches}
 use Rattle.parties.specs.records.Form.{rest}
-use Rattle.parties.proofs.records.FormLaws.{Goes, formed-sound, formed-broken}
-use Rattle.parties.proofs.client.FormLaws.{sizes, some-ends, fetches-none, fetches-left}
+use Rattle.parties.proofs.records.FormLaws.{Goes, formed_sound, formed_broken}
+use Rattle.parties.proofs.client.FormLaws.{sizes, some_ends, fetches_none, fetches_left}
 use Rattle.parties.proofs.client.form.fetches_form.Statement.{statement}
 use Rattle.parties.proofs.client.form.fetches_form.Tie as tie
 
-read : (c : tie.After-known-told) → let a = c.before.before.before.before.before.args in Goes a.t.now a.at c.before.p.given.0.0 (rest (readSome a.s (drop a.at a.t.now)))
+read : (c : tie.After-known-told) → let a = c.before.before.before.before.before.args in Goes a.t.now a.at c.before.p.given.0.0 (rest (read_some a.s (drop a.at a.t.now)))
 read c =
     let a = c.before.before.before.before.before.args in
-    formed-sound a.t.now a.at c.before.p.given.0.0 (rest (readSome a.s (drop a.at a.t.now))) c.before.before.before.some-form.result
+    formed_sound a.t.now a.at c.before.p.given.0.0 (rest (read_some a.s (drop a.at a.t.now))) c.before.before.before.some-form.result
     c.before.before.before.some-form.ensures c.before.p.given.1
 
 -- the pieces end within the area
@@ -27,15 +27,15 @@ ends : (c : tie.After-known-told) → let a = c.before.before.before.before.befo
 ends c =
     let a = c.before.before.before.before.before.args in
     let z = sizes a.s c.before.before.before.before.before.requires.0 in
-    let e = some-ends a.s a.t.now a.at c.before.p.given.0.0 (λ i. (c.before.before.before.before.shared-slice-known.given i).fits) (read c) in
+    let e = some_ends a.s a.t.now a.at c.before.p.given.0.0 (λ i. (c.before.before.before.before.shared-slice-known.given i).fits) (read c) in
     (omega (arith, z.pieces, c.before.before.before.before.before.requires.1, e), (read c).from)
 
 left : (c : tie.After-u16-at) → let a = c.before.before.before.before.before.before.args in let p = c.before.before.p.given.0.0 in let m = c.u16-at.result in
-    rest (readFetches a.s (drop a.at a.t.now))
-    ≡ cond (ltb m (2 ^ a.s.n) && ltb (count m) a.s.k) (rest (readPieces a.s (drop (p + 4) a.t.now))) none
+    rest (read_fetches a.s (drop a.at a.t.now))
+    ≡ cond (ltb m (2 ^ a.s.n) && ltb (count m) a.s.k) (rest (read_pieces a.s (drop (p + 4) a.t.now))) none
 left c =
     let a = c.before.before.before.before.before.before.args in
-    fetches-left a.s a.t.now a.at c.before.before.p.given.0.0 c.u16-at.result (read (c.before)).left (omega (arith, (ends (c.before)).0)) c.u16-at.ensures
+    fetches_left a.s a.t.now a.at c.before.before.p.given.0.0 c.u16-at.result (read (c.before)).left (omega (arith, (ends (c.before)).0)) c.u16-at.ensures
 
 some-form-requires : tie.Need-some-form-requires
 some-form-requires c κs = (c.before.requires.0, omega (arith, c.before.requires.1))
@@ -50,8 +50,8 @@ returns : tie.Need-returns
 returns c =
     let a = c.before.before.before.before.args in
     record {
-      told = sym (fetches-none a.s a.t.now a.at
-          (formed-broken a.t.now a.at (rest (readSome a.s (drop a.at a.t.now))) c.before.before.some-form.result c.before.before.some-form.ensures
+      told = sym (fetches_none a.s a.t.now a.at
+          (formed_broken a.t.now a.at (rest (read_some a.s (drop a.at a.t.now))) c.before.before.some-form.result c.before.before.some-form.ensures
           c.enum_told.given.1));
       within = tt;
     }
@@ -99,7 +99,7 @@ returns-4 c =
     let v = c.before.before.before.before.before.before.within in
     let w : ltb m (2 ^ a.s.n) ≡ true = sym v.ensures ∙ not-false v.result c.before.before.before.before.before.if1.false in
     let n : ltb (count m) a.s.k ≡ true = lt-ltb (count m) a.s.k (omega (arith, c.before.before.before.before.count.ensures, c.before.before.if2.false)) in
-    let q : rest (readPieces a.s (drop (p + 4) t)) ≡ none =
+    let q : rest (read_pieces a.s (drop (p + 4) t)) ≡ none =
     c.before.pieces.ensures
     ∙ ap (λ (b : Bool). cond b (some (drop (p + 4 + 2 * a.s.n + a.s.n * a.s.f) t)) none) (not-true c.before.pieces.result c.if3.true)
     in
@@ -131,7 +131,7 @@ returns-5 c =
     let v = x.before.before.within in
     let w : ltb m (2 ^ a.s.n) ≡ true = sym v.ensures ∙ not-false v.result x.before.if1.false in
     let n : ltb (count m) a.s.k ≡ true = lt-ltb (count m) a.s.k (omega (arith, x.count.ensures, c.before.before.before.before.if2.false)) in
-    let q : rest (readPieces a.s (drop (p + 4) t)) ≡ some (drop (p + 4 + 2 * a.s.n + a.s.n * a.s.f) t) =
+    let q : rest (read_pieces a.s (drop (p + 4) t)) ≡ some (drop (p + 4 + 2 * a.s.n + a.s.n * a.s.f) t) =
     c.before.before.before.pieces.ensures
     ∙ ap (λ (b : Bool). cond b (some (drop (p + 4 + 2 * a.s.n + a.s.n * a.s.f) t)) none) (not-false c.before.before.before.pieces.result c.before.before.if3.false)
     in

@@ -4,7 +4,7 @@ use mathlib.Core.Bool.{Bool, cond}
 use mathlib.Core.Option.{some, none}
 use Prim.Native.Nat.{◌+◌}
 use lib.ListN.{drop}
-use Rattle.parties.proofs.client.FormLaws.{piece-broken, piece-left}
+use Rattle.parties.proofs.client.FormLaws.{piece-broken, piece_left}
 use Rattle.parties.proofs.client.form.piece.Statement.{statement}
 use Rattle.parties.proofs.client.form.piece.Tie as tie
 
@@ -23,7 +23,7 @@ zero-run-requires c κs = search rules
 returns-2 : tie.Need-returns-2
 returns-2 c =
     let a = c.before.before.before.before.before.args in
-    piece-left a.s a.t.now a.at a.l c.before.before.before.before.before.requires (λ i. (c.before.before.before.before.shared-slice-known.given i).fits)
+    piece_left a.s a.t.now a.at a.l c.before.before.before.before.before.requires (λ i. (c.before.before.before.before.shared-slice-known.given i).fits)
     c.before.before.if1.false
     ∙ ap (λ (b : Bool). cond b (some (drop (a.at + a.s.f) a.t.now)) none) (sym c.zero-run.ensures)
 

@@ -7,17 +7,17 @@ use native.Mathlib.Omega.{arith}
 use borrow.Author.Tests.{not-true, not-false}
 use lib.ListN.{drop}
 use Rattle.coding.proofs.BytesLaws.{stride}
-use Rattle.parties.specs.protocol.Format.{readNumber, readMany}
-use Rattle.parties.specs.protocol.Client.{readPieces}
+use Rattle.parties.specs.protocol.Format.{read_number, read_many}
+use Rattle.parties.specs.protocol.Client.{read_pieces}
 use Rattle.parties.specs.records.Form.{rest}
 use Rattle.parties.proofs.records.SizeLaws.{below_rows}
-use Rattle.parties.proofs.client.FormLaws.{sizes, leftEach, pieces-start, pieces-turn, pieces-broken, pieces_end}
+use Rattle.parties.proofs.client.FormLaws.{sizes, left_each, pieces_start, pieces_turn, pieces-broken, pieces_end}
 use Rattle.parties.proofs.client.form.pieces.Statement.{statement}
 use Rattle.parties.proofs.client.form.pieces.Tie as tie
 
 abbrev invariant-loop : tie.invariant-loop
 invariant-loop s t from n f q₀ p₀ i₀ q p i = (i ≤ s.n) × (q ≡ from + 2 * i) × (p ≡ from + 2 * s.n + i * s.f)
-    × (rest (readPieces s (drop from t)) ≡ leftEach s (readMany (readNumber 2) (s.n - i) (drop q t)) (drop p t))
+    × (rest (read_pieces s (drop from t)) ≡ left_each s (read_many (read_number 2) (s.n - i) (drop q t)) (drop p t))
 
 abbrev decreases-loop : tie.decreases-loop
 decreases-loop s t from n f q₀ p₀ i₀ q p i = s.n - i
@@ -35,8 +35,8 @@ loop-holds c =
       omega arith,
       omega arith,
       omega arith,
-      pieces-start a.s a.t.now a.from (omega (arith, c.before.requires.1))
-          ∙ ap (λ (k : ℕ). leftEach a.s (readMany (readNumber 2) k (drop a.from a.t.now)) (drop (a.from + 2 * a.s.n) a.t.now)) (sym e),
+      pieces_start a.s a.t.now a.from (omega (arith, c.before.requires.1))
+          ∙ ap (λ (k : ℕ). left_each a.s (read_many (read_number 2) k (drop a.from a.t.now)) (drop (a.from + 2 * a.s.n) a.t.now)) (sym e),
     )
 
 u16-at-requires : tie.Need-u16-at-requires invariant-loop decreases-loop
@@ -92,7 +92,7 @@ loop-again c =
       omega arith,
       omega (arith, stride l.i a.s.f),
       l.invariant.3
-          ∙ pieces-turn a.s a.t.now l.i c.before.before.before.loop-test.true l.q l.p u.result u.ensures (drop (l.p + a.s.f) a.t.now)
+          ∙ pieces_turn a.s a.t.now l.i c.before.before.before.loop-test.true l.q l.p u.result u.ensures (drop (l.p + a.s.f) a.t.now)
           (r.ensures ∙ ap (λ (x : Bool). cond x (some (drop (l.p + a.s.f) a.t.now)) none) (not-false r.result c.if1.false)),
     )
 

@@ -5,7 +5,7 @@ use Prim.Native.Nat.{◌^◌}
 use native.Mathlib.Omega.{arith}
 use borrow.Author.Tests.{not-true, not-false}
 use lib.Dec.{ltb}
-use Rattle.parties.specs.protocol.Message.{properVersion}
+use Rattle.parties.specs.protocol.Message.{proper_version}
 use Rattle.parties.proofs.client.FormLaws.{sizes}
 use Rattle.parties.proofs.client.form.proper_stores.Statement.{statement}
 use Rattle.parties.proofs.client.form.proper_stores.Tie as tie
@@ -17,13 +17,13 @@ returns : tie.Need-returns
 returns c =
     let a = c.before.before.args in
     let p = c.before.proper in
-    let q : properVersion a.s a.v ≡ false = sym p.ensures ∙ not-true p.result c.if1.true in
+    let q : proper_version a.s a.v ≡ false = sym p.ensures ∙ not-true p.result c.if1.true in
     simp q
 
 within-requires : tie.Need-within-requires
 within-requires c κs = (sizes c.before.before.args.s c.before.before.requires).nodes
 
-proper : (c : tie.Else1) → properVersion c.before.before.args.s c.before.before.args.v ≡ true
+proper : (c : tie.Else1) → proper_version c.before.before.args.s c.before.before.args.v ≡ true
 proper c = let p = c.before.proper in sym p.ensures ∙ not-false p.result c.if1.false
 
 returns-2 : tie.Need-returns-2

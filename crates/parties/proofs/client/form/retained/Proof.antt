@@ -6,11 +6,11 @@ use Prim.Native.Nat.{ℕ, ◌+◌, ◌*◌}
 use native.Mathlib.Omega.{arith}
 use borrow.Author.Tests.{not-true, not-false}
 use lib.ListN.{drop}
-use Rattle.parties.specs.protocol.Measures.{pointerSize}
-use Rattle.parties.specs.protocol.Format.{readMany}
-use Rattle.parties.specs.protocol.Client.{readReserved}
+use Rattle.parties.specs.protocol.Measures.{pointer_size}
+use Rattle.parties.specs.protocol.Format.{read_many}
+use Rattle.parties.specs.protocol.Client.{read_reserved}
 use Rattle.parties.specs.records.Form.{rest}
-use Rattle.parties.proofs.client.FormLaws.{sizes, retained-broken, retained-left}
+use Rattle.parties.proofs.client.FormLaws.{sizes, retained-broken, retained_left}
 use Rattle.parties.proofs.client.form.retained.Statement.{statement}
 use Rattle.parties.proofs.client.form.retained.Tie as tie
 
@@ -26,7 +26,7 @@ returns c =
     let p = c.before.pointer-areas in
     retained-broken a.s a.t.now c.before.before.before.before.requires.1
     (p.ensures
-    ∙ ap (λ (b : Bool). cond b (some (drop ((a.s.m + 1) * pointerSize a.s) a.t.now)) none) (not-true p.result c.if1.true))
+    ∙ ap (λ (b : Bool). cond b (some (drop ((a.s.m + 1) * pointer_size a.s) a.t.now)) none) (not-true p.result c.if1.true))
 
 add-reserved-versions : tie.Need-overflow-add-reserved-versions
 add-reserved-versions c = search rules
@@ -47,11 +47,11 @@ returns-2 c =
     let t = a.t.now in
     let v = c.reserved-versions in
     let size = c.before.before.before.before.pointer-size in
-    let k : (a.s.m + 1) * size.result ≡ (a.s.m + 1) * pointerSize a.s = ap (λ (x : ℕ). (a.s.m + 1) * x) size.ensures in
-    retained-left a.s t c.before.before.before.before.before.before.requires.1
-    (p.ensures ∙ ap (λ (b : Bool). cond b (some (drop ((a.s.m + 1) * pointerSize a.s) t)) none) (not-false p.result c.before.before.if1.false))
+    let k : (a.s.m + 1) * size.result ≡ (a.s.m + 1) * pointer_size a.s = ap (λ (x : ℕ). (a.s.m + 1) * x) size.ensures in
+    retained_left a.s t c.before.before.before.before.before.before.requires.1
+    (p.ensures ∙ ap (λ (b : Bool). cond b (some (drop ((a.s.m + 1) * pointer_size a.s) t)) none) (not-false p.result c.before.before.if1.false))
     v.result
-    (subst (λ (x : ℕ). rest (readMany (readReserved a.s) a.s.m (drop x t)) ≡ cond v.result (some (drop (x + a.s.m * 5) t)) none) k
+    (subst (λ (x : ℕ). rest (read_many (read_reserved a.s) a.s.m (drop x t)) ≡ cond v.result (some (drop (x + a.s.m * 5) t)) none) k
     v.ensures)
 
 pub retained-spec : {M : Type 1} → statement M

@@ -7,7 +7,7 @@ use lib.ListN.{drop}
 use Rattle.parties.specs.records.Form.{Formed}
 use Rattle.parties.proofs.records.RecordLaws.{bytes_drop}
 use Rattle.parties.proofs.records.PlaceLaws.{version-read}
-use Rattle.parties.proofs.client.FormLaws.{some-broken, some_left}
+use Rattle.parties.proofs.client.FormLaws.{some_broken, some_left}
 use Rattle.parties.proofs.client.form.some_form.Statement.{statement}
 use Rattle.parties.proofs.client.form.some_form.Tie as tie
 
@@ -23,7 +23,7 @@ returns c =
     let a = x.args in
     let v = c.before.before.version-at in
     record {
-      told = sym (some-broken a.s (drop a.at a.t.now) (drop (a.at + 5) a.t.now) v.result
+      told = sym (some_broken a.s (drop a.at a.t.now) (drop (a.at + 5) a.t.now) v.result
           (version-read a.t.now a.at v.result v.ensures x.requires.1)
           (bytes_drop a.at a.t.now (λ i. (c.before.before.before.shared-slice-known.given i).fits)) (sym c.before.is_none.ensures ∙ c.if1.true));
       within = tt;

@@ -1,5 +1,5 @@
 use mathlib.Core.Path.{sym, ◌∙◌}
-use Rattle.parties.proofs.client.FreeListLaws.{place-within, added-old, added_new}
+use Rattle.parties.proofs.client.FreeListLaws.{place_within, added_old, added_new}
 use borrow.Author.Rules.{rules}
 use Rattle.parties.proofs.client.free.add_version.Statement.{statement}
 use Rattle.parties.proofs.client.free.add_version.Tie as tie
@@ -19,7 +19,7 @@ returns c =
     let a = x.args in
     let p = x.requires in
     let j = c.before.before.before.seek in
-    added-old a.room.now (λ i. (c.before.before.before.before.before.slice-known.given i).fits) a.v a.count j.result j.ensures p
+    added_old a.room.now (λ i. (c.before.before.before.before.before.slice-known.given i).fits) a.v a.count j.result j.ensures p
     (sym c.before.reaches.ensures ∙ c.if1.true)
 
 put-in-requires : tie.Need-put-in-requires
@@ -27,7 +27,7 @@ put-in-requires c κs =
     let a = c.before.before.before.before.before.before.before.args in
     let p = c.before.before.before.before.before.before.before.requires in
     let j = c.before.before.before.before.seek in
-    (place-within a.room.now a.v a.count j.result j.ensures, p)
+    (place_within a.room.now a.v a.count j.result j.ensures, p)
 
 add-result : tie.Need-overflow-add-result
 add-result c = search rules

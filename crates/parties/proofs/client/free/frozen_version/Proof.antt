@@ -1,7 +1,7 @@
 use mathlib.Core.Path.{ap, ◌∙◌}
 use Prim.Native.Nat.{ℕ, ◌+◌, ◌*◌}
 use native.Mathlib.Omega.{arith}
-use Rattle.parties.proofs.client.FreeListLaws.{frozen-there, frozen-bound}
+use Rattle.parties.proofs.client.FreeListLaws.{frozen-there, frozen_bound}
 use borrow.Author.Rules.{rules}
 use Rattle.parties.proofs.client.free.frozen_version.Statement.{statement}
 use Rattle.parties.proofs.client.free.frozen_version.Tie as tie
@@ -16,7 +16,7 @@ mul-version-at : tie.Need-overflow-mul-version-at
 mul-version-at c =
     let a = c.before.before.args in
     let p = c.before.before.requires in
-    omega (arith, frozen-bound a.s p.0.0 a.q p.1, ap (λ (x : ℕ). (a.q + 1) * x) c.pointer-size.ensures)
+    omega (arith, frozen_bound a.s p.0.0 a.q p.1, ap (λ (x : ℕ). (a.q + 1) * x) c.pointer-size.ensures)
 
 version-at-requires : tie.Need-version-at-requires
 version-at-requires c κs =

@@ -4,17 +4,17 @@ use mathlib.Core.List.{List}
 use Prim.Native.Nat.{ℕ, ◌-◌, ◌≤◌}
 use native.Mathlib.Omega.{arith}
 use lib.ListN.{length}
-use Rattle.parties.specs.client.Found.{retainedIn}
-use Rattle.parties.specs.client.FreeList.{Listing, freedUpTo}
+use Rattle.parties.specs.client.Found.{retained_in}
+use Rattle.parties.specs.client.FreeList.{Listing, freed_up_to}
 use Rattle.parties.proofs.client.FormLaws.{sizes}
-use Rattle.parties.proofs.client.FreeListLaws.{listing-few, listing-all, room-enough}
+use Rattle.parties.proofs.client.FreeListLaws.{listing_few, listing_all, room-enough}
 use Rattle.parties.proofs.client.free.put_free_list.Statement.{statement}
 use Rattle.parties.proofs.client.free.put_free_list.Tie as tie
 
 abbrev invariant-loop : tie.invariant-loop
 invariant-loop s map v area room₀ m start count₀ q₀ room count q =
     (q ≤ m) × (length room ≡ length room₀)
-    × ((first : List ℕ) → Listing first (freedUpTo s map (retainedIn s area) v 0) start room₀ → Listing first (freedUpTo s map (retainedIn s area) v q) count room)
+    × ((first : List ℕ) → Listing first (freed_up_to s map (retained_in s area) v 0) start room₀ → Listing first (freed_up_to s map (retained_in s area) v q) count room)
 
 abbrev decreases-loop : tie.decreases-loop
 decreases-loop s map v area room₀ m start count₀ q₀ room count q = m - q
@@ -37,7 +37,7 @@ free-client-requires c κs =
       c.before.loop-test.true,
       omega (
         arith,
-        listing-few a.s a.map (retainedIn a.s a.area.now) a.v l.q a.room.now l.count l.room x,
+        listing_few a.s a.map (retained_in a.s a.area.now) a.v l.q a.room.now l.count l.room x,
         room-enough
             a.s,
         p.3,
@@ -68,7 +68,7 @@ mul-result c =
     let l = c.before.loop in
     let f = c.before.before.before.before.start-list in
     let x = l.invariant.2 a.room.now f.ensures in
-    omega (arith, listing-few a.s a.map (retainedIn a.s a.area.now) a.v l.q a.room.now l.count l.room x, (sizes a.s p.0).clients, l.invariant.0)
+    omega (arith, listing_few a.s a.map (retained_in a.s a.area.now) a.v l.q a.room.now l.count l.room x, (sizes a.s p.0).clients, l.invariant.0)
 
 add-result : tie.Need-overflow-add-result invariant-loop decreases-loop
 add-result c =
@@ -77,7 +77,7 @@ add-result c =
     let l = c.before.loop in
     let f = c.before.before.before.before.start-list in
     let x = l.invariant.2 a.room.now f.ensures in
-    omega (arith, listing-few a.s a.map (retainedIn a.s a.area.now) a.v l.q a.room.now l.count l.room x, (sizes a.s p.0).clients, l.invariant.0)
+    omega (arith, listing_few a.s a.map (retained_in a.s a.area.now) a.v l.q a.room.now l.count l.room x, (sizes a.s p.0).clients, l.invariant.0)
 
 same_length : tie.Need-same-length invariant-loop decreases-loop
 same_length c = c.before.loop.invariant.1 ∙ c.before.before.before.before.start-list.auto.1.1.1.1.0
@@ -89,7 +89,7 @@ returns c =
     let l = c.before.loop in
     let f = c.before.before.before.before.start-list in
     let x = l.invariant.2 a.room.now f.ensures in
-    listing-all a.s a.map (retainedIn a.s a.area.now) a.v l.q a.room.now l.count l.room x (omega (arith, l.invariant.0, c.loop-test.false))
+    listing_all a.s a.map (retained_in a.s a.area.now) a.v l.q a.room.now l.count l.room x (omega (arith, l.invariant.0, c.loop-test.false))
 
 pub put-free-list-spec : {M : Type 1} → statement M
 put-free-list-spec =

@@ -1,4 +1,4 @@
-use Rattle.parties.proofs.client.FreeListLaws.{put-in-laid}
+use Rattle.parties.proofs.client.FreeListLaws.{put_in_laid}
 use borrow.Author.Rules.{rules}
 use Rattle.parties.proofs.client.free.put_in.Statement.{statement}
 use Rattle.parties.proofs.client.free.put_in.Tie as tie
@@ -28,7 +28,7 @@ returns : tie.Need-returns
 returns c =
     let a = c.before.before.before.before.before.before.before.before.before.args in
     let p = c.before.before.before.before.before.before.before.before.before.requires in
-    put-in-laid a.room.now a.j a.count a.v p.0 p.1 _ _ c.before.before.before.before.before.before.move_up.ensures c.before.before.put-version.ensures
+    put_in_laid a.room.now a.j a.count a.v p.0 p.1 _ _ c.before.before.before.before.before.before.move_up.ensures c.before.before.put-version.ensures
 
 pub put-in-spec : {M : Type 1} → statement M
 put-in-spec =

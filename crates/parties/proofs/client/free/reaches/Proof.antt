@@ -1,12 +1,12 @@
 use mathlib.Core.Path.{ap, ◌∙◌}
 use mathlib.Core.Bool.{not}
-use Rattle.parties.proofs.client.FreeListLaws.{reaches-none, reaches_here}
+use Rattle.parties.proofs.client.FreeListLaws.{reaches_none, reaches_here}
 use borrow.Author.Rules.{rules}
 use Rattle.parties.proofs.client.free.reaches.Statement.{statement}
 use Rattle.parties.proofs.client.free.reaches.Tie as tie
 
 returns : tie.Need-returns
-returns c = let a = c.before.before.args in reaches-none a.room.now a.count a.j a.v c.if1.true
+returns c = let a = c.before.before.args in reaches_none a.room.now a.count a.j a.v c.if1.true
 
 mul-version-at : tie.Need-overflow-mul-version-at
 mul-version-at c = search rules

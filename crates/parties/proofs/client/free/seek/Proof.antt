@@ -5,7 +5,7 @@ use borrow.Author.Tests.{not-true, not-false}
 use Rattle.coding.proofs.BytesLaws.{stride}
 use Rattle.parties.specs.records.Places.{rank}
 use Rattle.parties.proofs.records.SizeLaws.{below_rows}
-use Rattle.parties.proofs.node.SeekLaws.{rank-end, rank-found, rank-on}
+use Rattle.parties.proofs.node.SeekLaws.{rank_end, rank-found, rank_on}
 use Rattle.parties.proofs.client.free.seek.Statement.{statement}
 use Rattle.parties.proofs.client.free.seek.Tie as tie
 
@@ -62,7 +62,7 @@ loop-again c =
     let l = c.before.before.before.before.loop in
     let version-at = c.before.before.version-at in
     let r : rank 5 a.room.now a.v l.at (a.count - l.j) ≡ rank 5 a.room.now a.v (l.at + 5) (a.count - l.j - 1) + 1 =
-    rank-on 5 a.room.now a.v l.at (a.count - l.j) version-at.result version-at.ensures (omega arith)
+    rank_on 5 a.room.now a.v l.at (a.count - l.j) version-at.result version-at.ensures (omega arith)
     (sym c.before.below.ensures ∙ not-false c.before.below.result c.if1.false)
     in
     let k : a.count - l.j - 1 ≡ a.count - (l.j + 1) = omega arith in
@@ -72,7 +72,7 @@ returns-2 : tie.Need-returns-2 invariant-loop decreases-loop
 returns-2 c =
     let a = c.before.before.before.args in
     let r : rank 5 a.room.now a.v c.before.loop.at (a.count - c.before.loop.j) ≡ 0 =
-    rank-end 5 a.room.now a.v c.before.loop.at (a.count - c.before.loop.j) (omega arith)
+    rank_end 5 a.room.now a.v c.before.loop.at (a.count - c.before.loop.j) (omega arith)
     in omega arith
 
 pub seek-spec : {M : Type 1} → statement M

@@ -2,15 +2,15 @@
 use mathlib.Core.Path.{sym, ◌∙◌}
 use Prim.Native.Nat.{◌-◌, ◌≤◌}
 use native.Mathlib.Omega.{arith}
-use Rattle.parties.specs.client.Found.{retainedIn}
-use Rattle.parties.specs.client.Freeze.{frozenNow, reservedNow}
+use Rattle.parties.specs.client.Found.{retained_in}
+use Rattle.parties.specs.client.Freeze.{frozen_now, reserved_now}
 use Rattle.parties.proofs.client.FormLaws.{sizes}
-use Rattle.parties.proofs.client.FreeListLaws.{Clear, clear_none, clear-more, none-same, stays-none, stays-found, stays-not}
+use Rattle.parties.proofs.client.FreeListLaws.{Clear, clear_none, clear_more, none-same, stays-none, stays-found, stays_not}
 use Rattle.parties.proofs.client.free.stays.Statement.{statement}
 use Rattle.parties.proofs.client.free.stays.Tie as tie
 
 abbrev invariant-loop : tie.invariant-loop
-invariant-loop s map new area v m q₀ q = (q ≤ m) × Clear v (frozenNow map (retainedIn s area) new) (reservedNow map (retainedIn s area)) q
+invariant-loop s map new area v m q₀ q = (q ≤ m) × Clear v (frozen_now map (retained_in s area) new) (reserved_now map (retained_in s area)) q
 
 abbrev decreases-loop : tie.decreases-loop
 decreases-loop s map new area v m q₀ q = m - q
@@ -21,13 +21,13 @@ is-none-requires c κs = tt
 returns : tie.Need-returns invariant-loop decreases-loop
 returns c =
     let a = c.before.before.before.args in
-    stays-none a.v a.s a.map (retainedIn a.s a.area.now) a.new (sym (none-same a.v) ∙ sym c.before.is_none.ensures ∙ c.if1.true)
+    stays-none a.v a.s a.map (retained_in a.s a.area.now) a.new (sym (none-same a.v) ∙ sym c.before.is_none.ensures ∙ c.if1.true)
 
 loop-holds : tie.Need-loop-init invariant-loop decreases-loop
 loop-holds c =
     let a = c.before.before.before.args in
-    let x = retainedIn a.s a.area.now in
-    (omega arith, clear_none a.v (frozenNow a.map x a.new) (reservedNow a.map x) (sym (none-same a.v) ∙ sym c.before.is_none.ensures ∙ c.if1.false))
+    let x = retained_in a.s a.area.now in
+    (omega arith, clear_none a.v (frozen_now a.map x a.new) (reserved_now a.map x) (sym (none-same a.v) ∙ sym c.before.is_none.ensures ∙ c.if1.false))
 
 kept-for-requires : tie.Need-kept-for-requires invariant-loop decreases-loop
 kept-for-requires c κs = (c.before.before.before.before.before.requires, c.loop-test.true)
@@ -36,7 +36,7 @@ returns-2 : tie.Need-returns-2 invariant-loop decreases-loop
 returns-2 c =
     let a = c.before.before.before.before.before.before.before.args in
     let l = c.before.before.before.loop in
-    stays-found a.v a.s a.map (retainedIn a.s a.area.now) a.new l.q c.before.before.loop-test.true l.invariant.1 (sym c.before.kept_for.ensures ∙ c.if2.true)
+    stays-found a.v a.s a.map (retained_in a.s a.area.now) a.new l.q c.before.before.loop-test.true l.invariant.1 (sym c.before.kept_for.ensures ∙ c.if2.true)
 
 add-q : tie.Need-overflow-add-q invariant-loop decreases-loop
 add-q c =
@@ -50,10 +50,10 @@ loop-again : tie.Need-loop-preserved invariant-loop decreases-loop
 loop-again c =
     let y = c.before.before.before.before.before.before in
     let a = y.before.args in
-    let x = retainedIn a.s a.area.now in
+    let x = retained_in a.s a.area.now in
     let l = c.before.before.before.loop in (
       omega (arith, c.before.before.loop-test.true),
-      clear-more a.v (frozenNow a.map x a.new) (reservedNow a.map x) l.q l.invariant.1
+      clear_more a.v (frozen_now a.map x a.new) (reserved_now a.map x) l.q l.invariant.1
           (sym c.before.kept_for.ensures ∙ c.if2.false),
     )
 
@@ -61,7 +61,7 @@ returns-3 : tie.Need-returns-3 invariant-loop decreases-loop
 returns-3 c =
     let a = c.before.before.before.before.before.args in
     let l = c.before.loop in
-    stays-not a.v a.s a.map (retainedIn a.s a.area.now) a.new l.q (omega (arith, l.invariant.0, c.loop-test.false)) l.invariant.1
+    stays_not a.v a.s a.map (retained_in a.s a.area.now) a.new l.q (omega (arith, l.invariant.0, c.loop-test.false)) l.invariant.1
 
 pub stays-spec : {M : Type 1} → statement M
 stays-spec =

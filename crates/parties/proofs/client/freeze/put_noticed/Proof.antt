@@ -1,5 +1,5 @@
 use native.Mathlib.Omega.{arith}
-use Rattle.parties.proofs.client.RetainLaws.{fits, noticed-put}
+use Rattle.parties.proofs.client.RetainLaws.{fits, noticed_put}
 use borrow.Author.Rules.{rules}
 use Rattle.parties.proofs.client.freeze.put_noticed.Statement.{statement}
 use Rattle.parties.proofs.client.freeze.put_noticed.Tie as tie
@@ -91,7 +91,7 @@ returns c =
     let a = y.before.before.before.args in
     let p = y.before.before.before.requires in
     let z = fits a.s p.0 a.size a.q p.1 p.3 in
-    noticed-put a.s a.q a.i a.size a.at p.1 p.2 (omega (arith, z.within, z.same, p.2)) a.area.now _ _ _
+    noticed_put a.s a.q a.i a.size a.at p.1 p.2 (omega (arith, z.within, z.same, p.2)) a.area.now _ _ _
     x.before.before.before.before.move_down.ensures x.move_up.ensures c.before.before.put-u32.ensures
 
 pub put-noticed-spec : {M : Type 1} → statement M

@@ -2,15 +2,15 @@
 use mathlib.Core.Path.{◌≡◌, ◌∙◌}
 use Prim.Native.Nat.{◌-◌, ◌≤◌}
 use native.Mathlib.Omega.{arith}
-use Rattle.parties.specs.protocol.Directory.{readDirectory}
+use Rattle.parties.specs.protocol.Directory.{read_directory}
 use Rattle.parties.specs.client.Draw.{rows_of}
 use Rattle.parties.proofs.client.FormLaws.{sizes}
-use Rattle.parties.proofs.client.FreezeLaws.{Retaining, retaining-none, retaining-length, retaining-more, retaining-ends}
+use Rattle.parties.proofs.client.FreezeLaws.{Retaining, retaining_none, retaining_length, retaining_more, retaining_ends}
 use Rattle.parties.proofs.client.freeze.retain.Statement.{statement}
 use Rattle.parties.proofs.client.freeze.retain.Tie as tie
 
 abbrev invariant-loop : tie.invariant-loop
-invariant-loop s map rows area₀ size at work m q₀ area q = (q ≤ m) × Retaining s map (rows_of (readDirectory s rows)) area₀ area q
+invariant-loop s map rows area₀ size at work m q₀ area q = (q ≤ m) × Retaining s map (rows_of (read_directory s rows)) area₀ area q
 
 abbrev decreases-loop : tie.decreases-loop
 decreases-loop s map rows area₀ size at work m q₀ area q = m - q
@@ -28,7 +28,7 @@ loop-holds : tie.Need-loop-init invariant-loop decreases-loop
 loop-holds c =
     let a = c.before.before.before.before.before.args in
     let p = c.before.before.before.before.before.requires in
-    (omega arith, retaining-none a.s a.map (rows_of (readDirectory a.s a.rows.now)) a.area.now (λ i. (c.before.before.before.slice-known.given i).fits) p.1 p.2 p.3)
+    (omega arith, retaining_none a.s a.map (rows_of (read_directory a.s a.rows.now)) a.area.now (λ i. (c.before.before.before.slice-known.given i).fits) p.1 p.2 p.3)
 
 retain-one-requires : tie.Need-retain-one-requires invariant-loop decreases-loop
 retain-one-requires c κs =
@@ -43,7 +43,7 @@ retain-one-requires c κs =
       omega (
         arith,
         p.1,
-        retaining-length a.s a.map (rows_of (readDirectory a.s a.rows.now)) a.area.now (λ i. (x.slice-known.given i).fits) p.1 p.2 p.3 l.area l.q
+        retaining_length a.s a.map (rows_of (read_directory a.s a.rows.now)) a.area.now (λ i. (x.slice-known.given i).fits) p.1 p.2 p.3 l.area l.q
             l.invariant.1,
       ),
       p.4,
@@ -67,7 +67,7 @@ loop-again c =
     let l = c.before.before.before.before.before.loop in
     let t = c.before.before.before.before.loop-test.true in (
       omega (arith, t),
-      retaining-more a.s a.map (rows_of (readDirectory a.s a.rows.now)) a.area.now (λ i. (x.before.before.before.slice-known.given i).fits) p.1 p.2
+      retaining_more a.s a.map (rows_of (read_directory a.s a.rows.now)) a.area.now (λ i. (x.before.before.before.slice-known.given i).fits) p.1 p.2
           p.3 l.area l.q l.invariant.1 t _ c.before.before.retain-one.ensures,
     )
 
@@ -89,7 +89,7 @@ move-down-requires c κs =
       omega (
         arith,
         p.1,
-        retaining-length a.s a.map (rows_of (readDirectory a.s a.rows.now)) a.area.now (λ i. (x.slice-known.given i).fits) p.1
+        retaining_length a.s a.map (rows_of (read_directory a.s a.rows.now)) a.area.now (λ i. (x.slice-known.given i).fits) p.1
             p.2 p.3 l.area l.q l.invariant.1,
         c.before.before.before.before.work-at.ensures,
         c.before.before.before.before.before.pointer-size.ensures,
@@ -116,7 +116,7 @@ clear-requires c κs =
       omega (
         arith,
         p.1,
-        retaining-length a.s a.map (rows_of (readDirectory a.s a.rows.now)) a.area.now
+        retaining_length a.s a.map (rows_of (read_directory a.s a.rows.now)) a.area.now
             (λ i. (x.before.before.before.before.slice-known.given i).fits) p.1 p.2 p.3 l.area l.q
             l.invariant.1,
         c.before.before.before.move_down.auto.0,
@@ -132,7 +132,7 @@ same_length c =
     let a = y.before.before.before.args in
     let p = y.before.before.before.requires in
     let l = x.before.before.before.loop in
-    c.before.before.clear.auto.0 ∙ x.move_down.auto.0 ∙ retaining-length a.s a.map (rows_of (readDirectory a.s a.rows.now)) a.area.now
+    c.before.before.clear.auto.0 ∙ x.move_down.auto.0 ∙ retaining_length a.s a.map (rows_of (read_directory a.s a.rows.now)) a.area.now
     (λ i. (y.before.slice-known.given i).fits) p.1 p.2 p.3 l.area l.q l.invariant.1
 
 returns : tie.Need-returns invariant-loop decreases-loop
@@ -143,7 +143,7 @@ returns c =
     let p = y.before.before.before.requires in
     let l = x.before.before.before.loop in
     let e : l.q ≡ a.s.m = omega (arith, l.invariant.0, x.before.before.loop-test.false) in
-    retaining-ends a.s a.map (rows_of (readDirectory a.s a.rows.now)) a.area.now (λ i. (y.before.slice-known.given i).fits) p.1 p.2 p.3 l.area l.q
+    retaining_ends a.s a.map (rows_of (read_directory a.s a.rows.now)) a.area.now (λ i. (y.before.slice-known.given i).fits) p.1 p.2 p.3 l.area l.q
     l.invariant.1 e x.before.before.before.before.before.work-at.result y.pointer-size.result x.before.before.before.before.work-size.result
     x.before.before.before.before.before.work-at.ensures y.pointer-size.ensures x.before.before.before.before.work-size.ensures _ _ x.move_down.ensures
     c.before.before.clear.ensures

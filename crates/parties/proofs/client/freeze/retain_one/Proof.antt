@@ -1,7 +1,7 @@
 use mathlib.Core.Path.{sym, ap, ◌∙◌}
 use native.Mathlib.Omega.{arith}
 use borrow.Author.Tests.{not-true, not-false}
-use Rattle.coding.proofs.Cases.{chosen-yes, chosen-no}
+use Rattle.coding.proofs.Cases.{chosen_yes, chosen_no}
 use Rattle.parties.specs.declared.ReadingIndex.{ReadingIndex}
 use Rattle.parties.specs.client.Retain.{notice}
 use Rattle.parties.proofs.client.FormLaws.{sizes}
@@ -18,7 +18,7 @@ stands-requires c κs = (omega arith, omega (arith, (sizes c.before.before.args.
 returns : tie.Need-returns
 returns c =
     let x = c.before.stands in
-    chosen-no _ _ _ (sym x.ensures ∙ not-true x.result c.if1.true)
+    chosen_no _ _ _ (sym x.ensures ∙ not-true x.result c.if1.true)
 
 row-size-requires : tie.Need-row-size-requires
 row-size-requires c κs = search rules
@@ -38,7 +38,7 @@ returns-2 c =
     let x = c.before.before.before.before.before.before.before.stands in
     c.before.before.put-noticed.ensures
     ∙ ap (λ (i : ReadingIndex). notice a.s a.q i a.area.now) c.before.before.before.before.shown-index.ensures
-    ∙ chosen-yes _ _ _ (sym x.ensures ∙ not-false x.result c.before.before.before.before.before.before.if1.false)
+    ∙ chosen_yes _ _ _ (sym x.ensures ∙ not-false x.result c.before.before.before.before.before.before.if1.false)
 
 pub retain-one-spec : {M : Type 1} → statement M
 retain-one-spec =

@@ -3,10 +3,10 @@ use mathlib.Core.Path.{◌≡◌, sym, ◌∙◌}
 use mathlib.Core.Bool.{true}
 use borrow.Author.Tests.{not-true, not-false}
 use Rattle.parties.specs.protocol.Measures.{passes}
-use Rattle.parties.specs.protocol.Client.{readClient}
-use Rattle.parties.specs.protocol.ClientEvents.{onClient, unchanged}
-use Rattle.parties.specs.client.Record.{recordOf}
-use Rattle.parties.proofs.client.GateLaws.{guarded-measures, guarded-short, guarded-number, guarded-through, broken-record}
+use Rattle.parties.specs.protocol.Client.{read_client}
+use Rattle.parties.specs.protocol.ClientEvents.{on_client, unchanged}
+use Rattle.parties.specs.client.Record.{record_of}
+use Rattle.parties.proofs.client.GateLaws.{guarded-measures, guarded-short, guarded-number, guarded_through, broken_record}
 use Rattle.parties.proofs.client.gate.admit.Statement.{statement}
 use Rattle.parties.proofs.client.gate.admit.Tie as tie
 
@@ -20,24 +20,24 @@ returns : tie.Need-returns
 returns c =
     λ room out f.
     let a = c.before.before.before.args in
-    let client = recordOf a.p a.area.now in
-    guarded-measures a.s a.enough a.within (onClient a.s client room out (readClient a.s client) f) (λ x. unchanged x client room out)
+    let client = record_of a.p a.area.now in
+    guarded-measures a.s a.enough a.within (on_client a.s client room out (read_client a.s client) f) (λ x. unchanged x client room out)
     (sym c.before.pass.ensures ∙ not-true c.before.pass.result c.if1.true)
 
 returns-2 : tie.Need-returns-2
 returns-2 c =
     λ room out f.
     let a = c.before.before.before.before.args in
-    let client = recordOf a.p a.area.now in
-    guarded-short a.s a.enough a.within (onClient a.s client room out (readClient a.s client) f) (λ x. unchanged x client room out)
+    let client = record_of a.p a.area.now in
+    guarded-short a.s a.enough a.within (on_client a.s client room out (read_client a.s client) f) (λ x. unchanged x client room out)
     (measured c.before) (not-true a.enough c.if2.true)
 
 returns-3 : tie.Need-returns-3
 returns-3 c =
     λ room out f.
     let a = c.before.before.before.before.before.args in
-    let client = recordOf a.p a.area.now in
-    guarded-number a.s a.enough a.within (onClient a.s client room out (readClient a.s client) f) (λ x. unchanged x client room out)
+    let client = record_of a.p a.area.now in
+    guarded-number a.s a.enough a.within (on_client a.s client room out (read_client a.s client) f) (λ x. unchanged x client room out)
     (measured c.before.before) (not-false a.enough c.before.if2.false) (not-true a.within c.if3.true)
 
 sound-requires : tie.Need-sound-requires
@@ -48,10 +48,10 @@ returns-4 : tie.Need-returns-4
 returns-4 c =
     λ room out f.
     let a = c.before.before.before.before.before.before.before.args in
-    let client = recordOf a.p a.area.now in
-    guarded-through a.s a.enough a.within (onClient a.s client room out (readClient a.s client) f) (λ x. unchanged x client room out)
+    let client = record_of a.p a.area.now in
+    guarded_through a.s a.enough a.within (on_client a.s client room out (read_client a.s client) f) (λ x. unchanged x client room out)
     (measured c.before.before.before.before) (not-false a.enough c.before.before.before.if2.false) (not-false a.within c.before.before.if3.false)
-    ∙ broken-record a.s client room out (readClient a.s client) f (sym c.before.sound.ensures ∙ not-true c.before.sound.result c.if4.true)
+    ∙ broken_record a.s client room out (read_client a.s client) f (sym c.before.sound.ensures ∙ not-true c.before.sound.result c.if4.true)
 
 returns-5 : tie.Need-returns-5
 returns-5 c =

@@ -7,10 +7,10 @@ use borrow.Author.Tests.{not-true, not-false}
 use lib.Dec.{leb}
 use Rattle.coding.proofs.Cases.{and-true}
 use Rattle.parties.specs.protocol.Measures.{passes}
-use Rattle.parties.specs.protocol.ClientEvents.{roomSize}
-use Rattle.parties.specs.client.Record.{areaSize}
+use Rattle.parties.specs.protocol.ClientEvents.{room_size}
+use Rattle.parties.specs.client.Record.{area_size}
 use Rattle.parties.proofs.client.FormLaws.{sizes}
-use Rattle.parties.proofs.client.GateLaws.{three-fail, three-hold}
+use Rattle.parties.proofs.client.GateLaws.{three_fail, three_hold}
 use Rattle.parties.proofs.client.gate.area_room_and_output_long.Statement.{statement}
 use Rattle.parties.proofs.client.gate.area_room_and_output_long.Tie as tie
 
@@ -26,7 +26,7 @@ returns : tie.Need-returns
 returns c =
     let a = c.before.before.args in
     let l = c.before.area-and-room-long in
-    three-fail (passes a.s) (leb (areaSize a.s) a.area) (leb (roomSize a.s) a.room) (leb (a.s.k * a.s.f - 4) a.out) l.result l.ensures
+    three_fail (passes a.s) (leb (area_size a.s) a.area) (leb (room_size a.s) a.room) (leb (a.s.k * a.s.f - 4) a.out) l.result l.ensures
     (not-true l.result c.if1.true)
 
 mul-result : tie.Need-overflow-mul-result
@@ -39,7 +39,7 @@ returns-2 : tie.Need-returns-2
 returns-2 c =
     let a = c.before.before.before.args in
     let l = c.before.before.area-and-room-long in
-    three-hold (passes a.s) (leb (areaSize a.s) a.area) (leb (roomSize a.s) a.room) (leb (a.s.k * a.s.f - 4) a.out) l.result l.ensures
+    three_hold (passes a.s) (leb (area_size a.s) a.area) (leb (room_size a.s) a.room) (leb (a.s.k * a.s.f - 4) a.out) l.result l.ensures
     (not-false l.result c.before.if1.false)
 
 pub area-room-and-output-long-spec : {M : Type 1} → statement M

@@ -6,11 +6,11 @@ use native.Mathlib.Omega.{arith}
 use borrow.Author.Tests.{not-true, not-false}
 use lib.Dec.{leb}
 use Rattle.coding.proofs.Cases.{and-true}
-use Rattle.parties.specs.protocol.Measures.{passes, rowSize}
-use Rattle.parties.specs.protocol.ClientEvents.{roomSize}
-use Rattle.parties.specs.client.Record.{areaSize}
-use Rattle.parties.proofs.records.SizeLaws.{table-bound}
-use Rattle.parties.proofs.client.GateLaws.{rows-fail, rows-hold}
+use Rattle.parties.specs.protocol.Measures.{passes, row_size}
+use Rattle.parties.specs.protocol.ClientEvents.{room_size}
+use Rattle.parties.specs.client.Record.{area_size}
+use Rattle.parties.proofs.records.SizeLaws.{table_bound}
+use Rattle.parties.proofs.client.GateLaws.{rows_fail, rows_hold}
 use Rattle.parties.proofs.client.gate.area_rows_and_room_long.Statement.{statement}
 use Rattle.parties.proofs.client.gate.area_rows_and_room_long.Tie as tie
 
@@ -26,7 +26,7 @@ returns : tie.Need-returns
 returns c =
     let a = c.before.before.args in
     let l = c.before.area-and-room-long in
-    rows-fail (passes a.s) (leb (areaSize a.s) a.area) (leb (a.s.m * rowSize a.s) a.rows) (leb (roomSize a.s) a.room) l.result l.ensures
+    rows_fail (passes a.s) (leb (area_size a.s) a.area) (leb (a.s.m * row_size a.s) a.rows) (leb (room_size a.s) a.room) l.result l.ensures
     (not-true l.result c.if1.true)
 
 row-size-requires : tie.Need-row-size-requires
@@ -34,14 +34,14 @@ row-size-requires c κs = measured c
 
 mul-result : tie.Need-overflow-mul-result
 mul-result c =
-    let s = c.before.before.before.before.args.s in omega (arith, ap (λ (k : ℕ). s.m * k) c.before.row-size.ensures, table-bound s (measured c.before.before))
+    let s = c.before.before.before.before.args.s in omega (arith, ap (λ (k : ℕ). s.m * k) c.before.row-size.ensures, table_bound s (measured c.before.before))
 
 returns-2 : tie.Need-returns-2
 returns-2 c =
     let a = c.before.before.before.before.args in
     let l = c.before.before.before.area-and-room-long in
     ap (λ (k : ℕ). leb (a.s.m * k) a.rows) c.before.row-size.ensures
-    ∙ rows-hold (passes a.s) (leb (areaSize a.s) a.area) (leb (a.s.m * rowSize a.s) a.rows) (leb (roomSize a.s) a.room) l.result l.ensures
+    ∙ rows_hold (passes a.s) (leb (area_size a.s) a.area) (leb (a.s.m * row_size a.s) a.rows) (leb (room_size a.s) a.room) l.result l.ensures
     (not-false l.result c.before.before.if1.false)
 
 pub area-rows-and-room-long-spec : {M : Type 1} → statement M

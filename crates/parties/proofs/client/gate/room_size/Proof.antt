@@ -1,6 +1,6 @@
 use borrow.Author.Rules.{rules}
 use native.Mathlib.Omega.{arith}
-use Rattle.parties.proofs.records.SizeLaws.{row-bound}
+use Rattle.parties.proofs.records.SizeLaws.{row_bound}
 use Rattle.parties.proofs.client.FormLaws.{sizes}
 use Rattle.parties.proofs.client.gate.room_size.Statement.{statement}
 use Rattle.parties.proofs.client.gate.room_size.Tie as tie
@@ -17,7 +17,7 @@ add-result c = let a = c.before.before in omega (arith, (sizes a.args.s a.requir
 add-result-2 : tie.Need-overflow-add-result-2
 add-result-2 c =
     let a = c.before.before in
-    omega (arith, (sizes a.args.s a.requires).pieces, row-bound a.args.s a.requires, c.before.row-size.ensures)
+    omega (arith, (sizes a.args.s a.requires).pieces, row_bound a.args.s a.requires, c.before.row-size.ensures)
 
 returns : tie.Need-returns
 returns c = search rules

@@ -41,9 +41,9 @@ use denote.Triple.Table.{entered, cited}
 use denote.Triple.Walked.{says, Stays, stay_none, gave_slice, walk_of, AllGo, Goes-none, Goes-gave_slice, Walks, ends_at, walked, walk_Meets}
 use denote.Exit.{yes}
 use denote.Triple.Clauses.{ensured, lasts}
-use Rattle.parties.specs.protocol.ClientEvents.{clientFresh}
+use Rattle.parties.specs.protocol.ClientEvents.{client_fresh}
 use Rattle.parties.specs.client.Answer.{answered}
-use Rattle.parties.specs.client.Record.{recordOf}
+use Rattle.parties.specs.client.Record.{record_of}
 use Rattle.parties.specs.declared.Phase.{Phase}
 use Rattle.parties.specs.declared.ClientAnswer.{ClientAnswer}
 use Rattle.parties.specs.declared.Measures.{Measures}
@@ -59,7 +59,7 @@ use Rattle.parties.specs.contracts.client.event.fresh as callee
 use Rattle.parties.proofs.client.event.fresh.Symbol as callee-def
 use Rattle.parties.proofs.client.event.fresh.Symbol.{name as #event}
 use Rattle.parties.proofs.client.event.fresh.Met as callee-thm
-use Rattle.parties.proofs.client.LoanLaws.{structVal, StructIs, AnswerIs, both, both_is, answer_at, cell, Lies, cell_in, cell_out}
+use Rattle.parties.proofs.client.LoanLaws.{struct_val, StructIs, AnswerIs, both, both_is, answer_at, cell, Lies, cell_in, cell_out}
 use Rattle.parties.specs.contracts.client.lent.fresh.Key.{name as #lent}
 use Rattle.parties.specs.contracts.client.lent.fresh as lent
 use Rattle.parties.proofs.client.lent.fresh.Statement as stated
@@ -88,7 +88,7 @@ module _ {M : Type 1} {𝓤 : Ura M} (𝓛 : Logic 𝓤) (at_mem : Memory → SP
   a = (h, (n0, (x1, tt)))
 
   abbrev at : List Val × (List Val × (List Val × Unit {0}))
-  at = (structVal h ∷ [], (LL.val X0.the_type X0'.the_laws n0 ∷ [], (v1 ∷ [], tt)))
+  at = (struct_val h ∷ [], (LL.val X0.the_type X0'.the_laws n0 ∷ [], (v1 ∷ [], tt)))
 
   abbrev Post : Val → SProp 𝓤
   Post = (walk_of 𝓛 lent.ended stayed (lent.clauses 𝓛 at_mem run)).post (((κ1, tt), (q1, tt), tt, a, at), tt)
@@ -109,7 +109,7 @@ module _ {M : Type 1} {𝓤 : Ura M} (𝓛 : Logic 𝓤) (at_mem : Memory → SP
 
   -- what the callee says of its answer and of the last values
   abbrev Said : ClientAnswer → Phase → List ℕ → Type 0
-  Said r z zs1 = (answered r ≡ (clientFresh n0 (recordOf h ys1)).answer) × (recordOf z zs1 ≡ (clientFresh n0 (recordOf h ys1)).client)
+  Said r z zs1 = (answered r ≡ (client_fresh n0 (record_of h ys1)).answer) × (record_of z zs1 ≡ (client_fresh n0 (record_of h ys1)).client)
 
   exits : (r : ClientAnswer) (z : Phase) (zs1 : List ℕ) → StructIs z → AnswerIs r → Said r z zs1 → length zs1 ≡ length ys1
       → ent 𝓤 (⋆ 𝓛 ((‵ (flft κ1 q1) ⊛ ‵ ftrue) ∷ ‵ (finally u8 γ1 zs1) ∷ [])) (Post (only (LL.vals T.the_type T'.the_laws (both z r))))
@@ -119,10 +119,10 @@ module _ {M : Type 1} {𝓤 : Ura M} (𝓛 : Logic 𝓤) (at_mem : Memory → SP
       says ! e $ frame ! $ nothing ! $ move ! (1 ∷ 0 ∷ []) $ fjoin ! $ owned ! X0.the_row (Is X0.the_row) (LL.makes X0.the_type X0'.the_plain 𝓛) n0 _ f0 $ fjoin ! $ owned ! S.the_row (Is S.the_row) (LL.makes S.the_type S'.the_plain 𝓛) h _ g $ fjoin ! $ owned ! T.the_row (Is T.the_row) (LL.makes T.the_type T'.the_plain 𝓛) (both z r) _ (both_is z r hs rs) $ move ! (1 ∷ 0 ∷ []) $ done !
 
   module _ (C : Calls 𝓤 H) (Λ : Loops 𝓤 H) (fm : FmC 𝓤 H 𝓛.laws C) (known : Triple 𝓤 (C #event) (Callee 𝓛 at_mem run)) where
-    walk : Room u8 (length ys1) → ent 𝓤 (on_entry 𝓛 lent.signature (κ1, tt) (q1, tt) a at) (WpFn 𝓤 H C Λ code.function (structVal h ∷ LL.val X0.the_type X0'.the_laws n0 ∷ v1 ∷ []) Post)
+    walk : Room u8 (length ys1) → ent 𝓤 (on_entry 𝓛 lent.signature (κ1, tt) (q1, tt) a at) (WpFn 𝓤 H C Λ code.function (struct_val h ∷ LL.val X0.the_type X0'.the_laws n0 ∷ v1 ∷ []) Post)
     walk room1 =
         qed 𝓛 ((‵ (flft κ1 q1) ⊛ ‵ ftrue) ∷ ‵ (owns (S.the_row ∷ X0.the_row ∷ MutSlice (named 0) κ1 u8 ∷ []) a at) ∷ []) ∵
-        enter ! C Λ code.function (structVal h ∷ LL.val X0.the_type X0'.the_laws n0 ∷ v1 ∷ []) _ $
+        enter ! C Λ code.function (struct_val h ∷ LL.val X0.the_type X0'.the_laws n0 ∷ v1 ∷ []) _ $
         alloc1 ! (λ l0. alloc1 ! (λ l1. alloc1 ! (λ l2. alloc1 ! (λ l3. alloc1 ! (λ l4. alloc1 ! (λ l5. alloc1 ! (λ l6. alloc1 ! (λ l7. alloc1 ! (λ l8. alloc1 ! (λ l9. alloc0 ! $ params1 ! $
         pass1 ! (init ! 16 refl ((LL.lawful S.the_type S'.the_laws 𝓛).typed h _ g).0) $ pass1 ! (init ! 14 refl ((LL.lawful X0.the_type X0'.the_laws 𝓛).typed n0 _ f0).0) $ pass1 ! (init ! 12 refl (tt, (tt, (record { fits = room1.0 }, tt)))) $ pass0 ! $
         -- what is owned is taken apart, and the struct is copied to the local that is lent; each &mut slice is made anew for the call

@@ -42,9 +42,9 @@ use denote.Triple.Table.{entered, cited}
 use denote.Triple.Walked.{says, Stays, stay_none, stay_none_slice, gave_slice, walk_of, AllGo, Goes-none, Goes-none_slice, Goes-gave_slice, Walks, ends_at, walked, walk_Meets}
 use denote.Exit.{yes}
 use denote.Triple.Clauses.{ensured, lasts}
-use Rattle.parties.specs.protocol.ClientEvents.{clientMessage}
+use Rattle.parties.specs.protocol.ClientEvents.{client_message}
 use Rattle.parties.specs.client.Answer.{answered}
-use Rattle.parties.specs.client.Record.{recordOf}
+use Rattle.parties.specs.client.Record.{record_of}
 use Rattle.parties.specs.declared.Phase.{Phase}
 use Rattle.parties.specs.declared.ClientAnswer.{ClientAnswer}
 use Rattle.parties.specs.declared.Measures.{Measures}
@@ -60,7 +60,7 @@ use Rattle.parties.specs.contracts.client.event.receive as callee
 use Rattle.parties.proofs.client.event.receive.Symbol as callee-def
 use Rattle.parties.proofs.client.event.receive.Symbol.{name as #event}
 use Rattle.parties.proofs.client.event.receive.Met as callee-thm
-use Rattle.parties.proofs.client.LoanLaws.{structVal, StructIs, AnswerIs, both, both_is, answer_at, cell, Lies, cell_in, cell_out}
+use Rattle.parties.proofs.client.LoanLaws.{struct_val, StructIs, AnswerIs, both, both_is, answer_at, cell, Lies, cell_in, cell_out}
 use Rattle.parties.specs.contracts.client.lent.receive.Key.{name as #lent}
 use Rattle.parties.specs.contracts.client.lent.receive as lent
 use Rattle.parties.proofs.client.lent.receive.Statement as stated
@@ -107,7 +107,7 @@ module _ {M : Type 1} {𝓤 : Ura M} (𝓛 : Logic 𝓤) (at_mem : Memory → SP
   a = (h, (n0, (n1, (n2, (x3, (s4, (x5, (x6, tt))))))))
 
   abbrev at : List Val × (List Val × (List Val × (List Val × (List Val × (List Val × (List Val × (List Val × Unit {0})))))))
-  at = (structVal h ∷ [], (LL.val X0.the_type X0'.the_laws n0 ∷ [], (vint w64 n1 ∷ [], (vint w64 n2 ∷ [], (v3 ∷ [], (v4 ∷ [], (v5 ∷ [], (v6 ∷ [], tt))))))))
+  at = (struct_val h ∷ [], (LL.val X0.the_type X0'.the_laws n0 ∷ [], (vint w64 n1 ∷ [], (vint w64 n2 ∷ [], (v3 ∷ [], (v4 ∷ [], (v5 ∷ [], (v6 ∷ [], tt))))))))
 
   abbrev Post : Val → SProp 𝓤
   Post = (walk_of 𝓛 lent.ended stayed (lent.clauses 𝓛 at_mem run)).post (((κ1, (κ2, (κ3, (κ4, tt)))), (q1, (q2, (q3, (q4, tt)))), tt, a, at), tt)
@@ -128,7 +128,7 @@ module _ {M : Type 1} {𝓤 : Ura M} (𝓛 : Logic 𝓤) (at_mem : Memory → SP
 
   -- what the callee says of its answer and of the last values
   abbrev Said : ClientAnswer → Phase → List ℕ → List ℕ → List ℕ → Type 0
-  Said r z zs3 zs5 zs6 = (answered r ≡ (clientMessage n0 n1 n2 (recordOf h ys3) s4.now ys5 ys6).answer) × (recordOf z zs3 ≡ (clientMessage n0 n1 n2 (recordOf h ys3) s4.now ys5 ys6).client) × (zs5 ≡ (clientMessage n0 n1 n2 (recordOf h ys3) s4.now ys5 ys6).room) × (zs6 ≡ (clientMessage n0 n1 n2 (recordOf h ys3) s4.now ys5 ys6).out)
+  Said r z zs3 zs5 zs6 = (answered r ≡ (client_message n0 n1 n2 (record_of h ys3) s4.now ys5 ys6).answer) × (record_of z zs3 ≡ (client_message n0 n1 n2 (record_of h ys3) s4.now ys5 ys6).client) × (zs5 ≡ (client_message n0 n1 n2 (record_of h ys3) s4.now ys5 ys6).room) × (zs6 ≡ (client_message n0 n1 n2 (record_of h ys3) s4.now ys5 ys6).out)
 
   exits : (r : ClientAnswer) (z : Phase) (zs3 : List ℕ) (zs5 : List ℕ) (zs6 : List ℕ) → StructIs z → AnswerIs r → Said r z zs3 zs5 zs6 → length zs3 ≡ length ys3 → length zs5 ≡ length ys5 → length zs6 ≡ length ys6
       → ent 𝓤 (⋆ 𝓛 ((‵ (flft κ1 q1) ⊛ ‵ (flft κ2 q2) ⊛ ‵ (flft κ3 q3) ⊛ ‵ (flft κ4 q4) ⊛ ‵ ftrue) ∷ ‵ (finally u8 γ3 zs3) ∷ ‵ (finally u8 γ5 zs5) ∷ ‵ (finally u8 γ6 zs6) ∷ ‵ Shr4 ∷ [])) (Post (only (LL.vals T.the_type T'.the_laws (both z r))))
@@ -138,10 +138,10 @@ module _ {M : Type 1} {𝓤 : Ura M} (𝓛 : Logic 𝓤) (at_mem : Memory → SP
       says ! e $ frame ! $ nothing ! $ move ! (3 ∷ 0 ∷ []) $ fjoin ! $ move ! (2 ∷ 0 ∷ []) $ fjoin ! $ move ! (2 ∷ 0 ∷ []) $ fjoin ! $ move ! (1 ∷ 0 ∷ []) $ fjoin ! $ owned ! usize (Is usize) (uint_Makes 𝓛 w64) n2 _ (refl, f2) $ fjoin ! $ owned ! usize (Is usize) (uint_Makes 𝓛 w64) n1 _ (refl, f1) $ fjoin ! $ owned ! X0.the_row (Is X0.the_row) (LL.makes X0.the_type X0'.the_plain 𝓛) n0 _ f0 $ fjoin ! $ owned ! S.the_row (Is S.the_row) (LL.makes S.the_type S'.the_plain 𝓛) h _ g $ fjoin ! $ owned ! T.the_row (Is T.the_row) (LL.makes T.the_type T'.the_plain 𝓛) (both z r) _ (both_is z r hs rs) $ move ! (1 ∷ 0 ∷ []) $ done !
 
   module _ (C : Calls 𝓤 H) (Λ : Loops 𝓤 H) (fm : FmC 𝓤 H 𝓛.laws C) (known : Triple 𝓤 (C #event) (Callee 𝓛 at_mem run)) where
-    walk : Room u8 (length ys3) → Is (ShrSlice (named 1) κ2 u8) s4 (v4 ∷ []) → Room u8 (length ys5) → Room u8 (length ys6) → ent 𝓤 (on_entry 𝓛 lent.signature (κ1, (κ2, (κ3, (κ4, tt)))) (q1, (q2, (q3, (q4, tt)))) a at) (WpFn 𝓤 H C Λ code.function (structVal h ∷ LL.val X0.the_type X0'.the_laws n0 ∷ vint w64 n1 ∷ vint w64 n2 ∷ v3 ∷ v4 ∷ v5 ∷ v6 ∷ []) Post)
+    walk : Room u8 (length ys3) → Is (ShrSlice (named 1) κ2 u8) s4 (v4 ∷ []) → Room u8 (length ys5) → Room u8 (length ys6) → ent 𝓤 (on_entry 𝓛 lent.signature (κ1, (κ2, (κ3, (κ4, tt)))) (q1, (q2, (q3, (q4, tt)))) a at) (WpFn 𝓤 H C Λ code.function (struct_val h ∷ LL.val X0.the_type X0'.the_laws n0 ∷ vint w64 n1 ∷ vint w64 n2 ∷ v3 ∷ v4 ∷ v5 ∷ v6 ∷ []) Post)
     walk room3 g4 room5 room6 =
         qed 𝓛 ((‵ (flft κ1 q1) ⊛ ‵ (flft κ2 q2) ⊛ ‵ (flft κ3 q3) ⊛ ‵ (flft κ4 q4) ⊛ ‵ ftrue) ∷ ‵ (owns (S.the_row ∷ X0.the_row ∷ usize ∷ usize ∷ MutSlice (named 0) κ1 u8 ∷ ShrSlice (named 1) κ2 u8 ∷ MutSlice (named 2) κ3 u8 ∷ MutSlice (named 3) κ4 u8 ∷ []) a at) ∷ []) ∵
-        enter ! C Λ code.function (structVal h ∷ LL.val X0.the_type X0'.the_laws n0 ∷ vint w64 n1 ∷ vint w64 n2 ∷ v3 ∷ v4 ∷ v5 ∷ v6 ∷ []) _ $
+        enter ! C Λ code.function (struct_val h ∷ LL.val X0.the_type X0'.the_laws n0 ∷ vint w64 n1 ∷ vint w64 n2 ∷ v3 ∷ v4 ∷ v5 ∷ v6 ∷ []) _ $
         alloc1 ! (λ l0. alloc1 ! (λ l1. alloc1 ! (λ l2. alloc1 ! (λ l3. alloc1 ! (λ l4. alloc1 ! (λ l5. alloc1 ! (λ l6. alloc1 ! (λ l7. alloc1 ! (λ l8. alloc1 ! (λ l9. alloc1 ! (λ l10. alloc1 ! (λ l11. alloc1 ! (λ l12. alloc1 ! (λ l13. alloc1 ! (λ l14. alloc1 ! (λ l15. alloc1 ! (λ l16. alloc1 ! (λ l17. alloc1 ! (λ l18. alloc0 ! $ params1 ! $
         pass1 ! (init ! 34 refl ((LL.lawful S.the_type S'.the_laws 𝓛).typed h _ g).0) $ pass1 ! (init ! 32 refl ((LL.lawful X0.the_type X0'.the_laws 𝓛).typed n0 _ f0).0) $ pass1 ! (init ! 30 refl (tt, record { fits = f1 })) $ pass1 ! (init ! 28 refl (tt, record { fits = f2 })) $ pass1 ! (init ! 26 refl (tt, (tt, (record { fits = room3.0 }, tt)))) $ pass1 ! (init ! 24 refl ((shr_slice_Lawful 𝓛 (named 1) κ2 u8).typed s4 (v4 ∷ []) g4).0) $ pass1 ! (init ! 22 refl (tt, (tt, (record { fits = room5.0 }, tt)))) $ pass1 ! (init ! 20 refl (tt, (tt, (record { fits = room6.0 }, tt)))) $ pass0 ! $
         -- what is owned is taken apart, and the struct is copied to the local that is lent; each &mut slice is made anew for the call

@@ -42,9 +42,9 @@ use denote.Triple.Table.{entered, cited}
 use denote.Triple.Walked.{says, Stays, stay_none, stay_none_slice, gave_slice, walk_of, AllGo, Goes-none, Goes-none_slice, Goes-gave_slice, Walks, ends_at, walked, walk_Meets}
 use denote.Exit.{yes}
 use denote.Triple.Clauses.{ensured, lasts}
-use Rattle.parties.specs.protocol.ClientEvents.{scanAnswer}
+use Rattle.parties.specs.protocol.ClientEvents.{scan_answer}
 use Rattle.parties.specs.client.Answer.{answered}
-use Rattle.parties.specs.client.Record.{recordOf}
+use Rattle.parties.specs.client.Record.{record_of}
 use Rattle.parties.specs.declared.Phase.{Phase}
 use Rattle.parties.specs.declared.ClientAnswer.{ClientAnswer}
 use Rattle.parties.specs.declared.Measures.{Measures}
@@ -60,7 +60,7 @@ use Rattle.parties.specs.contracts.client.event.scanned as callee
 use Rattle.parties.proofs.client.event.scanned.Symbol as callee-def
 use Rattle.parties.proofs.client.event.scanned.Symbol.{name as #event}
 use Rattle.parties.proofs.client.event.scanned.Met as callee-thm
-use Rattle.parties.proofs.client.LoanLaws.{structVal, StructIs, AnswerIs, both, both_is, answer_at, cell, Lies, cell_in, cell_out}
+use Rattle.parties.proofs.client.LoanLaws.{struct_val, StructIs, AnswerIs, both, both_is, answer_at, cell, Lies, cell_in, cell_out}
 use Rattle.parties.specs.contracts.client.lent.scanned.Key.{name as #lent}
 use Rattle.parties.specs.contracts.client.lent.scanned as lent
 use Rattle.parties.proofs.client.lent.scanned.Statement as stated
@@ -101,7 +101,7 @@ module _ {M : Type 1} {𝓤 : Ura M} (𝓛 : Logic 𝓤) (at_mem : Memory → SP
   a = (h, (n0, (n1, (x2, (s3, (x4, tt))))))
 
   abbrev at : List Val × (List Val × (List Val × (List Val × (List Val × (List Val × Unit {0})))))
-  at = (structVal h ∷ [], (LL.val X0.the_type X0'.the_laws n0 ∷ [], (vint w64 n1 ∷ [], (v2 ∷ [], (v3 ∷ [], (v4 ∷ [], tt))))))
+  at = (struct_val h ∷ [], (LL.val X0.the_type X0'.the_laws n0 ∷ [], (vint w64 n1 ∷ [], (v2 ∷ [], (v3 ∷ [], (v4 ∷ [], tt))))))
 
   abbrev Post : Val → SProp 𝓤
   Post = (walk_of 𝓛 lent.ended stayed (lent.clauses 𝓛 at_mem run)).post (((κ1, (κ2, (κ3, tt))), (q1, (q2, (q3, tt))), tt, a, at), tt)
@@ -122,7 +122,7 @@ module _ {M : Type 1} {𝓤 : Ura M} (𝓛 : Logic 𝓤) (at_mem : Memory → SP
 
   -- what the callee says of its answer and of the last values
   abbrev Said : ClientAnswer → Phase → List ℕ → List ℕ → Type 0
-  Said r z zs2 zs4 = (answered r ≡ (scanAnswer n0 n1 (recordOf h ys2) s3.now ys4).answer) × (recordOf z zs2 ≡ (scanAnswer n0 n1 (recordOf h ys2) s3.now ys4).client) × (zs4 ≡ (scanAnswer n0 n1 (recordOf h ys2) s3.now ys4).room)
+  Said r z zs2 zs4 = (answered r ≡ (scan_answer n0 n1 (record_of h ys2) s3.now ys4).answer) × (record_of z zs2 ≡ (scan_answer n0 n1 (record_of h ys2) s3.now ys4).client) × (zs4 ≡ (scan_answer n0 n1 (record_of h ys2) s3.now ys4).room)
 
   exits : (r : ClientAnswer) (z : Phase) (zs2 : List ℕ) (zs4 : List ℕ) → StructIs z → AnswerIs r → Said r z zs2 zs4 → length zs2 ≡ length ys2 → length zs4 ≡ length ys4
       → ent 𝓤 (⋆ 𝓛 ((‵ (flft κ1 q1) ⊛ ‵ (flft κ2 q2) ⊛ ‵ (flft κ3 q3) ⊛ ‵ ftrue) ∷ ‵ (finally u8 γ2 zs2) ∷ ‵ (finally u8 γ4 zs4) ∷ ‵ Shr3 ∷ [])) (Post (only (LL.vals T.the_type T'.the_laws (both z r))))
@@ -132,10 +132,10 @@ module _ {M : Type 1} {𝓤 : Ura M} (𝓛 : Logic 𝓤) (at_mem : Memory → SP
       says ! e $ frame ! $ nothing ! $ move ! (2 ∷ 0 ∷ []) $ fjoin ! $ move ! (2 ∷ 0 ∷ []) $ fjoin ! $ move ! (1 ∷ 0 ∷ []) $ fjoin ! $ owned ! usize (Is usize) (uint_Makes 𝓛 w64) n1 _ (refl, f1) $ fjoin ! $ owned ! X0.the_row (Is X0.the_row) (LL.makes X0.the_type X0'.the_plain 𝓛) n0 _ f0 $ fjoin ! $ owned ! S.the_row (Is S.the_row) (LL.makes S.the_type S'.the_plain 𝓛) h _ g $ fjoin ! $ owned ! T.the_row (Is T.the_row) (LL.makes T.the_type T'.the_plain 𝓛) (both z r) _ (both_is z r hs rs) $ move ! (1 ∷ 0 ∷ []) $ done !
 
   module _ (C : Calls 𝓤 H) (Λ : Loops 𝓤 H) (fm : FmC 𝓤 H 𝓛.laws C) (known : Triple 𝓤 (C #event) (Callee 𝓛 at_mem run)) where
-    walk : Room u8 (length ys2) → Is (ShrSlice (named 1) κ2 u8) s3 (v3 ∷ []) → Room u8 (length ys4) → ent 𝓤 (on_entry 𝓛 lent.signature (κ1, (κ2, (κ3, tt))) (q1, (q2, (q3, tt))) a at) (WpFn 𝓤 H C Λ code.function (structVal h ∷ LL.val X0.the_type X0'.the_laws n0 ∷ vint w64 n1 ∷ v2 ∷ v3 ∷ v4 ∷ []) Post)
+    walk : Room u8 (length ys2) → Is (ShrSlice (named 1) κ2 u8) s3 (v3 ∷ []) → Room u8 (length ys4) → ent 𝓤 (on_entry 𝓛 lent.signature (κ1, (κ2, (κ3, tt))) (q1, (q2, (q3, tt))) a at) (WpFn 𝓤 H C Λ code.function (struct_val h ∷ LL.val X0.the_type X0'.the_laws n0 ∷ vint w64 n1 ∷ v2 ∷ v3 ∷ v4 ∷ []) Post)
     walk room2 g3 room4 =
         qed 𝓛 ((‵ (flft κ1 q1) ⊛ ‵ (flft κ2 q2) ⊛ ‵ (flft κ3 q3) ⊛ ‵ ftrue) ∷ ‵ (owns (S.the_row ∷ X0.the_row ∷ usize ∷ MutSlice (named 0) κ1 u8 ∷ ShrSlice (named 1) κ2 u8 ∷ MutSlice (named 2) κ3 u8 ∷ []) a at) ∷ []) ∵
-        enter ! C Λ code.function (structVal h ∷ LL.val X0.the_type X0'.the_laws n0 ∷ vint w64 n1 ∷ v2 ∷ v3 ∷ v4 ∷ []) _ $
+        enter ! C Λ code.function (struct_val h ∷ LL.val X0.the_type X0'.the_laws n0 ∷ vint w64 n1 ∷ v2 ∷ v3 ∷ v4 ∷ []) _ $
         alloc1 ! (λ l0. alloc1 ! (λ l1. alloc1 ! (λ l2. alloc1 ! (λ l3. alloc1 ! (λ l4. alloc1 ! (λ l5. alloc1 ! (λ l6. alloc1 ! (λ l7. alloc1 ! (λ l8. alloc1 ! (λ l9. alloc1 ! (λ l10. alloc1 ! (λ l11. alloc1 ! (λ l12. alloc1 ! (λ l13. alloc1 ! (λ l14. alloc0 ! $ params1 ! $
         pass1 ! (init ! 26 refl ((LL.lawful S.the_type S'.the_laws 𝓛).typed h _ g).0) $ pass1 ! (init ! 24 refl ((LL.lawful X0.the_type X0'.the_laws 𝓛).typed n0 _ f0).0) $ pass1 ! (init ! 22 refl (tt, record { fits = f1 })) $ pass1 ! (init ! 20 refl (tt, (tt, (record { fits = room2.0 }, tt)))) $ pass1 ! (init ! 18 refl ((shr_slice_Lawful 𝓛 (named 1) κ2 u8).typed s3 (v3 ∷ []) g3).0) $ pass1 ! (init ! 16 refl (tt, (tt, (record { fits = room4.0 }, tt)))) $ pass0 ! $
         -- what is owned is taken apart, and the struct is copied to the local that is lent; each &mut slice is made anew for the call

@@ -3,19 +3,19 @@ use mathlib.Core.Path.{sym, ap, subst, ◌∙◌}
 use mathlib.Core.Bool.{Bool, cond}
 use Prim.Native.Nat.{◌+◌, ◌-◌, ◌≤◌}
 use native.Mathlib.Omega.{arith}
-use Rattle.parties.specs.protocol.Nodes.{withNode}
-use Rattle.parties.specs.protocol.Directory.{readDirectory}
+use Rattle.parties.specs.protocol.Nodes.{with_node}
+use Rattle.parties.specs.protocol.Directory.{read_directory}
 use Rattle.parties.specs.protocol.Deposit.{noticed}
 use Rattle.parties.proofs.protocol.formats.ClientLaws.{keeper}
 use Rattle.parties.specs.client.Draw.{rows_of}
-use Rattle.parties.specs.client.Found.{retainedIn}
+use Rattle.parties.specs.client.Found.{retained_in}
 use Rattle.parties.proofs.client.FormLaws.{sizes}
 use Rattle.parties.proofs.client.NoticeLaws.{Marked, marked-none, marked_more}
 use Rattle.parties.proofs.client.notice.noticed_map.Statement.{statement}
 use Rattle.parties.proofs.client.notice.noticed_map.Tie as tie
 
 abbrev invariant-loop : tie.invariant-loop
-invariant-loop s own area rows m size map₀ q₀ map q = (q ≤ m) × Marked (noticed own (keeper (retainedIn s area)) (rows_of (readDirectory s rows))) q map
+invariant-loop s own area rows m size map₀ q₀ map q = (q ≤ m) × Marked (noticed own (keeper (retained_in s area)) (rows_of (read_directory s rows))) q map
 
 abbrev decreases-loop : tie.decreases-loop
 decreases-loop s own area rows m size map₀ q₀ map q = m - q
@@ -51,8 +51,8 @@ loop-again : tie.Need-loop-preserved invariant-loop decreases-loop
 loop-again c =
     let a = c.before.before.before.before.before.before.before.args in
     let l = c.before.before.before.loop in
-    let f = noticed a.own (keeper (retainedIn a.s a.area.now)) (rows_of (readDirectory a.s a.rows.now)) in
-    let e = c.marked.ensures ∙ ap (λ (b : Bool). cond b (withNode l.map (l.q + 1)) l.map) c.before.notices-client.ensures in
+    let f = noticed a.own (keeper (retained_in a.s a.area.now)) (rows_of (read_directory a.s a.rows.now)) in
+    let e = c.marked.ensures ∙ ap (λ (b : Bool). cond b (with_node l.map (l.q + 1)) l.map) c.before.notices-client.ensures in
     (omega (arith, c.before.before.loop-test.true), subst (Marked f (l.q + 1)) (sym e) (marked_more f l.q l.map l.invariant.1))
 
 returns : tie.Need-returns invariant-loop decreases-loop

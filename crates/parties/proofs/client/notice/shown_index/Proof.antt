@@ -1,8 +1,8 @@
 use mathlib.Core.Path.{ap}
 use Prim.Native.Nat.{ℕ, ◌*◌}
 use native.Mathlib.Omega.{arith}
-use Rattle.parties.specs.protocol.Measures.{rowSize}
-use Rattle.parties.proofs.records.SizeLaws.{below_rows, table-bound}
+use Rattle.parties.specs.protocol.Measures.{row_size}
+use Rattle.parties.proofs.records.SizeLaws.{below_rows, table_bound}
 use Rattle.parties.proofs.client.NoticeLaws.{shown-reads, shown-fits, shown-told}
 use borrow.Author.Rules.{rules}
 use Rattle.parties.proofs.client.notice.shown_index.Statement.{statement}
@@ -15,20 +15,20 @@ mul-past : tie.Need-overflow-mul-past
 mul-past c =
     let a = c.before.before.args in
     let p = c.before.before.requires in
-    omega (arith, below_rows a.q a.s.m (rowSize a.s) p.4, table-bound a.s p.0, ap (λ (x : ℕ). a.q * x) p.1)
+    omega (arith, below_rows a.q a.s.m (row_size a.s) p.4, table_bound a.s p.0, ap (λ (x : ℕ). a.q * x) p.1)
 
 add-past-2 : tie.Need-overflow-add-past-2
 add-past-2 c =
     let a = c.before.before.args in
     let p = c.before.before.requires in
-    omega (arith, below_rows a.q a.s.m (rowSize a.s) p.4, table-bound a.s p.0, ap (λ (x : ℕ). a.q * x) p.1)
+    omega (arith, below_rows a.q a.s.m (row_size a.s) p.4, table_bound a.s p.0, ap (λ (x : ℕ). a.q * x) p.1)
 
 past-requires : tie.Need-past-requires
 past-requires c κs =
     let a = c.before.before.args in
     let p = c.before.before.requires in (
       p.0,
-      omega (arith, below_rows a.q a.s.m (rowSize a.s) p.4, p.2, ap (λ (x : ℕ). a.q * x) p.1),
+      omega (arith, below_rows a.q a.s.m (row_size a.s) p.4, p.2, ap (λ (x : ℕ). a.q * x) p.1),
       shown-reads a.s a.size p.1 a.rows.now (λ i. (c.before.shared-slice-known.given i).fits) p.3 a.q p.4,
     )
 

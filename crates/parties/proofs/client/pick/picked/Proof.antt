@@ -1,4 +1,4 @@
-use Rattle.parties.proofs.client.PickLaws.{picked-written, picked-frozen}
+use Rattle.parties.proofs.client.PickLaws.{picked_written, picked_frozen}
 use mathlib.Core.Path.{sym, ◌∙◌}
 use borrow.Author.Rules.{rules}
 use Rattle.parties.proofs.client.pick.picked.Statement.{statement}
@@ -15,12 +15,12 @@ pointer-part-requires-2 c κs = search rules
 
 returns : tie.Need-returns
 returns c =
-    c.pointer-part.ensures ∙ sym (picked-written c.before.before.before.before.before.args.written.now c.before.before.before.before.before.args.frozen.now
+    c.pointer-part.ensures ∙ sym (picked_written c.before.before.before.before.before.args.written.now c.before.before.before.before.before.args.frozen.now
     c.before.before.before.before.before.args.index c.before.before.before.before.before.args.frozen-index (sym c.before.before.below.ensures ∙ c.before.if1.true))
 
 returns-2 : tie.Need-returns-2
 returns-2 c =
-    c.pointer-part2.ensures ∙ sym (picked-frozen c.before.before.before.before.before.args.written.now c.before.before.before.before.before.args.frozen.now
+    c.pointer-part2.ensures ∙ sym (picked_frozen c.before.before.before.before.before.args.written.now c.before.before.before.before.before.args.frozen.now
     c.before.before.before.before.before.args.index c.before.before.before.before.before.args.frozen-index (sym c.before.before.below.ensures ∙ c.before.if1.false))
 
 pub picked-spec : {M : Type 1} → statement M

@@ -2,7 +2,7 @@
 use Prim.Native.Nat.{◌-◌}
 use native.Mathlib.Omega.{arith}
 use Rattle.parties.proofs.client.FormLaws.{sizes}
-use Rattle.parties.proofs.client.GatherLaws.{Gathered, walk_none, walk-down, walk-length, walk_more, walk-all}
+use Rattle.parties.proofs.client.GatherLaws.{Gathered, walk_none, walk_down, walk_length, walk_more, walk_all}
 use Rattle.parties.proofs.client.publish.gather.Statement.{statement}
 use Rattle.parties.proofs.client.publish.gather.Tie as tie
 
@@ -24,7 +24,7 @@ keep-digest-requires c κs =
     let q = c.before.before.before.before.requires in
     let l = c.before.before.loop in
     let z = (sizes a.s q.0).nodes in
-    (omega arith, walk-down _ _ _ _ q.2 _ _ _ _ l.invariant, omega (arith, q.2, l.invariant.source, walk-length _ _ _ _ q.2 _ _ _ _ l.invariant))
+    (omega arith, walk_down _ _ _ _ q.2 _ _ _ _ l.invariant, omega (arith, q.2, l.invariant.source, walk_length _ _ _ _ q.2 _ _ _ _ l.invariant))
 
 add-from-2 : tie.Need-overflow-add-from-2 invariant-loop decreases-loop
 add-from-2 c =
@@ -43,13 +43,13 @@ loop-again c =
     walk_more _ _ _ _ x.before.requires.2 _ _ _ _ c.before.before.before.before.before.loop.invariant c.before.before.before.before.loop-test.true _ _ k.ensures.0 k.ensures.1
 
 same_length : tie.Need-same-length invariant-loop decreases-loop
-same_length c = walk-length _ _ _ _ c.before.before.before.requires.2 _ _ _ _ c.before.loop.invariant
+same_length c = walk_length _ _ _ _ c.before.before.before.requires.2 _ _ _ _ c.before.loop.invariant
 
 returns : tie.Need-returns invariant-loop decreases-loop
 returns c =
     let a = c.before.before.before.args in
     let q = c.before.before.before.requires in
-    walk-all a.s q.0 a.map q.1 a.area.now a.at _ _ _ _ c.before.loop.invariant c.loop-test.false
+    walk_all a.s q.0 a.map q.1 a.area.now a.at _ _ _ _ c.before.loop.invariant c.loop-test.false
 
 pub gather-spec : {M : Type 1} → statement M
 gather-spec =

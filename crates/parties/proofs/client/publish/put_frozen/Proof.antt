@@ -2,7 +2,7 @@
 use Prim.Native.Nat.{◌-◌}
 use native.Mathlib.Omega.{arith}
 use Rattle.coding.proofs.BytesLaws.{stride}
-use Rattle.parties.specs.protocol.Measures.{pointerSize}
+use Rattle.parties.specs.protocol.Measures.{pointer_size}
 use Rattle.parties.proofs.records.SizeLaws.{below_rows}
 use Rattle.parties.proofs.client.FormLaws.{sizes}
 use Rattle.parties.proofs.client.PublishLaws.{Laid, laid_none, laid-length, laid_from, laid-fits, laid_more, laid-all}
@@ -39,7 +39,7 @@ add-from c =
     let a = w.before.before.before.args in
     let p = w.before.before.before.requires in
     let z = sizes a.s p.0 in
-    let k = pointerSize a.s in
+    let k = pointer_size a.s in
     omega (arith, l.invariant.source, p.1, z.pointers, z.pointer, stride l.q k, below_rows l.q a.s.m k (omega arith), stride a.s.m k)
 
 add-q : tie.Need-overflow-add-q invariant-loop decreases-loop

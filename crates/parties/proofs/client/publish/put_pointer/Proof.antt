@@ -4,7 +4,7 @@ use Prim.Native.Nat.{ℕ, ◌+◌}
 use native.Mathlib.Omega.{arith}
 use borrow.Author.Rules.{rules}
 use lib.ListN.{length, drop}
-use Rattle.parties.specs.client.Pick.{pointerPart}
+use Rattle.parties.specs.client.Pick.{pointer_part}
 use Rattle.parties.specs.records.Places.{splice}
 use Rattle.parties.proofs.records.SpliceLaws.{paste_all}
 use Rattle.parties.proofs.client.PublishLaws.{part-whole}
@@ -26,7 +26,7 @@ pointer-part-requires c κs = search rules
 copy-requires : tie.Need-copy-requires
 copy-requires c κs =
     let a = c.before.before.before.before.before.args in
-    let e : length c.before.pointer-part.result.now ≡ length (pointerPart (drop a.from a.area.now)) =
+    let e : length c.before.pointer-part.result.now ≡ length (pointer_part (drop a.from a.area.now)) =
     ap length (c.before.pointer-part.ensures ∙ part-whole a.area.now a.from)
     in
     (omega (arith, c.before.before.before.before.before.requires.1), omega arith)
@@ -41,7 +41,7 @@ returns : tie.Need-returns
 returns c =
     let a = c.before.before.before.before.before.before.before.before.args in
     let p = c.before.before.before.before.pointer-part in
-    let e : p.result.now ≡ pointerPart (drop a.from a.area.now) = p.ensures ∙ part-whole a.area.now a.from in (
+    let e : p.result.now ≡ pointer_part (drop a.from a.area.now) = p.ensures ∙ part-whole a.area.now a.from in (
       ap (λ (l : List ℕ). a.at + length l) e,
       c.before.before.copy.ensures ∙ paste_all a.room.now a.at p.result.now (length p.result.now) refl
           ∙ ap (splice a.room.now a.at) e,

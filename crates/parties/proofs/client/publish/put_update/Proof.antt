@@ -2,8 +2,8 @@ use native.Mathlib.Omega.{arith}
 use borrow.Author.Rules.{rules}
 use lib.ListN.{length-set}
 use Rattle.coding.proofs.BytesLaws.{stride}
-use Rattle.parties.specs.protocol.Measures.{pointerSize}
-use Rattle.parties.proofs.client.PublishLaws.{front_length, end_fits, frozen-length, update-length, update-put}
+use Rattle.parties.specs.protocol.Measures.{pointer_size}
+use Rattle.parties.proofs.client.PublishLaws.{front_length, end_fits, frozen-length, update-length, update_put}
 use Rattle.parties.proofs.client.publish.put_update.Statement.{statement}
 use Rattle.parties.proofs.client.publish.put_update.Tie as tie
 
@@ -25,7 +25,7 @@ copy-requires c κs =
     let p = c.before.before.before.before.before.before.requires in
     let x = c.before.before.before.pointer-size.ensures in
     let y = c.before.before.work-at.ensures in
-    (omega (arith, x, p.4, length-set a.room.now 0 7, stride a.s.m (pointerSize a.s)), omega (arith, x, y, p.3))
+    (omega (arith, x, p.4, length-set a.room.now 0 7, stride a.s.m (pointer_size a.s)), omega (arith, x, y, p.3))
 
 add-put-frozen : tie.Need-overflow-add-put-frozen
 add-put-frozen c = search rules
@@ -39,7 +39,7 @@ put-frozen-requires c κs =
     let p = x.before.before.before.requires in
     let e = x.pointer-size.ensures in
     let l = front_length a.s a.area.now (λ i. (x.before.before.shared-slice-known.given i).fits) p.1 p.2 a.room.now p.3 p.4 _ _ e y.work-at.ensures _ k.copy.ensures in
-    (p.0, e, p.1, p.3, omega (arith, e, l, p.4, stride a.s.m (pointerSize a.s)))
+    (p.0, e, p.1, p.3, omega (arith, e, l, p.4, stride a.s.m (pointer_size a.s)))
 
 sub-copy : tie.Need-overflow-sub-copy
 sub-copy c = search rules
@@ -54,11 +54,11 @@ copy-requires-2 c κs =
     let p = x.before.before.before.requires in
     let l =
     frozen-length a.s a.area.now (λ i. (x.before.before.shared-slice-known.given i).fits) p.1 p.2 a.room.now p.3 p.4 _ _ x.pointer-size.ensures y.work-at.ensures _
-    k.copy.ensures _ _ f.put-frozen.ensures.0 f.put-frozen.ensures.1
+    k.copy.ensures _ _ f.put_frozen.ensures.0 f.put_frozen.ensures.1
     in
     let e =
     end_fits a.s a.area.now (λ i. (x.before.before.shared-slice-known.given i).fits) p.1 p.2 a.room.now p.3 p.4 _ _ x.pointer-size.ensures y.work-at.ensures _
-    k.copy.ensures _ _ f.put-frozen.ensures.0 f.put-frozen.ensures.1
+    k.copy.ensures _ _ f.put_frozen.ensures.0 f.put_frozen.ensures.1
     in
     (omega (arith, l, e), omega (arith, y.work-at.ensures, p.3))
 
@@ -68,7 +68,7 @@ add-result c =
     let y = x.before.before.before.before.before.before in
     let a = y.before.before.before.before.before.args in
     let p = y.before.before.before.before.before.requires in
-    let f = x.put-frozen.ensures in
+    let f = x.put_frozen.ensures in
     let e =
     end_fits a.s a.area.now (λ i. (y.before.before.before.before.shared-slice-known.given i).fits) p.1 p.2 a.room.now p.3 p.4 _ _
     y.before.before.pointer-size.ensures y.before.work-at.ensures _ x.before.before.before.before.copy.ensures _ _ f.0 f.1
@@ -84,7 +84,7 @@ same_length c =
     let a = x.before.before.before.args in
     let p = x.before.before.before.requires in
     update-length a.s a.area.now (λ i. (x.before.before.shared-slice-known.given i).fits) p.1 p.2 a.room.now p.3 p.4 _ _ x.pointer-size.ensures y.work-at.ensures _
-    k.copy.ensures _ _ f.put-frozen.ensures.0 f.put-frozen.ensures.1 _ c.before.before.copy2.ensures
+    k.copy.ensures _ _ f.put_frozen.ensures.0 f.put_frozen.ensures.1 _ c.before.before.copy2.ensures
 
 returns : tie.Need-returns
 returns c =
@@ -94,8 +94,8 @@ returns c =
     let x = y.before in
     let a = x.before.before.before.args in
     let p = x.before.before.before.requires in
-    update-put a.s a.area.now (λ i. (x.before.before.shared-slice-known.given i).fits) p.1 p.2 a.room.now p.3 p.4 _ _ x.pointer-size.ensures y.work-at.ensures _
-    k.copy.ensures _ _ f.put-frozen.ensures.0 f.put-frozen.ensures.1 _ c.before.before.copy2.ensures
+    update_put a.s a.area.now (λ i. (x.before.before.shared-slice-known.given i).fits) p.1 p.2 a.room.now p.3 p.4 _ _ x.pointer-size.ensures y.work-at.ensures _
+    k.copy.ensures _ _ f.put_frozen.ensures.0 f.put_frozen.ensures.1 _ c.before.before.copy2.ensures
 
 pub put-update-spec : {M : Type 1} → statement M
 put-update-spec =

@@ -4,14 +4,14 @@ use Prim.Native.Nat.{ℕ, ◌+◌, ◌-◌}
 use native.Mathlib.Omega.{arith}
 use lib.ListN.{length, replicate}
 use lib.Seq.{paste}
-use Rattle.coding.specs.Answer.{joinOutcome}
+use Rattle.coding.specs.Answer.{join_outcome}
 use Rattle.coding.specs.Join.{JoinEnd}
 use Rattle.parties.specs.declared.ClientAnswer.{ClientAnswer}
 use Rattle.parties.specs.declared.Refusal.{Refusal}
-use Rattle.parties.specs.client.End.{stepEnd}
+use Rattle.parties.specs.client.End.{step_end}
 use Rattle.parties.proofs.client.FormLaws.{sizes}
-use Rattle.parties.proofs.client.ReplyLaws.{lengthsAt, matches-short, lengths-within, clear-done, page-end, refused_end, join-told}
-use Rattle.parties.proofs.client.GateLaws.{work-within, Opened}
+use Rattle.parties.proofs.client.ReplyLaws.{lengths_at, matches-short, lengths-within, clear_done, page_end_lem, refused_end, join-told}
+use Rattle.parties.proofs.client.GateLaws.{work_within, Opened}
 use borrow.Author.Rules.{rules}
 use Rattle.parties.proofs.client.reply.finish.Statement.{statement}
 use Rattle.parties.proofs.client.reply.finish.Tie as tie
@@ -84,16 +84,16 @@ returns c =
     let a = w.args in
     let q = w.requires in
     let g = y.join-with.ensures in
-    let lens : d.before.before.work-at.result + y.before.before.before.before.pointer-size.result + 4 ≡ lengthsAt
+    let lens : d.before.before.work-at.result + y.before.before.before.before.pointer-size.result + 4 ≡ lengths_at
     a.s = λ j. d.before.before.work-at.ensures j + y.before.before.before.before.pointer-size.ensures j + 4
     in
-    let z : JoinEnd = record { outcome = joinOutcome y.join-with.result; out = y.join-with.new.1.1.1.1.1.1.0 } in
+    let z : JoinEnd = record { outcome = join_outcome y.join-with.result; out = y.join-with.new.1.1.1.1.1.1.0 } in
     λ room.
     let r = sym (refused_end a.s a.p a.area.now (opened d.before.before.before.before.before) q.5 a.i q.1 q.2 a.v a.x q.6 a.piece.now
     (λ i. (d.before.before.before.before.shared-slice-known.given i).fits) q.7 q.8 q.9 room a.out.now z
-    (join-told a.s a.i a.piece.now a.area.now a.out.now _ _ _ lens y.before.before.before.with-node.ensures z g.0 g.1) _ (ap joinOutcome c.enum_told.given.1))
+    (join-told a.s a.i a.piece.now a.area.now a.out.now _ _ _ lens y.before.before.before.with_node_lem.ensures z g.0 g.1) _ (ap join_outcome c.enum_told.given.1))
     in
-    ap (λ (l : List ℕ). stepEnd a.p (ClientAnswer.Refused Refusal.Form) l room z.out) g.2 ∙ r
+    ap (λ (l : List ℕ). step_end a.p (ClientAnswer.Refused Refusal.Form) l room z.out) g.2 ∙ r
 
 add-clear : tie.Need-overflow-add-clear
 add-clear c =
@@ -109,7 +109,7 @@ clear-requires c κs =
     let z = y.before.before.before.before.before.before in
     let a = z.before.before.args in
     let q = z.before.before.requires in
-    let w = work-within a.s a.p a.area.now (opened z.before) in
+    let w = work_within a.s a.p a.area.now (opened z.before) in
     (omega arith, omega (arith, w, y.before.before.before.before.work-at.ensures, y.before.before.before.work-size.ensures, ap length x.before.before.join-with.ensures.2))
 
 same-length-3 : tie.Need-same-length-3
@@ -129,16 +129,16 @@ returns-2 c =
     let g = k.join-with.ensures in
     let at = w.before.work-at.result in
     let to : ℕ = at + w.work-size.result - at in
-    let lens : at + d.before.before.before.pointer-size.result + 4 ≡ lengthsAt a.s = λ j. w.before.work-at.ensures j + d.before.before.before.pointer-size.ensures j + 4 in
-    let z : JoinEnd = record { outcome = joinOutcome k.join-with.result; out = k.join-with.new.1.1.1.1.1.1.0 } in
-    let x = c.before.before.clear.ensures ∙ ap (λ (l : List ℕ). paste l at (replicate to 0) to) g.2 ∙ clear-done a.s a.area.now _ _ w.before.work-at.ensures w.work-size.ensures in
+    let lens : at + d.before.before.before.pointer-size.result + 4 ≡ lengths_at a.s = λ j. w.before.work-at.ensures j + d.before.before.before.pointer-size.ensures j + 4 in
+    let z : JoinEnd = record { outcome = join_outcome k.join-with.result; out = k.join-with.new.1.1.1.1.1.1.0 } in
+    let x = c.before.before.clear.ensures ∙ ap (λ (l : List ℕ). paste l at (replicate to 0) to) g.2 ∙ clear_done a.s a.area.now _ _ w.before.work-at.ensures w.work-size.ensures in
     λ room.
-    let r = sym (page-end a.s a.p a.area.now (opened w.before.before.before.before) q.5 a.i q.1 q.2 a.v a.x q.6 a.piece.now
+    let r = sym (page_end_lem a.s a.p a.area.now (opened w.before.before.before.before) q.5 a.i q.1 q.2 a.v a.x q.6 a.piece.now
     (λ i. (w.before.before.before.shared-slice-known.given i).fits) q.7 q.8 q.9 room a.out.now z
-    (join-told a.s a.i a.piece.now a.area.now a.out.now _ _ _ lens d.before.before.with-node.ensures z g.0 g.1) _
-    (ap joinOutcome c.before.before.before.before.before.a.given.1))
+    (join-told a.s a.i a.piece.now a.area.now a.out.now _ _ _ lens d.before.before.with_node_lem.ensures z g.0 g.1) _
+    (ap join_outcome c.before.before.before.before.before.a.given.1))
     in
-    ap (λ (l : List ℕ). stepEnd a.p (ClientAnswer.Page a.x.version c.before.before.before.before.before.a.given.0.0) l room z.out) x ∙ r
+    ap (λ (l : List ℕ). step_end a.p (ClientAnswer.Page a.x.version c.before.before.before.before.before.a.given.0.0) l room z.out) x ∙ r
 
 pub finish_spec : {M : Type 1} → statement M
 finish_spec =

@@ -3,9 +3,9 @@ use mathlib.Core.Bool.{Bool, cond}
 use mathlib.Core.List.{List}
 use Prim.Native.Nat.{ℕ, ◌+◌}
 use lib.Seq.{paste}
-use Rattle.parties.specs.protocol.Format.{writeNumber}
-use Rattle.parties.specs.client.Reply.{wentOn, cleared, mapped}
-use Rattle.parties.proofs.client.ReplyLaws.{clear-done, maps-done}
+use Rattle.parties.specs.protocol.Format.{write_number}
+use Rattle.parties.specs.client.Reply.{went_on, cleared, mapped}
+use Rattle.parties.proofs.client.ReplyLaws.{clear_done, maps_done}
 use borrow.Author.Rules.{rules}
 use Rattle.parties.proofs.client.reply.go_on.Statement.{statement}
 use Rattle.parties.proofs.client.reply.go_on.Tie as tie
@@ -34,8 +34,8 @@ returns c =
     let a = x.before.before.before.args in
     let e = x.all-counted.ensures in
     let t = sym c.before.before.before.before.before.if1.true ∙ e in (
-      ap wentOn t,
-      c.before.before.clear.ensures ∙ clear-done a.s a.area.now _ _ x.before.work-at.ensures c.before.before.before.before.work-size.ensures
+      ap went_on t,
+      c.before.before.clear.ensures ∙ clear_done a.s a.area.now _ _ x.before.work-at.ensures c.before.before.before.before.work-size.ensures
           ∙ ap (λ (b : Bool). cond b (cleared a.s a.area.now) (mapped a.s a.counted a.matching a.area.now)) t,
     )
 
@@ -65,9 +65,9 @@ returns-2 c =
     let e = x.before.before.before.before.all-counted.ensures in
     let t = sym x.before.before.before.if1.false ∙ e in
     let at = y.work-at.result + x.before.before.pointer-size.result in (
-      ap wentOn t,
-      c.before.before.put-u162.ensures ∙ ap (λ (l : List ℕ). paste l (at + 2) (writeNumber 2 a.matching) 2) x.put-u16.ensures
-          ∙ maps-done a.s a.area.now a.counted a.matching _ _ y.work-at.ensures x.before.before.pointer-size.ensures
+      ap went_on t,
+      c.before.before.put-u162.ensures ∙ ap (λ (l : List ℕ). paste l (at + 2) (write_number 2 a.matching) 2) x.put-u16.ensures
+          ∙ maps_done a.s a.area.now a.counted a.matching _ _ y.work-at.ensures x.before.before.pointer-size.ensures
           ∙ ap (λ (b : Bool). cond b (cleared a.s a.area.now) (mapped a.s a.counted a.matching a.area.now)) t,
     )
 

@@ -5,8 +5,8 @@ use native.Mathlib.Omega.{arith}
 use lib.ListN.{length, take, drop}
 use lib.Seq.{paste, length-paste, length-take-le}
 use Rattle.coding.specs.Join.{join}
-use Rattle.parties.specs.protocol.Format.{writeArea}
-use Rattle.parties.proofs.protocol.formats.FormatLaws.{length-area}
+use Rattle.parties.specs.protocol.Format.{write_area}
+use Rattle.parties.proofs.protocol.formats.FormatLaws.{length_area}
 use Rattle.parties.proofs.client.FormLaws.{sizes}
 use Rattle.parties.proofs.client.JoinWithLaws.{put_back}
 use Rattle.parties.proofs.records.SizeLaws.{below_rows}
@@ -88,10 +88,10 @@ copy-requires c κs =
     let q = z.before.before.requires in
     let v : length y.before.save.result ≡ 4096 = search rules in
     let place : ℕ = a.at + 2 * a.s.n + (a.i - 1) * a.s.f in
-    let w = writeArea a.s.f (λ p. p) a.piece.now in
+    let w = write_area a.s.f (λ p. p) a.piece.now in
     let r = below_rows (a.i - 1) a.s.n a.s.f (omega arith) in
     let l = ap length x.before.before.before.before.before.put-area.ensures
-    ∙ length-paste a.area.now place w a.s.f (omega (arith, r, q.3)) (omega (arith, length-area a.s.f (λ p. p) a.piece.now q.4))
+    ∙ length-paste a.area.now place w a.s.f (omega (arith, r, q.3)) (omega (arith, length_area a.s.f (λ p. p) a.piece.now q.4))
     in
     (omega (arith, r, q.3, l), omega (arith, v, (sizes a.s q.0).bytes))
 
@@ -115,8 +115,8 @@ returns c =
       z.before.join.ensures.0 ∙ (λ j. (join a.s.n a.s.k a.s.f a.matching (take (k j) (drop (a.at + 2 * a.s.n) (x j))) (y j) a.out.now).outcome),
       z.before.join.ensures.1 ∙ (λ j. (join a.s.n a.s.k a.s.f a.matching (take (k j) (drop (a.at + 2 * a.s.n) (x j))) (y j) a.out.now).out),
       c.before.before.copy.ensures ∙ ap (λ (l : List ℕ). paste l place d.before.before.before.before.save.result a.s.f) x
-          ∙ put_back a.area.now place (writeArea a.s.f (λ p. p) a.piece.now) d.before.before.before.before.save.result a.s.f
-          (omega (arith, below_rows (a.i - 1) a.s.n a.s.f (omega arith), q.3)) (length-area a.s.f (λ p. p) a.piece.now q.4) d.before.before.before.before.save.ensures,
+          ∙ put_back a.area.now place (write_area a.s.f (λ p. p) a.piece.now) d.before.before.before.before.save.result a.s.f
+          (omega (arith, below_rows (a.i - 1) a.s.n a.s.f (omega arith), q.3)) (length_area a.s.f (λ p. p) a.piece.now q.4) d.before.before.before.before.save.ensures,
     )
 
 pub join-with-spec : {M : Type 1} → statement M

@@ -2,7 +2,7 @@
 use mathlib.Core.Path.{refl}
 use Prim.Native.Nat.{◌+◌, ◌-◌, ◌*◌, ◌≤◌}
 use native.Mathlib.Omega.{arith}
-use Rattle.coding.proofs.BytesLaws.{Lanes, lanes-none, lanes-more}
+use Rattle.coding.proofs.BytesLaws.{Lanes, lanes_none, lanes_more}
 use Rattle.parties.specs.records.Places.{number_at}
 use Rattle.parties.proofs.client.JoinWithLaws.{lengths-done}
 use Rattle.parties.proofs.records.PlaceLaws.{number-told}
@@ -16,7 +16,7 @@ abbrev decreases-loop : tie.decreases-loop
 decreases-loop area at n i len v₀ j₀ v j = n - j
 
 loop-holds : tie.Need-loop-init invariant-loop decreases-loop
-loop-holds c = (lanes-none _ _ refl, omega arith)
+loop-holds c = (lanes_none _ _ refl, omega arith)
 
 mul-u16-at : tie.Need-overflow-mul-u16-at invariant-loop decreases-loop
 mul-u16-at c = omega arith
@@ -43,7 +43,7 @@ loop-again : tie.Need-loop-preserved invariant-loop decreases-loop
 loop-again c =
     let a = c.before.before.before.before.args in
     let l = c.before.before.loop in
-    (lanes-more _ _ _ l.invariant.0 _ (number-told a.area.now (a.at + 2 * l.j) _ _ (omega arith) c.u16-at.ensures) (omega arith), omega arith)
+    (lanes_more _ _ _ l.invariant.0 _ (number-told a.area.now (a.at + 2 * l.j) _ _ (omega arith) c.u16-at.ensures) (omega arith), omega arith)
 
 sub-v : tie.Need-overflow-sub-v invariant-loop decreases-loop
 sub-v c = omega arith

@@ -5,11 +5,11 @@ use Prim.Native.Nat.{◌+◌}
 use native.Mathlib.Omega.{arith}
 use borrow.Author.Tests.{not-true, not-false}
 use Rattle.coding.specs.Nodes.{all}
-use Rattle.parties.specs.protocol.Nodes.{nodesIn, stands}
-use Rattle.parties.specs.client.Reply.{standingAt, wentOn, cleared, mapped}
+use Rattle.parties.specs.protocol.Nodes.{nodes_in, stands}
+use Rattle.parties.specs.client.Reply.{standing_at, went_on, cleared, mapped}
 use Rattle.parties.proofs.client.FormLaws.{sizes}
-use Rattle.parties.proofs.client.ReplyLaws.{other-end, skipped-end, missing-end}
-use Rattle.parties.proofs.client.GateLaws.{work-within, Opened}
+use Rattle.parties.proofs.client.ReplyLaws.{other_end, skipped_end, missing_end}
+use Rattle.parties.proofs.client.GateLaws.{work_within, Opened}
 use borrow.Author.Rules.{rules}
 use Rattle.parties.proofs.client.reply.missing.Statement.{statement}
 use Rattle.parties.proofs.client.reply.missing.Tie as tie
@@ -23,7 +23,7 @@ returns : tie.Need-returns
 returns c =
     let a = c.before.before.before.args in
     let q = c.before.before.before.requires in
-    λ room out. sym (other-end a.s a.p a.area.now (opened c.before.before) a.i a.v none room out c.if1.true)
+    λ room out. sym (other_end a.s a.p a.area.now (opened c.before.before) a.i a.v none room out c.if1.true)
 
 work-at-requires : tie.Need-work-at-requires
 work-at-requires c κs = search rules
@@ -41,7 +41,7 @@ standing-at-requires : tie.Need-standing-at-requires
 standing-at-requires c κs =
     let a = c.before.before.before.before.before.before.args in
     let q = c.before.before.before.before.before.before.requires in
-    let w = work-within a.s a.p a.area.now (opened c.before.before.before.before.before) in
+    let w = work_within a.s a.p a.area.now (opened c.before.before.before.before.before) in
     (omega (arith, w, c.before.before.work-at.ensures), omega (arith, w, c.before.before.work-at.ensures, c.pointer-size.ensures))
 
 counts-requires : tie.Need-counts-requires
@@ -57,10 +57,10 @@ returns-2 c =
     let y = c.before.before.before.before.before.before in
     let a = y.before.before.before.args in
     let q = y.before.before.before.requires in
-    let x = c.before.before.standing-at.ensures ∙ (λ j. standingAt a.area.now (c.before.before.before.before.before.work-at.ensures j)
+    let x = c.before.before.standing-at.ensures ∙ (λ j. standing_at a.area.now (c.before.before.before.before.before.work-at.ensures j)
     (c.before.before.before.before.before.work-at.ensures j + c.before.before.before.pointer-size.ensures j))
     in
-    λ room out. sym (skipped-end a.s a.p a.area.now (opened y.before.before) y.if1.false a.i q.1 q.2 a.v
+    λ room out. sym (skipped_end a.s a.p a.area.now (opened y.before.before) y.if1.false a.i q.1 q.2 a.v
     c.before.before.standing-at.result x none room out (sym c.before.counts.ensures ∙ not-true _ c.if2.true))
 
 with-node-requires : tie.Need-with-node-requires
@@ -72,7 +72,7 @@ go-on-requires : tie.Need-go-on-requires
 go-on-requires c κs =
     let a = c.before.before.before.before.before.before.before.before.before.before.before.args in
     let q = c.before.before.before.before.before.before.before.before.before.before.before.requires in
-    (q.0, work-within a.s a.p a.area.now (opened c.before.before.before.before.before.before.before.before.before.before))
+    (q.0, work_within a.s a.p a.area.now (opened c.before.before.before.before.before.before.before.before.before.before))
 
 same-length-2 : tie.Need-same-length-2
 same-length-2 c = search rules
@@ -84,15 +84,15 @@ returns-3 c =
     let a = z.before.before.args in
     let q = z.before.before.requires in
     let s = y.before.standing-at.result in
-    let x = y.before.standing-at.ensures ∙ (λ j. standingAt a.area.now (y.before.before.before.before.work-at.ensures j)
+    let x = y.before.standing-at.ensures ∙ (λ j. standing_at a.area.now (y.before.before.before.before.work-at.ensures j)
     (y.before.before.before.before.work-at.ensures j + y.before.before.pointer-size.ensures j))
     in
-    let n = c.before.before.before.before.with-node.ensures in
+    let n = c.before.before.before.before.with_node_lem.ensures in
     let g = c.before.before.go_on.ensures in
-    λ room out. sym (missing-end a.s a.p a.area.now (opened z.before) y.before.before.before.before.before.if1.false a.i q.1 q.2 a.v s x
+    λ room out. sym (missing_end a.s a.p a.area.now (opened z.before) y.before.before.before.before.before.if1.false a.i q.1 q.2 a.v s x
     (sym y.counts.ensures ∙ not-false _ c.before.before.before.before.before.if2.false) room out _
-    (g.0 ∙ (λ j. wentOn (all (stands (n j)) (nodesIn s.named)))) _
-    (g.1 ∙ (λ j. cond (all (stands (n j)) (nodesIn s.named)) (cleared a.s a.area.now) (mapped a.s (n j) s.matching a.area.now))))
+    (g.0 ∙ (λ j. went_on (all (stands (n j)) (nodes_in s.named)))) _
+    (g.1 ∙ (λ j. cond (all (stands (n j)) (nodes_in s.named)) (cleared a.s a.area.now) (mapped a.s (n j) s.matching a.area.now))))
 
 pub missing-spec : {M : Type 1} → statement M
 missing-spec =

@@ -3,7 +3,7 @@ use mathlib.Core.List.{List}
 use Prim.Native.Nat.{ℕ, ◌+◌, ◌-◌}
 use lib.ListN.{length, replicate}
 use lib.Seq.{paste}
-use Rattle.parties.proofs.records.SpliceLaws.{area-put}
+use Rattle.parties.proofs.records.SpliceLaws.{area_put_lem}
 use borrow.Author.Rules.{rules}
 use Rattle.parties.proofs.client.reply.put_area.Statement.{statement}
 use Rattle.parties.proofs.client.reply.put_area.Tie as tie
@@ -30,7 +30,7 @@ returns c =
     let n = length a.piece.now in
     let k : ℕ = a.at + a.f - (a.at + n) in
     c.before.before.clear.ensures ∙ ap (λ (l : List ℕ). paste l (a.at + n) (replicate k 0) k) c.before.before.before.before.before.before.copy.ensures
-    ∙ area-put a.area.now a.at a.f a.piece.now q.0 q.1
+    ∙ area_put_lem a.area.now a.at a.f a.piece.now q.0 q.1
 
 pub put-area-spec : {M : Type 1} → statement M
 put-area-spec =

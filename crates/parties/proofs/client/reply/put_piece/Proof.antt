@@ -3,8 +3,8 @@ use mathlib.Core.List.{List}
 use Prim.Native.Nat.{ℕ, ◌+◌, ◌-◌, ◌*◌}
 use native.Mathlib.Omega.{arith}
 use lib.Seq.{paste}
-use Rattle.parties.specs.protocol.Format.{writeArea}
-use Rattle.parties.specs.client.Reply.{piecePut}
+use Rattle.parties.specs.protocol.Format.{write_area}
+use Rattle.parties.specs.client.Reply.{piece_put}
 use Rattle.parties.proofs.records.SizeLaws.{below_rows}
 use borrow.Author.Rules.{rules}
 use Rattle.parties.proofs.client.reply.put_piece.Statement.{statement}
@@ -49,11 +49,11 @@ same_length : tie.Need-same-length
 same_length c = search rules
 
 returns : tie.Need-returns
-unfolding piecePut
+unfolding piece_put
 returns c =
     let a = c.before.before.before.before.before.before.before.before.before.before.args in
     c.before.before.put-area.ensures
-    ∙ ap (λ (l : List ℕ). paste l (a.at + 2 * a.n + (a.i - 1) * a.f) (writeArea a.f (λ p. p) a.piece.now) a.f) c.before.before.before.before.before.before.put-u16.ensures
+    ∙ ap (λ (l : List ℕ). paste l (a.at + 2 * a.n + (a.i - 1) * a.f) (write_area a.f (λ p. p) a.piece.now) a.f) c.before.before.before.before.before.before.put-u16.ensures
 
 pub put-piece-spec : {M : Type 1} → statement M
 put-piece-spec =

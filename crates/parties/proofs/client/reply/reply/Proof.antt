@@ -3,10 +3,10 @@ use mathlib.Core.Option.{some}
 use Prim.Native.Nat.{◌+◌}
 use native.Mathlib.Omega.{arith}
 use borrow.Author.Tests.{not-true, not-false}
-use Rattle.parties.specs.client.Reply.{standingAt}
+use Rattle.parties.specs.client.Reply.{standing_at}
 use Rattle.parties.proofs.client.FormLaws.{sizes}
-use Rattle.parties.proofs.client.ReplyLaws.{other-end, skipped-end}
-use Rattle.parties.proofs.client.GateLaws.{work-within, Opened}
+use Rattle.parties.proofs.client.ReplyLaws.{other_end, skipped_end}
+use Rattle.parties.proofs.client.GateLaws.{work_within, Opened}
 use borrow.Author.Rules.{rules}
 use Rattle.parties.proofs.client.reply.reply.Statement.{statement}
 use Rattle.parties.proofs.client.reply.reply.Tie as tie
@@ -20,7 +20,7 @@ returns : tie.Need-returns
 returns c =
     let a = c.before.before.before.before.before.args in
     let q = c.before.before.before.before.before.requires in
-    λ room. sym (other-end a.s a.p a.area.now (opened c.before.before.before.before) a.i a.v (some a.piece.now) room a.out.now c.if1.true)
+    λ room. sym (other_end a.s a.p a.area.now (opened c.before.before.before.before) a.i a.v (some a.piece.now) room a.out.now c.if1.true)
 
 work-at-requires : tie.Need-work-at-requires
 work-at-requires c κs = search rules
@@ -38,7 +38,7 @@ standing-at-requires : tie.Need-standing-at-requires
 standing-at-requires c κs =
     let a = c.before.before.before.before.before.before.before.before.args in
     let q = c.before.before.before.before.before.before.before.before.requires in
-    let w = work-within a.s a.p a.area.now (opened c.before.before.before.before.before.before.before) in
+    let w = work_within a.s a.p a.area.now (opened c.before.before.before.before.before.before.before) in
     (omega (arith, w, c.before.before.work-at.ensures), omega (arith, w, c.before.before.work-at.ensures, c.pointer-size.ensures))
 
 counts-requires : tie.Need-counts-requires
@@ -54,10 +54,10 @@ returns-2 c =
     let y = c.before.before.before.before.before.before in
     let a = y.before.before.before.before.before.args in
     let q = y.before.before.before.before.before.requires in
-    let x = c.before.before.standing-at.ensures ∙ (λ j. standingAt a.area.now (c.before.before.before.before.before.work-at.ensures j)
+    let x = c.before.before.standing-at.ensures ∙ (λ j. standing_at a.area.now (c.before.before.before.before.before.work-at.ensures j)
     (c.before.before.before.before.before.work-at.ensures j + c.before.before.before.pointer-size.ensures j))
     in
-    λ room. sym (skipped-end a.s a.p a.area.now (opened y.before.before.before.before) y.if1.false a.i q.1 q.2 a.v
+    λ room. sym (skipped_end a.s a.p a.area.now (opened y.before.before.before.before) y.if1.false a.i q.1 q.2 a.v
     c.before.before.standing-at.result x (some a.piece.now) room a.out.now (sym c.before.counts.ensures ∙ not-true _ c.if2.true))
 
 reply-counted-requires : tie.Need-reply-counted-requires
@@ -66,7 +66,7 @@ reply-counted-requires c κs =
     let z = y.before.before.before.before.before.before in
     let a = z.before.args in
     let q = z.before.requires in
-    let x = c.before.before.before.before.standing-at.ensures ∙ (λ j. standingAt a.area.now (y.before.work-at.ensures j)
+    let x = c.before.before.before.before.standing-at.ensures ∙ (λ j. standing_at a.area.now (y.before.work-at.ensures j)
     (y.before.work-at.ensures j + c.before.before.before.before.before.pointer-size.ensures j))
     in
     (q.0, q.1, q.2, q.3, q.4, y.before.before.if1.false, x, sym c.before.before.before.counts.ensures ∙ not-false _ c.before.before.if2.false)

@@ -5,11 +5,11 @@ use native.Mathlib.Omega.{arith}
 use borrow.Author.Tests.{not-true, not-false}
 use Rattle.coding.specs.Nodes.{all}
 use Rattle.coding.proofs.NodesLaws.{nodes-few}
-use Rattle.parties.specs.protocol.Nodes.{nodesIn, count, stands, withNode}
-use Rattle.parties.specs.client.Reply.{matchesAt, piecePut, wentOn, cleared, mapped}
+use Rattle.parties.specs.protocol.Nodes.{nodes_in, count, stands, with_node}
+use Rattle.parties.specs.client.Reply.{matches_at, piece_put, went_on, cleared, mapped}
 use Rattle.parties.proofs.client.FormLaws.{sizes}
-use Rattle.parties.proofs.client.ReplyLaws.{matches-short, lengths-within, digest-within, missed-end, more-end}
-use Rattle.parties.proofs.client.GateLaws.{work-within, Opened}
+use Rattle.parties.proofs.client.ReplyLaws.{matches-short, lengths-within, digest-within, missed_end, more_end}
+use Rattle.parties.proofs.client.GateLaws.{work_within, Opened}
 use borrow.Author.Rules.{rules}
 use Rattle.parties.proofs.client.reply.reply_counted.Statement.{statement}
 use Rattle.parties.proofs.client.reply.reply_counted.Tie as tie
@@ -61,7 +61,7 @@ go-on-requires : tie.Need-go-on-requires
 go-on-requires c κs =
     let a = c.before.before.before.before.before.before.before.before.before.before.args in
     let q = c.before.before.before.before.before.before.before.before.before.before.requires in
-    (q.0, work-within a.s a.p a.area.now (opened c.before.before.before.before.before.before.before.before.before))
+    (q.0, work_within a.s a.p a.area.now (opened c.before.before.before.before.before.before.before.before.before))
 
 same_length : tie.Need-same-length
 same_length c = search rules
@@ -72,14 +72,14 @@ returns c =
     let z = y.before.before.before.before.before.before in
     let a = z.before.args in
     let q = z.before.requires in
-    let n = y.before.with-node.ensures in
+    let n = y.before.with_node_lem.ensures in
     let g = c.before.before.go_on.ensures in
-    let m = (λ j. matchesAt a.s.f a.x.version a.i a.piece.now a.area.now (sym y.before.before.before.work-at.ensures j + 7 + 32 * sym y.before.before.rank.ensures j))
+    let m = (λ j. matches_at a.s.f a.x.version a.i a.piece.now a.area.now (sym y.before.before.before.work-at.ensures j + 7 + 32 * sym y.before.before.rank.ensures j))
     ∙ sym c.before.before.before.before.before.matches.ensures ∙ not-true _ c.before.before.before.before.if1.true
     in
-    λ room. sym (missed-end a.s a.p a.area.now (opened z) q.5 a.i q.1 q.2 a.v a.x q.6 a.piece.now q.7 m room a.out.now _
-    (g.0 ∙ (λ j. wentOn (all (stands (n j)) (nodesIn a.x.named)))) _
-    (g.1 ∙ (λ j. cond (all (stands (n j)) (nodesIn a.x.named)) (cleared a.s a.area.now) (mapped a.s (n j) a.x.matching a.area.now))))
+    λ room. sym (missed_end a.s a.p a.area.now (opened z) q.5 a.i q.1 q.2 a.v a.x q.6 a.piece.now q.7 m room a.out.now _
+    (g.0 ∙ (λ j. went_on (all (stands (n j)) (nodes_in a.x.named)))) _
+    (g.1 ∙ (λ j. cond (all (stands (n j)) (nodes_in a.x.named)) (cleared a.s a.area.now) (mapped a.s (n j) a.x.matching a.area.now))))
 
 with-node-requires-2 : tie.Need-with-node-requires-2
 with-node-requires-2 c κs =
@@ -126,7 +126,7 @@ go-on-requires-2 c κs =
     let z = c.before.before.before.before.before.before.before.before.before.before.before.before.before.before.before.before.before.before in
     let a = z.before.args in
     let q = z.before.requires in
-    let w = work-within a.s a.p a.area.now (opened z) in
+    let w = work_within a.s a.p a.area.now (opened z) in
     (q.0, omega (arith, w))
 
 same-length-2 : tie.Need-same-length-2
@@ -139,20 +139,20 @@ returns-2 c =
     let d = z.before.before.before.before.before.before in
     let a = d.before.before.before.before.args in
     let q = d.before.before.before.before.requires in
-    let n = z.before.before.before.before.with-node.ensures in
+    let n = z.before.before.before.before.with_node_lem.ensures in
     let k = z.with-node2.ensures in
     let g = c.before.before.go-on2.ensures in
-    let m = (λ j. matchesAt a.s.f a.x.version a.i a.piece.now a.area.now (sym d.work-at.ensures j + 7 + 32 * sym z.before.before.before.before.before.rank.ensures j))
+    let m = (λ j. matches_at a.s.f a.x.version a.i a.piece.now a.area.now (sym d.work-at.ensures j + 7 + 32 * sym z.before.before.before.before.before.rank.ensures j))
     ∙ sym z.before.before.matches.ensures ∙ not-false _ z.before.if1.false
     in
-    let few : count (withNode a.x.matching a.i) < a.s.k = omega (arith, y.before.before.before.if2.true, y.before.before.before.before.before.count.ensures, ap count k) in
+    let few : count (with_node a.x.matching a.i) < a.s.k = omega (arith, y.before.before.before.if2.true, y.before.before.before.before.before.count.ensures, ap count k) in
     let t = y.put-piece.ensures
-    ∙ (λ j. piecePut (d.work-at.ensures j + y.before.before.pointer-size.ensures j + 4) a.s.n a.s.f a.i a.piece.now a.area.now)
+    ∙ (λ j. piece_put (d.work-at.ensures j + y.before.before.pointer-size.ensures j + 4) a.s.n a.s.f a.i a.piece.now a.area.now)
     in
-    λ room. sym (more-end a.s a.p a.area.now (opened d.before.before.before) q.5 a.i q.1 q.2 a.v a.x q.6 a.piece.now
+    λ room. sym (more_end a.s a.p a.area.now (opened d.before.before.before) q.5 a.i q.1 q.2 a.v a.x q.6 a.piece.now
     (λ i. (d.before.before.shared-slice-known.given i).fits) q.7 m few room a.out.now _
-    (g.0 ∙ (λ j. wentOn (all (stands (n j)) (nodesIn a.x.named)))) _
-    (g.1 ∙ (λ j. cond (all (stands (n j)) (nodesIn a.x.named)) (cleared a.s (t j)) (mapped a.s (n j) (k j) (t j)))))
+    (g.0 ∙ (λ j. went_on (all (stands (n j)) (nodes_in a.x.named)))) _
+    (g.1 ∙ (λ j. cond (all (stands (n j)) (nodes_in a.x.named)) (cleared a.s (t j)) (mapped a.s (n j) (k j) (t j)))))
 
 finish-requires : tie.Need-finish-requires
 finish-requires c κs =
@@ -160,7 +160,7 @@ finish-requires c κs =
     let z = y.before.before.before.before.before.before in
     let a = z.before.before.before.args in
     let q = z.before.before.before.requires in
-    let m = (λ j. matchesAt a.s.f a.x.version a.i a.piece.now a.area.now
+    let m = (λ j. matches_at a.s.f a.x.version a.i a.piece.now a.area.now
     (sym y.before.before.before.before.before.work-at.ensures j + 7 + 32 * sym y.before.before.before.before.rank.ensures j))
     ∙ sym y.before.matches.ensures ∙ not-false _ y.if1.false
     in (

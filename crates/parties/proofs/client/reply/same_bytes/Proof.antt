@@ -5,14 +5,14 @@ use Prim.Native.Nat.{◌+◌, ◌-◌, ◌≤◌}
 use native.Mathlib.Omega.{arith}
 use borrow.Author.Tests.{eq-eqb, ne_eqb}
 use lib.ListN.{length, take, drop}
-use Rattle.parties.specs.protocol.Reading.{sameBytes}
-use Rattle.parties.proofs.client.MatchLaws.{sameFrom, same_start, same_turn, same_end}
+use Rattle.parties.specs.protocol.Reading.{same_bytes}
+use Rattle.parties.proofs.client.MatchLaws.{same_from, same_start, same_turn, same_end}
 use borrow.Author.Rules.{rules}
 use Rattle.parties.proofs.client.reply.same_bytes.Statement.{statement}
 use Rattle.parties.proofs.client.reply.same_bytes.Tie as tie
 
 abbrev invariant-loop : tie.invariant-loop
-invariant-loop t at d l₀ l = (l ≤ 32) × (sameBytes d (take 32 (drop at t)) ≡ sameBytes (drop l d) (take (32 - l) (drop (at + l) t)))
+invariant-loop t at d l₀ l = (l ≤ 32) × (same_bytes d (take 32 (drop at t)) ≡ same_bytes (drop l d) (take (32 - l) (drop (at + l) t)))
 
 abbrev decreases-loop : tie.decreases-loop
 decreases-loop t at d l₀ l = 32 - l
@@ -37,7 +37,7 @@ returns c =
     let k : length a.t1 ≡ 32 = search rules in
     let l = c.before.before.before.loop in
     sym (l.invariant.1 ∙ same_turn a.t1 a.t.now a.at k c.before.before.before.before.requires l.l c.before.before.loop-test.true
-    ∙ ap (λ (b : Bool). b && sameFrom a.t1 a.t.now a.at k c.before.before.before.before.requires (l.l + 1)) (ne_eqb _ _ c.if1.true))
+    ∙ ap (λ (b : Bool). b && same_from a.t1 a.t.now a.at k c.before.before.before.before.requires (l.l + 1)) (ne_eqb _ _ c.if1.true))
 
 add-l : tie.Need-overflow-add-l invariant-loop decreases-loop
 add-l c = omega arith
@@ -52,7 +52,7 @@ loop-again c =
     let l = c.before.before.before.loop in (
       omega arith,
       l.invariant.1 ∙ same_turn a.t1 a.t.now a.at k c.before.before.before.before.requires l.l c.before.before.loop-test.true
-          ∙ ap (λ (b : Bool). b && sameFrom a.t1 a.t.now a.at k c.before.before.before.before.requires (l.l + 1)) (eq-eqb _ _ c.if1.false),
+          ∙ ap (λ (b : Bool). b && same_from a.t1 a.t.now a.at k c.before.before.before.before.requires (l.l + 1)) (eq-eqb _ _ c.if1.false),
     )
 
 returns-2 : tie.Need-returns-2 invariant-loop decreases-loop

@@ -1,7 +1,7 @@
 -- The first l bytes are saved.
 use Prim.Native.Nat.{◌-◌}
 use native.Mathlib.Omega.{arith}
-use Rattle.parties.proofs.records.BytesLaws.{Loaded, loaded-none, loaded-more, loaded-all}
+use Rattle.parties.proofs.records.BytesLaws.{Loaded, loaded_none, loaded_more, loaded_all}
 use borrow.Author.Rules.{rules}
 use Rattle.parties.proofs.client.reply.save.Statement.{statement}
 use Rattle.parties.proofs.client.reply.save.Tie as tie
@@ -16,7 +16,7 @@ blank-requires : tie.Need-blank-requires invariant-loop decreases-loop
 blank-requires c κs = search rules
 
 loop-holds : tie.Need-loop-init invariant-loop decreases-loop
-loop-holds c = loaded-none _ _ _ 4096 _ c.blank.ensures
+loop-holds c = loaded_none _ _ _ 4096 _ c.blank.ensures
 
 add-v : tie.Need-overflow-add-v invariant-loop decreases-loop
 add-v c = omega arith
@@ -35,10 +35,10 @@ loop-less c = omega arith
 
 loop-again : tie.Need-loop-preserved invariant-loop decreases-loop
 loop-again c =
-    loaded-more _ _ _ 4096 c.before.before.before.before.before.requires.0 c.before.before.before.before.before.requires.1 _ _ c.before.before.loop.invariant c.before.loop-test.true
+    loaded_more _ _ _ 4096 c.before.before.before.before.before.requires.0 c.before.before.before.before.before.requires.1 _ _ c.before.before.loop.invariant c.before.loop-test.true
 
 returns : tie.Need-returns invariant-loop decreases-loop
-returns c = loaded-all _ _ _ 4096 c.before.before.before.before.requires.0 c.before.before.before.before.requires.1 _ _ c.before.loop.invariant c.loop-test.false
+returns c = loaded_all _ _ _ 4096 c.before.before.before.before.requires.0 c.before.before.before.before.requires.1 _ _ c.before.loop.invariant c.loop-test.false
 
 pub save-spec : {M : Type 1} → statement M
 save-spec =

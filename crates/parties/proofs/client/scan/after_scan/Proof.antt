@@ -1,7 +1,7 @@
 use borrow.Author.Rules.{rules}
 use mathlib.Core.Path.{sym, ◌∙◌}
 use native.Mathlib.Omega.{arith}
-use Rattle.parties.proofs.client.ScanLaws.{scanned-freezes, scanned-fetches, scanned-other}
+use Rattle.parties.proofs.client.ScanLaws.{scanned_freezes, scanned_fetches, scanned-other}
 use Rattle.parties.proofs.client.GateLaws.{Opened}
 use Rattle.parties.proofs.client.scan.after_scan.Statement.{statement}
 use Rattle.parties.proofs.client.scan.after_scan.Tie as tie
@@ -37,7 +37,7 @@ returns-2 c =
     let y = c.before.before.before.before.before.before in
     let x = y.before.before.before in
     let a = x.before.before.before.before.before.args in
-    c.before.before.before.before.freeze.ensures ∙ sym (scanned-freezes a.s a.p a.area.now (opened x) a.own a.rows.now a.room.now y.before.if2.true)
+    c.before.before.before.before.freeze.ensures ∙ sym (scanned_freezes a.s a.p a.area.now (opened x) a.own a.rows.now a.room.now y.before.if2.true)
 
 fetch-requires : tie.Need-fetch-requires
 fetch-requires c κs = search rules
@@ -53,7 +53,7 @@ returns-3 c =
     let y = c.before.before.before.before.before.before in
     let x = y.before.before.before.before.before in
     let a = x.before.before.before.before.before.args in
-    c.before.before.before.before.fetch.ensures ∙ sym (scanned-fetches a.s a.p a.area.now (opened x) a.own a.rows.now a.room.now y.before.if3.true)
+    c.before.before.before.before.fetch.ensures ∙ sym (scanned_fetches a.s a.p a.area.now (opened x) a.own a.rows.now a.room.now y.before.if3.true)
 
 returns-4 : tie.Need-returns-4
 returns-4 c =

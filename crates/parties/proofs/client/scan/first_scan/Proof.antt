@@ -1,11 +1,11 @@
 use borrow.Author.Rules.{rules}
 use mathlib.Core.Path.{◌≡◌, sym, ap, ◌∙◌}
 use native.Mathlib.Omega.{arith}
-use Rattle.parties.specs.protocol.Version.{nextSequence}
-use Rattle.parties.specs.protocol.Directory.{readDirectory}
+use Rattle.parties.specs.protocol.Version.{next_sequence}
+use Rattle.parties.specs.protocol.Directory.{read_directory}
 use Rattle.parties.specs.protocol.Deposit.{highest}
 use Rattle.parties.specs.client.Draw.{rows_of}
-use Rattle.parties.proofs.client.ScanLaws.{drawn-one, scanned-draws, scanned-spent}
+use Rattle.parties.proofs.client.ScanLaws.{drawn_one, scanned_draws, scanned-spent}
 use Rattle.parties.proofs.client.GateLaws.{Opened}
 use Rattle.parties.proofs.client.scan.first_scan.Statement.{statement}
 use Rattle.parties.proofs.client.scan.first_scan.Tie as tie
@@ -16,9 +16,9 @@ opened c =
     record { measures = q.0; step = omega arith; reading = omega arith; bytes = λ i. (c.before.before.before.before.slice-known.given i).fits; reads = q.3 }
 
 -- the sequence after the highest of the rows
-told : (c : tie.After-next) → nextSequence (highest (rows_of (readDirectory c.before.before.before.before.before.args.s
+told : (c : tie.After-next) → next_sequence (highest (rows_of (read_directory c.before.before.before.before.before.args.s
     c.before.before.before.before.before.args.rows.now))) ≡ c.next.result
-told c = sym (c.next.ensures ∙ ap nextSequence c.before.highest.ensures)
+told c = sym (c.next.ensures ∙ ap next_sequence c.before.highest.ensures)
 
 highest-requires : tie.Need-highest-requires
 highest-requires c κs = search rules
@@ -58,7 +58,7 @@ draw-requires c κs =
       q.2,
       q.3,
       q.5,
-      drawn-one (highest (rows_of (readDirectory x.before.before.before.before.before.args.s
+      drawn_one (highest (rows_of (read_directory x.before.before.before.before.before.args.s
           x.before.before.before.before.before.args.rows.now))) c.before.before.before.next2.given.0.0 (told x ∙ c.before.before.before.next2.given.1),
     )
 
@@ -73,7 +73,7 @@ returns-2 c =
     let y = c.before.before.before.before.before.before in
     let x = y.before.before.before.before in
     let a = x.before.before.before.before.before.args in
-    c.before.before.before.before.draw.ensures ∙ sym (scanned-draws a.s a.p a.area.now (opened x) a.own a.rows.now a.room.now x.before.before.before.before.before.requires.2
+    c.before.before.before.before.draw.ensures ∙ sym (scanned_draws a.s a.p a.area.now (opened x) a.own a.rows.now a.room.now x.before.before.before.before.before.requires.2
     y.before.before.next2.given.0.0 (told x ∙ y.before.before.next2.given.1))
 
 pub first-scan-spec : {M : Type 1} → statement M

@@ -2,8 +2,8 @@ use borrow.Author.Rules.{rules}
 use mathlib.Core.Path.{sym}
 use native.Mathlib.Omega.{arith}
 use Rattle.parties.proofs.client.FormLaws.{sizes}
-use Rattle.parties.proofs.client.ScanLaws.{spent-leaves}
-use Rattle.parties.proofs.client.GateLaws.{work-within, Opened}
+use Rattle.parties.proofs.client.ScanLaws.{spent_leaves}
+use Rattle.parties.proofs.client.GateLaws.{work_within, Opened}
 use Rattle.parties.proofs.client.scan.give_up.Statement.{statement}
 use Rattle.parties.proofs.client.scan.give_up.Tie as tie
 
@@ -28,7 +28,7 @@ clear-requires c κs =
     let x = c.before.before in
     let a = x.before.before.before.args in
     let q = x.before.before.before.requires in
-    (omega arith, omega (arith, work-within a.s a.p a.area.now (opened x), x.work-at.ensures, c.before.work-size.ensures))
+    (omega arith, omega (arith, work_within a.s a.p a.area.now (opened x), x.work-at.ensures, c.before.work-size.ensures))
 
 same_length : tie.Need-same-length
 same_length c = search rules
@@ -38,7 +38,7 @@ returns c =
     let x = c.before.before.before.before.before in
     let a = x.before.before.before.args in
     let q = x.before.before.before.requires in
-    sym (spent-leaves a.s a.p a.area.now (opened x) x.work-at.result x.work-at.ensures c.before.before.before.before.work-size.result
+    sym (spent_leaves a.s a.p a.area.now (opened x) x.work-at.result x.work-at.ensures c.before.before.before.before.work-size.result
     c.before.before.before.before.work-size.ensures _ c.before.before.clear.ensures a.room.now)
 
 pub give-up-spec : {M : Type 1} → statement M

@@ -1,7 +1,7 @@
 use borrow.Author.Rules.{rules}
 use mathlib.Core.Path.{sym, ◌∙◌}
 use borrow.Author.Tests.{not-true, not-false}
-use Rattle.parties.proofs.client.TellLaws.{replied-short, replied-improper, replied-piece, replied-neither, replied-long, replied-missing}
+use Rattle.parties.proofs.client.TellLaws.{replied-short, replied_improper, replied-piece, replied_neither, replied-long, replied-missing}
 use Rattle.parties.proofs.client.tell.replied.Statement.{statement}
 use Rattle.parties.proofs.client.tell.replied.Tie as tie
 
@@ -19,7 +19,7 @@ returns-2 c =
     let a = c.before.before.before.before.args in
     let p = c.before.before.before.before.requires in
     let proper-at = c.before.proper-at in
-    replied-improper a.s a.b.now p.0 p.1 c.before.before.if1.false (sym proper-at.ensures ∙ not-true proper-at.result c.if2.true)
+    replied_improper a.s a.b.now p.0 p.1 c.before.before.if1.false (sym proper-at.ensures ∙ not-true proper-at.result c.if2.true)
 
 version-at-requires : tie.Need-version-at-requires
 version-at-requires c κs = search rules
@@ -42,7 +42,7 @@ returns-4 c =
     let a = x.before.before.args in
     let p = x.before.before.requires in
     let proper-at = c.before.before.before.before.before.proper-at in
-    replied-neither a.s a.b.now p.0 p.1 x.if1.false (sym proper-at.ensures ∙ not-false proper-at.result c.before.before.before.before.if2.false)
+    replied_neither a.s a.b.now p.0 p.1 x.if1.false (sym proper-at.ensures ∙ not-false proper-at.result c.before.before.before.before.if2.false)
     c.before.if3.false c.if4.true
 
 returns-5 : tie.Need-returns-5

@@ -6,8 +6,8 @@ use native.Mathlib.Omega.{arith}
 use borrow.Author.Tests.{not-true, not-false}
 use lib.ListN.{length, replicate, length-replicate}
 use lib.Seq.{paste, length-paste}
-use Rattle.parties.specs.protocol.Measures.{pointerSize}
-use Rattle.parties.specs.client.Record.{recordOf, marked}
+use Rattle.parties.specs.protocol.Measures.{pointer_size}
+use Rattle.parties.specs.client.Record.{record_of, marked}
 use Rattle.parties.proofs.client.FormLaws.{sizes}
 use Rattle.parties.proofs.client.StartLaws.{ends-two}
 use Rattle.parties.proofs.client.FreshLaws.{length_marked, fresh-measures, fresh-short, freshened, fresh-written}
@@ -23,7 +23,7 @@ clear-length c =
     ∙ length-paste a.area.now 0 (replicate n 0) n (omega (arith, c.before.before.before.before.if2.false)) (omega (arith, length-replicate {A = ℕ} n 0))
 
 times : (c : tie.After-clear) → let a = c.before.before.before.before.before.before.before.before.before.args in (a.s.m + 1) * c.before.before.before.pointer-size.result ≡
-    (a.s.m + 1) * pointerSize a.s
+    (a.s.m + 1) * pointer_size a.s
 times c =
     let y = c.before.before.before.before.before.before in
     ap (λ (x : ℕ). (y.before.before.before.args.s.m + 1) * x) c.before.before.before.pointer-size.ensures
@@ -82,8 +82,8 @@ put-none-requires-2 : tie.Need-put-none-requires-2
 put-none-requires-2 c κs =
     let x = c.before.before.before.before.before.before in
     let y = x.before.before.before.before.before.before in
-    let k : length c.before.before.before.put-none.new.0 ≡ length x.before.before.clear.new.0 =
-    ap length c.before.before.before.put-none.ensures ∙ length_marked x.before.before.clear.new.0 0 x.before.before.before.before.before.pointer-size.result
+    let k : length c.before.before.before.put_none.new.0 ≡ length x.before.before.clear.new.0 =
+    ap length c.before.before.before.put_none.ensures ∙ length_marked x.before.before.clear.new.0 0 x.before.before.before.before.before.pointer-size.result
     (y.before.before.before.before.before.args.s.m + 1)
     in
     (omega arith, omega (arith, k, clear-length (x.before.before), times (x.before.before), y.before.area-size.ensures, y.if2.false))
@@ -103,14 +103,14 @@ returns-3 c =
     in
     let x : c.before.before.put-none2.new.0 ≡ freshened a.s a.p t =
     c.before.before.put-none2.ensures
-    ∙ ap (λ (l : List ℕ). marked l ((a.s.m + 1) * z.before.before.pointer-size.result) 5 a.s.m) y.put-none.ensures
+    ∙ ap (λ (l : List ℕ). marked l ((a.s.m + 1) * z.before.before.pointer-size.result) 5 a.s.m) y.put_none.ensures
     ∙ ap (λ (l : List ℕ). marked (marked l 0 z.before.before.pointer-size.result (a.s.m + 1)) ((a.s.m + 1) * z.before.before.pointer-size.result) 5 a.s.m)
     y.before.before.before.before.before.clear.ensures
     ∙ (λ i. marked (marked (paste t 0 (replicate (z.before.before.before.before.area-size.ensures i - 0) 0) (z.before.before.before.before.area-size.ensures i - 0)) 0
     (z.before.before.pointer-size.ensures i) (a.s.m + 1))
     ((a.s.m + 1) * z.before.before.pointer-size.ensures i) 5 a.s.m)
     in
-    (e.0, ap (λ (l : List ℕ). recordOf (record { step = 0; reading = record { 0 = 0 } }) l) x ∙ e.1)
+    (e.0, ap (λ (l : List ℕ). record_of (record { step = 0; reading = record { 0 = 0 } }) l) x ∙ e.1)
 
 pub fresh-client-spec : {M : Type 1} → statement M
 fresh-client-spec =

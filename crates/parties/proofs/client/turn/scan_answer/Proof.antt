@@ -8,30 +8,30 @@ use borrow.Author.Tests.{leb-true, ltb-true}
 use lib.Dec.{leb, ltb}
 use lib.ListN.{length}
 use Rattle.coding.proofs.Cases.{and-true}
-use Rattle.parties.specs.protocol.Measures.{passes, rowSize}
+use Rattle.parties.specs.protocol.Measures.{passes, row_size}
 use Rattle.parties.specs.protocol.Answer.{refused}
-use Rattle.parties.specs.protocol.Verdict.{rowsVerdict}
-use Rattle.parties.specs.protocol.Client.{readClient}
-use Rattle.parties.specs.protocol.ClientEvents.{unchanged, onRows, scannedAt, roomSize}
+use Rattle.parties.specs.protocol.Verdict.{rows_verdict}
+use Rattle.parties.specs.protocol.Client.{read_client}
+use Rattle.parties.specs.protocol.ClientEvents.{unchanged, on_rows, scanned_at, room_size}
 use Rattle.parties.specs.records.Answer.{number}
 use Rattle.parties.specs.declared.records.form.Verdict.{Verdict}
 use Rattle.parties.specs.records.Form.{Judged}
 use Rattle.parties.specs.declared.Phase.{Phase}
-use Rattle.parties.specs.client.Record.{recordOf, areaSize, is_some}
-use Rattle.parties.proofs.records.RecordLaws.{judged-sound, judged-broken}
-use Rattle.parties.proofs.client.GateLaws.{gated-open, gated-shut, Opened}
-use Rattle.parties.proofs.client.StartLaws.{ends-three}
-use Rattle.parties.proofs.client.ScanLaws.{scan-shut, scan-broken, rows-read, scan-goes}
+use Rattle.parties.specs.client.Record.{record_of, area_size, is_some}
+use Rattle.parties.proofs.records.RecordLaws.{judged_sound, judged_broken}
+use Rattle.parties.proofs.client.GateLaws.{gated_open, gated_shut, Opened}
+use Rattle.parties.proofs.client.StartLaws.{ends_three}
+use Rattle.parties.proofs.client.ScanLaws.{scan_shut, scan-broken, rows-read, scan-goes}
 use Rattle.parties.proofs.client.turn.scan_answer.Statement.{statement}
 use Rattle.parties.proofs.client.turn.scan_answer.Tie as tie
 
 -- the gate is open
 enters : (c : tie.After-enum-told) → let a = c.before.before.before.before.before.before.before.before.before.args in
-    (passes a.s ≡ true) × ((leb (areaSize a.s) (length a.area.now) && (leb (a.s.m * rowSize a.s) (length a.rows.now) && leb (roomSize a.s) (length a.room.now))) ≡ true) × (ltb a.own a.s.m ≡ true) × (is_some (readClient a.s (recordOf a.p a.area.now)) ≡ true)
+    (passes a.s ≡ true) × ((leb (area_size a.s) (length a.area.now) && (leb (a.s.m * row_size a.s) (length a.rows.now) && leb (room_size a.s) (length a.room.now))) ≡ true) × (ltb a.own a.s.m ≡ true) × (is_some (read_client a.s (record_of a.p a.area.now)) ≡ true)
 enters c =
     let a = c.before.before.before.before.before.before.before.before.before.args in
     let l = c.before.before.before.before.before.area-rows-and-room-long in
-    gated-open a.s a.p a.area.now (leb (areaSize a.s) (length a.area.now) && (leb (a.s.m * rowSize a.s) (length a.rows.now) && leb (roomSize a.s) (length a.room.now))) l.result (ltb a.own a.s.m) l.ensures c.before.before.admit.result c.before.before.admit.ensures c.enum_told.given.1
+    gated_open a.s a.p a.area.now (leb (area_size a.s) (length a.area.now) && (leb (a.s.m * row_size a.s) (length a.rows.now) && leb (room_size a.s) (length a.room.now))) l.result (ltb a.own a.s.m) l.ensures c.before.before.admit.result c.before.before.admit.ensures c.enum_told.given.1
 
 opened : (c : tie.After-enum-told) → let a = c.before.before.before.before.before.before.before.before.before.args in Opened a.s a.p a.area.now
 opened c =
@@ -39,17 +39,17 @@ opened c =
     record { measures = e.0; step = omega arith; reading = omega arith; bytes = λ i. (c.before.before.before.before.before.before.before.before.slice-known.given i).fits; reads = e.3 }
 
 -- rows and room are long enough
-long : (c : tie.After-enum-told) → let a = c.before.before.before.before.before.before.before.before.before.args in (a.s.m * rowSize a.s ≤ length a.rows.now) × (roomSize a.s ≤ length a.room.now)
+long : (c : tie.After-enum-told) → let a = c.before.before.before.before.before.before.before.before.before.args in (a.s.m * row_size a.s ≤ length a.rows.now) × (room_size a.s ≤ length a.room.now)
 long c =
     let a = c.before.before.before.before.before.before.before.before.before.args in
-    let m = and-true (leb (a.s.m * rowSize a.s) (length a.rows.now)) _ (and-true (leb (areaSize a.s) (length a.area.now)) _ (enters c).1).1 in
-    (leb-true (a.s.m * rowSize a.s) (length a.rows.now) m.0, leb-true (roomSize a.s) (length a.room.now) m.1)
+    let m = and-true (leb (a.s.m * row_size a.s) (length a.rows.now)) _ (and-true (leb (area_size a.s) (length a.area.now)) _ (enters c).1).1 in
+    (leb-true (a.s.m * row_size a.s) (length a.rows.now) m.0, leb-true (room_size a.s) (length a.room.now) m.1)
 
 area-rows-and-room-long-requires : tie.Need-area-rows-and-room-long-requires
 area-rows-and-room-long-requires c κs = search rules
 
 admit-requires : tie.Need-admit-requires
-admit-requires c κs = let a = c.before.before.before.before.before.before.args in λ e. leb-true (areaSize a.s) (length a.area.now) (and-true (leb (areaSize a.s) (length a.area.now)) _ (and-true (passes a.s) _ (sym c.before.before.area-rows-and-room-long.ensures ∙ e)).1).0
+admit-requires c κs = let a = c.before.before.before.before.before.before.args in λ e. leb-true (area_size a.s) (length a.area.now) (and-true (leb (area_size a.s) (length a.area.now)) _ (and-true (passes a.s) _ (sym c.before.before.area-rows-and-room-long.ensures ∙ e)).1).0
 
 enum-known-g : tie.Need-enum-known-g
 enum-known-g c = search rules
@@ -66,10 +66,10 @@ returns c =
     let l = c.before.before.before.before.before.before.before.area-rows-and-room-long in
     let k = c.before.before.before.before.admit in
     let n = c.before.before.g.given.0.0 in
-    rw c.refuse.ensures (ends-three _ _ (scan-shut a.s a.own a.p a.area.now a.rows.now a.room.now
-    (unchanged (refused (number n)) (recordOf a.p a.area.now) a.room.now [])
-    (gated-shut a.s a.p a.area.now (leb (areaSize a.s) (length a.area.now) && (leb (a.s.m * rowSize a.s) (length a.rows.now) && leb (roomSize a.s) (length a.room.now))) l.result (ltb a.own a.s.m) l.ensures k.result k.ensures n c.before.before.g.given.1
-    a.room.now [] (λ k. onRows (rowsVerdict a.s a.rows.now) (λ l. scannedAt a.s a.own k a.room.now l k.phase)))))
+    rw c.refuse.ensures (ends_three _ _ (scan_shut a.s a.own a.p a.area.now a.rows.now a.room.now
+    (unchanged (refused (number n)) (record_of a.p a.area.now) a.room.now [])
+    (gated_shut a.s a.p a.area.now (leb (area_size a.s) (length a.area.now) && (leb (a.s.m * row_size a.s) (length a.rows.now) && leb (room_size a.s) (length a.room.now))) l.result (ltb a.own a.s.m) l.ensures k.result k.ensures n c.before.before.g.given.1
+    a.room.now [] (λ k. on_rows (rows_verdict a.s a.rows.now) (λ l. scanned_at a.s a.own k a.room.now l k.phase)))))
 
 enum_told : tie.Need-enum-told
 enum_told c = search rules
@@ -95,8 +95,8 @@ returns-2 c =
     let a = x.before.before.before.before.before.before.before.before.before.args in
     let d = c.before.before.before.before.directory in
     let n = c.before.before.r.given.0.0 in
-    rw c.refuse2.ensures (ends-three _ _ (scan-broken a.s a.own a.p a.area.now a.rows.now a.room.now (opened x) (enters x).2 (enters x).1 (number n)
-    (judged-broken a.s a.rows.now d.result d.ensures n c.before.before.r.given.1)))
+    rw c.refuse2.ensures (ends_three _ _ (scan-broken a.s a.own a.p a.area.now a.rows.now a.room.now (opened x) (enters x).2 (enters x).1 (number n)
+    (judged_broken a.s a.rows.now d.result d.ensures n c.before.before.r.given.1)))
 
 enum-told-2 : tie.Need-enum-told-2
 enum-told-2 c = search rules
@@ -105,7 +105,7 @@ enum-told-2 c = search rules
 sound : (c : tie.After-enum-told2) → let a = c.before.before.before.before.before.before.before.before.before.before.before.before.before.args in Judged a.s a.rows.now Verdict.Sound
 sound c =
     let a = c.before.before.before.before.before.before.before.before.before.before.before.before.before.args in
-    let d = c.before.before.directory in judged-sound a.s a.rows.now d.result d.ensures c.enum-told2.given.1
+    let d = c.before.before.directory in judged_sound a.s a.rows.now d.result d.ensures c.enum-told2.given.1
 
 after-scan-requires : tie.Need-after-scan-requires
 after-scan-requires c κs =
@@ -134,9 +134,9 @@ returns-3 c =
     let y = c.before.before.before.before.before.before.before.before in
     let x = y.before.before.before.before in
     let a = x.before.before.before.before.before.before.before.before.before.args in
-    let r = ends-three _ _ (scan-goes a.s a.own a.p a.area.now a.rows.now a.room.now (opened x) (enters x).2 (enters x).1 _ (sound y).0 (sound y).1
+    let r = ends_three _ _ (scan-goes a.s a.own a.p a.area.now a.rows.now a.room.now (opened x) (enters x).2 (enters x).1 _ (sound y).0 (sound y).1
     ∙ sym c.before.before.before.before.before.after-scan.ensures) in
-    (r.0, ap (λ (h : Phase). recordOf h c.before.before.before.before.before.after-scan.new.1.1.1.0) c.phase-after.ensures ∙ r.1, r.2)
+    (r.0, ap (λ (h : Phase). record_of h c.before.before.before.before.before.after-scan.new.1.1.1.0) c.phase-after.ensures ∙ r.1, r.2)
 
 pub scan-answer-spec : {M : Type 1} → statement M
 scan-answer-spec =

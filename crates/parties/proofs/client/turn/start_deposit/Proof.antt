@@ -11,42 +11,42 @@ use lib.Seq.{paste, length-paste}
 use Rattle.coding.proofs.Cases.{and-true}
 use Rattle.parties.specs.protocol.Measures.{passes}
 use Rattle.parties.specs.protocol.Answer.{refused}
-use Rattle.parties.specs.protocol.Format.{writeNumber}
-use Rattle.parties.specs.protocol.Client.{readClient, clientSize}
-use Rattle.parties.specs.protocol.ClientEvents.{unchanged, beginDeposit}
+use Rattle.parties.specs.protocol.Format.{write_number}
+use Rattle.parties.specs.protocol.Client.{read_client, client_size}
+use Rattle.parties.specs.protocol.ClientEvents.{unchanged, begin_deposit}
 use Rattle.parties.proofs.protocol.formats.PointerLaws.{length-number}
 use Rattle.parties.specs.records.Answer.{number}
-use Rattle.parties.specs.client.Record.{recordOf, areaSize, workAt, is_some}
+use Rattle.parties.specs.client.Record.{record_of, area_size, work_at, is_some}
 use Rattle.parties.proofs.client.FormLaws.{sizes}
-use Rattle.parties.proofs.client.GateLaws.{long-record, gated-open, gated-shut, Opened}
-use Rattle.parties.proofs.client.StartLaws.{ends-two, deposit-shut, deposit-busy, deposit-long, deposit-begun}
+use Rattle.parties.proofs.client.GateLaws.{long_record, gated_open, gated_shut, Opened}
+use Rattle.parties.proofs.client.StartLaws.{ends-two, deposit_shut, deposit_busy, deposit-long, deposit-begun}
 use Rattle.parties.proofs.client.turn.start_deposit.Statement.{statement}
 use Rattle.parties.proofs.client.turn.start_deposit.Tie as tie
 
 -- the gate is open
 enters : (c : tie.After-enum-told) → let a = c.before.before.before.before.before.before.before.before.args in
-    (passes a.s ≡ true) × ((leb (areaSize a.s) (length a.area.now)) ≡ true) × (ltb a.own a.s.m ≡ true) × (is_some (readClient a.s (recordOf a.p a.area.now)) ≡ true)
+    (passes a.s ≡ true) × ((leb (area_size a.s) (length a.area.now)) ≡ true) × (ltb a.own a.s.m ≡ true) × (is_some (read_client a.s (record_of a.p a.area.now)) ≡ true)
 enters c =
     let a = c.before.before.before.before.before.before.before.before.args in
     let l = c.before.before.before.before.before.area-long in
-    gated-open a.s a.p a.area.now (leb (areaSize a.s) (length a.area.now)) l.result (ltb a.own a.s.m) l.ensures c.before.before.admit.result c.before.before.admit.ensures c.enum_told.given.1
+    gated_open a.s a.p a.area.now (leb (area_size a.s) (length a.area.now)) l.result (ltb a.own a.s.m) l.ensures c.before.before.admit.result c.before.before.admit.ensures c.enum_told.given.1
 
 opened : (c : tie.After-enum-told) → let a = c.before.before.before.before.before.before.before.before.args in Opened a.s a.p a.area.now
 opened c =
     let e = enters c in
     record { measures = e.0; step = omega arith; reading = omega arith; bytes = λ i. (c.before.before.before.before.before.before.before.slice-known.given i).fits; reads = e.3 }
 
-long : (c : tie.After-enum-told) → let a = c.before.before.before.before.before.before.before.before.args in leb (clientSize a.s) (length (recordOf a.p a.area.now)) ≡ true
-long c = let a = c.before.before.before.before.before.before.before.before.args in long-record a.s a.p a.area.now ∙ (enters c).1
+long : (c : tie.After-enum-told) → let a = c.before.before.before.before.before.before.before.before.args in leb (client_size a.s) (length (record_of a.p a.area.now)) ≡ true
+long c = let a = c.before.before.before.before.before.before.before.before.args in long_record a.s a.p a.area.now ∙ (enters c).1
 
-area-fits : (c : tie.After-enum-told) → let a = c.before.before.before.before.before.before.before.before.args in areaSize a.s ≤ length a.area.now
-area-fits c = let a = c.before.before.before.before.before.before.before.before.args in leb-true (areaSize a.s) (length a.area.now) (enters c).1
+area_fits : (c : tie.After-enum-told) → let a = c.before.before.before.before.before.before.before.before.args in area_size a.s ≤ length a.area.now
+area_fits c = let a = c.before.before.before.before.before.before.before.before.args in leb-true (area_size a.s) (length a.area.now) (enters c).1
 
 area-long-requires : tie.Need-area-long-requires
 area-long-requires c κs = search rules
 
 admit-requires : tie.Need-admit-requires
-admit-requires c κs = let a = c.before.before.before.before.before.args in λ e. leb-true (areaSize a.s) (length a.area.now) (and-true (passes a.s) _ (sym c.before.before.area-long.ensures ∙ e)).1
+admit-requires c κs = let a = c.before.before.before.before.before.args in λ e. leb-true (area_size a.s) (length a.area.now) (and-true (passes a.s) _ (sym c.before.before.area-long.ensures ∙ e)).1
 
 enum-known-g : tie.Need-enum-known-g
 enum-known-g c = search rules
@@ -63,10 +63,10 @@ returns c =
     let l = c.before.before.before.before.before.before.before.area-long in
     let k = c.before.before.before.before.admit in
     let n = c.before.before.g.given.0.0 in
-    rw c.refuse.ensures (ends-two _ _ (deposit-shut a.s a.own a.p a.area.now a.page.now
-    (unchanged (refused (number n)) (recordOf a.p a.area.now) [] [])
-    (gated-shut a.s a.p a.area.now (leb (areaSize a.s) (length a.area.now)) l.result (ltb a.own a.s.m) l.ensures k.result k.ensures n c.before.before.g.given.1
-    [] [] (λ k. beginDeposit a.s k a.page.now))))
+    rw c.refuse.ensures (ends-two _ _ (deposit_shut a.s a.own a.p a.area.now a.page.now
+    (unchanged (refused (number n)) (record_of a.p a.area.now) [] [])
+    (gated_shut a.s a.p a.area.now (leb (area_size a.s) (length a.area.now)) l.result (ltb a.own a.s.m) l.ensures k.result k.ensures n c.before.before.g.given.1
+    [] [] (λ k. begin_deposit a.s k a.page.now))))
 
 enum_told : tie.Need-enum-told
 enum_told c = search rules
@@ -81,7 +81,7 @@ returns-2 : tie.Need-returns-2
 returns-2 c =
     let a = c.before.before.before.before.before.before.before.before.before.before.before.args in
     let d = c.before.before.before in
-    rw c.refuse2.ensures (ends-two _ _ (deposit-busy a.s a.own a.p a.area.now (opened d) (enters d).2 a.page.now (long d) c.before.if1.true))
+    rw c.refuse2.ensures (ends-two _ _ (deposit_busy a.s a.own a.p a.area.now (opened d) (enters d).2 a.page.now (long d) c.before.if1.true))
 
 mul-if2 : tie.Need-overflow-mul-if2
 mul-if2 c =
@@ -117,10 +117,10 @@ cast-put-u32 c =
     omega (arith, z.frame, c.before.before.if2.false)
 
 put-u32-requires : tie.Need-put-u32-requires
-put-u32-requires c κs = omega (arith, area-fits c.before.before.before.before.before.before, c.before.work-at.ensures)
+put-u32-requires c κs = omega (arith, area_fits c.before.before.before.before.before.before, c.before.work-at.ensures)
 
 add-copy : tie.Need-overflow-add-copy
-add-copy c = omega (arith, area-fits c.before.before.before.before.before.before.before.before.before.before, c.before.before.before.before.before.work-at.ensures)
+add-copy c = omega (arith, area_fits c.before.before.before.before.before.before.before.before.before.before, c.before.before.before.before.before.work-at.ensures)
 
 copy-requires : tie.Need-copy-requires
 copy-requires c κs =
@@ -129,10 +129,10 @@ copy-requires c κs =
     let a = d.before.before.before.before.before.before.before.before.args in
     let n = length a.page.now in
     let z = sizes a.s (enters d).0 in
-    let l = area-fits d in
+    let l = area_fits d in
     let k : length c.before.before.before.put-u32.new.0 ≡ length a.area.now =
     ap length c.before.before.before.put-u32.ensures
-    ∙ length-paste a.area.now c.before.before.before.before.before.work-at.result (writeNumber 4 n) 4
+    ∙ length-paste a.area.now c.before.before.before.before.before.work-at.result (write_number 4 n) 4
     (omega (arith, l, c.before.before.before.before.before.work-at.ensures)) (omega (arith, length-number 4 n))
     in
     (omega (arith, l, k, c.before.before.before.before.before.work-at.ensures, x.if2.false, z.frame, z.pieces), omega arith)
@@ -151,11 +151,11 @@ returns-4 c =
     let e = ends-two _ _ (deposit-begun a.s a.own a.p a.area.now (opened d) (enters d).2 a.page.now (long d) z.if1.false
     (λ i. (w.before.before.shared-slice-known.given i).fits) y.before.before.before.before.if2.false)
     in
-    let x : c.before.before.before.copy.new.0 ≡ paste (paste a.area.now (workAt a.s) (writeNumber 4 n) 4) (workAt a.s + 4) a.page.now n =
+    let x : c.before.before.before.copy.new.0 ≡ paste (paste a.area.now (work_at a.s) (write_number 4 n) 4) (work_at a.s + 4) a.page.now n =
     c.before.before.before.copy.ensures ∙ ap (λ (l : List ℕ). paste l (y.before.before.before.work-at.result + 4) a.page.now n) y.before.put-u32.ensures
-    ∙ ap (λ (k : ℕ). paste (paste a.area.now k (writeNumber 4 n) 4) (k + 4) a.page.now n) y.before.before.before.work-at.ensures
+    ∙ ap (λ (k : ℕ). paste (paste a.area.now k (write_number 4 n) 4) (k + 4) a.page.now n) y.before.before.before.work-at.ensures
     in
-    (e.0, ap (λ (l : List ℕ). recordOf (record { step = 1; reading = a.p.reading }) l) x ∙ e.1)
+    (e.0, ap (λ (l : List ℕ). record_of (record { step = 1; reading = a.p.reading }) l) x ∙ e.1)
 
 pub start-deposit-spec : {M : Type 1} → statement M
 start-deposit-spec =

@@ -1,7 +1,7 @@
 -- The first l bytes are copied.
 use Prim.Native.Nat.{◌-◌}
 use native.Mathlib.Omega.{arith}
-use Rattle.parties.proofs.records.BytesLaws.{Copied, copied_none, copied-length, copied-block, copied-rest}
+use Rattle.parties.proofs.records.BytesLaws.{Copied, copied_none, copied_length, copied_block, copied_rest}
 use Rattle.parties.proofs.records.bytes.copy.Statement.{statement}
 use Rattle.parties.proofs.records.bytes.copy.Tie as tie
 
@@ -25,7 +25,7 @@ add-copy-block-2 c = omega arith
 
 copy-block-requires : tie.Need-copy-block-requires invariant-loop decreases-loop
 copy-block-requires c κs =
-    let n = copied-length _ _ _ _ _ c.before.before.before.before.before.requires.0 c.before.before.before.before.before.requires.1 _ _ c.before.before.loop.invariant in
+    let n = copied_length _ _ _ _ _ c.before.before.before.before.before.requires.0 c.before.before.before.before.before.requires.1 _ _ c.before.before.loop.invariant in
     (omega arith, omega arith)
 
 add-l : tie.Need-overflow-add-l invariant-loop decreases-loop
@@ -35,7 +35,7 @@ loop-less : tie.Need-loop-smaller invariant-loop decreases-loop
 loop-less c = omega arith
 
 loop-again : tie.Need-loop-preserved invariant-loop decreases-loop
-loop-again c = copied-block _ _ _ _ _ c.before.before.before.before.before.before.before.before.requires.0 c.before.before.before.before.before.before.before.before.requires.1 _ _ c.before.before.before.before.before.loop.invariant 512 (omega arith) _ c.before.before.copy-block.ensures
+loop-again c = copied_block _ _ _ _ _ c.before.before.before.before.before.before.before.before.requires.0 c.before.before.before.before.before.before.before.before.requires.1 _ _ c.before.before.before.before.before.loop.invariant 512 (omega arith) _ c.before.before.copy-block.ensures
 
 add-copy-part : tie.Need-overflow-add-copy-part invariant-loop decreases-loop
 add-copy-part c = omega arith
@@ -48,14 +48,14 @@ sub-copy-part c = omega arith
 
 copy-part-requires : tie.Need-copy-part-requires invariant-loop decreases-loop
 copy-part-requires c κs =
-    let n = copied-length _ _ _ _ _ c.before.before.before.before.before.requires.0 c.before.before.before.before.before.requires.1 _ _ c.before.before.loop.invariant in
+    let n = copied_length _ _ _ _ _ c.before.before.before.before.before.requires.0 c.before.before.before.before.before.requires.1 _ _ c.before.before.loop.invariant in
     (omega arith, omega arith)
 
 same_length : tie.Need-same-length invariant-loop decreases-loop
-same_length c = copied-length _ _ _ _ _ c.before.before.before.before.before.before.before.before.requires.0 c.before.before.before.before.before.before.before.before.requires.1 _ _ (copied-rest _ _ _ _ _ c.before.before.before.before.before.before.before.before.requires.0 c.before.before.before.before.before.before.before.before.requires.1 _ _ c.before.before.before.before.before.loop.invariant _ c.before.before.copy-part.ensures)
+same_length c = copied_length _ _ _ _ _ c.before.before.before.before.before.before.before.before.requires.0 c.before.before.before.before.before.before.before.before.requires.1 _ _ (copied_rest _ _ _ _ _ c.before.before.before.before.before.before.before.before.requires.0 c.before.before.before.before.before.before.before.before.requires.1 _ _ c.before.before.before.before.before.loop.invariant _ c.before.before.copy-part.ensures)
 
 returns : tie.Need-returns invariant-loop decreases-loop
-returns c = (copied-rest _ _ _ _ _ c.before.before.before.before.before.before.before.before.requires.0 c.before.before.before.before.before.before.before.before.requires.1 _ _ c.before.before.before.before.before.loop.invariant _ c.before.before.copy-part.ensures).pasted.done
+returns c = (copied_rest _ _ _ _ _ c.before.before.before.before.before.before.before.before.requires.0 c.before.before.before.before.before.before.before.before.requires.1 _ _ c.before.before.before.before.before.loop.invariant _ c.before.before.copy-part.ensures).pasted.done
 
 pub copy_spec : {M : Type 1} → statement M
 copy_spec =

@@ -3,7 +3,7 @@ use mathlib.Core.Path.{refl, sym, ◌∙◌}
 use Prim.Native.Nat.{◌-◌}
 use native.Mathlib.Omega.{arith}
 use lib.Seq.{take_all}
-use Rattle.parties.proofs.records.BytesLaws.{Loaded, loaded-none, loaded-more, loaded-all}
+use Rattle.parties.proofs.records.BytesLaws.{Loaded, loaded_none, loaded_more, loaded_all}
 use Rattle.parties.proofs.records.bytes.load.Statement.{statement}
 use Rattle.parties.proofs.records.bytes.load.Tie as tie
 
@@ -14,7 +14,7 @@ abbrev decreases-loop : tie.decreases-loop
 decreases-loop t at v₀ l₀ v l = 512 - l
 
 loop-holds : tie.Need-loop-init invariant-loop decreases-loop
-loop-holds c = loaded-none _ _ 512 512 _ refl
+loop-holds c = loaded_none _ _ 512 512 _ refl
 
 add-v : tie.Need-overflow-add-v invariant-loop decreases-loop
 add-v c = omega arith
@@ -32,12 +32,12 @@ loop-less : tie.Need-loop-smaller invariant-loop decreases-loop
 loop-less c = omega arith
 
 loop-again : tie.Need-loop-preserved invariant-loop decreases-loop
-loop-again c = loaded-more _ _ 512 512 (omega arith) c.before.before.before.requires _ _ c.before.before.loop.invariant c.before.loop-test.true
+loop-again c = loaded_more _ _ 512 512 (omega arith) c.before.before.before.requires _ _ c.before.before.loop.invariant c.before.loop-test.true
 
 returns : tie.Need-returns invariant-loop decreases-loop
 returns c =
     sym (take_all 512 c.before.loop.v (omega (arith, c.before.loop.invariant.whole)))
-    ∙ loaded-all _ _ 512 512 (omega arith) c.before.before.requires _ _ c.before.loop.invariant c.loop-test.false
+    ∙ loaded_all _ _ 512 512 (omega arith) c.before.before.requires _ _ c.before.loop.invariant c.loop-test.false
 
 pub load_spec : {M : Type 1} → statement M
 load_spec =

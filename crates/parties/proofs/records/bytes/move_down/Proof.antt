@@ -2,7 +2,7 @@
 use mathlib.Core.Path.{refl}
 use Prim.Native.Nat.{◌-◌}
 use native.Mathlib.Omega.{arith}
-use Rattle.parties.proofs.records.BytesLaws.{MovedDown, down-none, down-length, down-more, down-rest}
+use Rattle.parties.proofs.records.BytesLaws.{MovedDown, down_none, down_length, down_more, down_rest}
 use Rattle.parties.proofs.records.bytes.move_down.Statement.{statement}
 use Rattle.parties.proofs.records.bytes.move_down.Tie as tie
 
@@ -13,7 +13,7 @@ abbrev decreases-loop : tie.decreases-loop
 decreases-loop t₀ from to by p₀ t p = to - p
 
 loop-holds : tie.Need-loop-init invariant-loop decreases-loop
-loop-holds c = down-none _ _ _ _ c.before.requires.1
+loop-holds c = down_none _ _ _ _ c.before.requires.1
 
 sub-loop : tie.Need-overflow-sub-loop invariant-loop decreases-loop
 sub-loop c = c.loop.invariant.within
@@ -23,7 +23,7 @@ sub-move-block c = omega arith
 
 move-block-requires : tie.Need-move-block-requires invariant-loop decreases-loop
 move-block-requires c κs =
-    let n = down-length _ _ _ _ c.before.before.before.before.requires.0 c.before.before.before.before.requires.2 _ _ c.before.before.loop.invariant in
+    let n = down_length _ _ _ _ c.before.before.before.before.requires.0 c.before.before.before.before.requires.2 _ _ c.before.before.loop.invariant in
     (omega arith, omega arith)
 
 add-p : tie.Need-overflow-add-p invariant-loop decreases-loop
@@ -33,18 +33,18 @@ loop-less : tie.Need-loop-smaller invariant-loop decreases-loop
 loop-less c = omega arith
 
 loop-again : tie.Need-loop-preserved invariant-loop decreases-loop
-loop-again c = down-more _ _ _ _ c.before.before.before.before.before.before.before.requires.0 c.before.before.before.before.before.before.before.requires.2 _ _ c.before.before.before.before.before.loop.invariant _ 512 refl (omega arith) _ c.before.before.move-block.ensures
+loop-again c = down_more _ _ _ _ c.before.before.before.before.before.before.before.requires.0 c.before.before.before.before.before.before.before.requires.2 _ _ c.before.before.before.before.before.loop.invariant _ 512 refl (omega arith) _ c.before.before.move-block.ensures
 
 move-down-part-requires : tie.Need-move-down-part-requires invariant-loop decreases-loop
 move-down-part-requires c κs =
-    let n = down-length _ _ _ _ c.before.before.before.before.requires.0 c.before.before.before.before.requires.2 _ _ c.before.before.loop.invariant in
+    let n = down_length _ _ _ _ c.before.before.before.before.requires.0 c.before.before.before.before.requires.2 _ _ c.before.before.loop.invariant in
     (omega arith, omega arith, omega arith)
 
 same_length : tie.Need-same-length invariant-loop decreases-loop
-same_length c = down-length _ _ _ _ c.before.before.before.before.before.before.before.requires.0 c.before.before.before.before.before.before.before.requires.2 _ _ (down-rest _ _ _ _ c.before.before.before.before.before.before.before.requires.0 c.before.before.before.before.before.before.before.requires.2 _ _ c.before.before.before.before.before.loop.invariant _ c.before.before.move-down-part.ensures)
+same_length c = down_length _ _ _ _ c.before.before.before.before.before.before.before.requires.0 c.before.before.before.before.before.before.before.requires.2 _ _ (down_rest _ _ _ _ c.before.before.before.before.before.before.before.requires.0 c.before.before.before.before.before.before.before.requires.2 _ _ c.before.before.before.before.before.loop.invariant _ c.before.before.move-down-part.ensures)
 
 returns : tie.Need-returns invariant-loop decreases-loop
-returns c = (down-rest _ _ _ _ c.before.before.before.before.before.before.before.requires.0 c.before.before.before.before.before.before.before.requires.2 _ _ c.before.before.before.before.before.loop.invariant _ c.before.before.move-down-part.ensures).moved
+returns c = (down_rest _ _ _ _ c.before.before.before.before.before.before.before.requires.0 c.before.before.before.before.before.before.before.requires.2 _ _ c.before.before.before.before.before.loop.invariant _ c.before.before.move-down-part.ensures).moved
 
 pub move_down_spec : {M : Type 1} → statement M
 move_down_spec =

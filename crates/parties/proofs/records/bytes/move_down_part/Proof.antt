@@ -1,7 +1,7 @@
 -- The bytes before p have gone down.
 use Prim.Native.Nat.{◌-◌}
 use native.Mathlib.Omega.{arith}
-use Rattle.parties.proofs.records.BytesLaws.{MovedDown, down-none, down-length, down-one, down-all}
+use Rattle.parties.proofs.records.BytesLaws.{MovedDown, down_none, down_length, down_one, down_all}
 use Rattle.parties.proofs.records.bytes.move_down_part.Statement.{statement}
 use Rattle.parties.proofs.records.bytes.move_down_part.Tie as tie
 
@@ -12,16 +12,16 @@ abbrev decreases-loop : tie.decreases-loop
 decreases-loop t₀ from to by p₀ t p = to - p
 
 loop-holds : tie.Need-loop-init invariant-loop decreases-loop
-loop-holds c = down-none _ _ _ _ c.requires.1
+loop-holds c = down_none _ _ _ _ c.requires.1
 
 slice-read-t : tie.Need-slice-read-t invariant-loop decreases-loop
-slice-read-t c = omega (arith, down-length _ _ _ _ c.before.before.before.requires.0 c.before.before.before.requires.2 _ _ c.before.before.loop.invariant)
+slice-read-t c = omega (arith, down_length _ _ _ _ c.before.before.before.requires.0 c.before.before.before.requires.2 _ _ c.before.before.loop.invariant)
 
 sub-t : tie.Need-overflow-sub-t invariant-loop decreases-loop
 sub-t c = omega arith
 
 slice-write-t : tie.Need-slice-write-t invariant-loop decreases-loop
-slice-write-t c = omega (arith, down-length _ _ _ _ c.before.before.before.requires.0 c.before.before.before.requires.2 _ _ c.before.before.loop.invariant)
+slice-write-t c = omega (arith, down_length _ _ _ _ c.before.before.before.requires.0 c.before.before.before.requires.2 _ _ c.before.before.loop.invariant)
 
 add-p : tie.Need-overflow-add-p invariant-loop decreases-loop
 add-p c = omega arith
@@ -30,13 +30,13 @@ loop-less : tie.Need-loop-smaller invariant-loop decreases-loop
 loop-less c = omega arith
 
 loop-again : tie.Need-loop-preserved invariant-loop decreases-loop
-loop-again c = down-one _ _ _ _ c.before.before.before.requires.0 c.before.before.before.requires.2 _ _ c.before.before.loop.invariant c.before.loop-test.true
+loop-again c = down_one _ _ _ _ c.before.before.before.requires.0 c.before.before.before.requires.2 _ _ c.before.before.loop.invariant c.before.loop-test.true
 
 same_length : tie.Need-same-length invariant-loop decreases-loop
-same_length c = down-length _ _ _ _ c.before.before.requires.0 c.before.before.requires.2 _ _ c.before.loop.invariant
+same_length c = down_length _ _ _ _ c.before.before.requires.0 c.before.before.requires.2 _ _ c.before.loop.invariant
 
 returns : tie.Need-returns invariant-loop decreases-loop
-returns c = down-all _ _ _ _ c.before.before.requires.0 c.before.before.requires.2 _ _ c.before.loop.invariant c.loop-test.false
+returns c = down_all _ _ _ _ c.before.before.requires.0 c.before.before.requires.2 _ _ c.before.loop.invariant c.loop-test.false
 
 pub move-down-part-spec : {M : Type 1} → statement M
 move-down-part-spec =

@@ -1,7 +1,7 @@
 -- The bytes from p on have gone up.
 use Prim.Native.Nat.{◌-◌}
 use native.Mathlib.Omega.{arith}
-use Rattle.parties.proofs.records.BytesLaws.{MovedUp, up_none, up-length, up_more, up_rest}
+use Rattle.parties.proofs.records.BytesLaws.{MovedUp, up_none, up_length, up_more, up_rest}
 use Rattle.parties.proofs.records.bytes.move_up.Statement.{statement}
 use Rattle.parties.proofs.records.bytes.move_up.Tie as tie
 
@@ -25,7 +25,7 @@ add-move-block c = omega arith
 
 move-block-requires : tie.Need-move-block-requires invariant-loop decreases-loop
 move-block-requires c κs =
-    let n = up-length _ _ _ _ c.before.before.before.before.requires.1 _ _ c.before.before.loop.invariant in
+    let n = up_length _ _ _ _ c.before.before.before.before.requires.1 _ _ c.before.before.loop.invariant in
     (omega arith, omega arith)
 
 loop-less : tie.Need-loop-smaller invariant-loop decreases-loop
@@ -36,11 +36,11 @@ loop-again c = up_more _ _ _ _ c.before.before.before.before.before.before.befor
 
 move-up-part-requires : tie.Need-move-up-part-requires invariant-loop decreases-loop
 move-up-part-requires c κs =
-    let n = up-length _ _ _ _ c.before.before.before.before.requires.1 _ _ c.before.before.loop.invariant in
+    let n = up_length _ _ _ _ c.before.before.before.before.requires.1 _ _ c.before.before.loop.invariant in
     (omega arith, omega arith)
 
 same_length : tie.Need-same-length invariant-loop decreases-loop
-same_length c = up-length _ _ _ _ c.before.before.before.before.before.before.before.requires.1 _ _ (up_rest _ _ _ _ c.before.before.before.before.before.before.before.requires.1 _ _ c.before.before.before.before.before.loop.invariant _ c.before.before.move-up-part.ensures)
+same_length c = up_length _ _ _ _ c.before.before.before.before.before.before.before.requires.1 _ _ (up_rest _ _ _ _ c.before.before.before.before.before.before.before.requires.1 _ _ c.before.before.before.before.before.loop.invariant _ c.before.before.move-up-part.ensures)
 
 returns : tie.Need-returns invariant-loop decreases-loop
 returns c = (up_rest _ _ _ _ c.before.before.before.before.before.before.before.requires.1 _ _ c.before.before.before.before.before.loop.invariant _ c.before.before.move-up-part.ensures).moved

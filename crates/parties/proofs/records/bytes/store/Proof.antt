@@ -4,7 +4,7 @@ use Prim.Native.Nat.{◌-◌}
 use native.Mathlib.Omega.{arith}
 use lib.ListN.{length}
 use borrow.Author.Rules.{rules}
-use Rattle.coding.proofs.BytesLaws.{Pasted, pasted-none, pasted-more, pasted_length, pasted-all}
+use Rattle.coding.proofs.BytesLaws.{Pasted, pasted_none, pasted_more, pasted_length, pasted_all}
 use Rattle.parties.proofs.records.bytes.store.Statement.{statement}
 use Rattle.parties.proofs.records.bytes.store.Tie as tie
 
@@ -15,7 +15,7 @@ abbrev decreases-loop : tie.decreases-loop
 decreases-loop t₀ at v l₀ t l = 512 - l
 
 loop-holds : tie.Need-loop-init invariant-loop decreases-loop
-loop-holds c = pasted-none _ _ _ _
+loop-holds c = pasted_none _ _ _ _
 
 array-read-t : tie.Need-array-read-t invariant-loop decreases-loop
 array-read-t c = omega arith
@@ -37,7 +37,7 @@ loop-less c = omega arith
 loop-again : tie.Need-loop-preserved invariant-loop decreases-loop
 loop-again c =
     let l : length c.before.before.args.t3 ≡ 512 = search rules in
-    pasted-more c.before.before.args.t.now c.before.before.args.at c.before.before.args.t3 512 c.before.before.requires (omega arith) _ _ c.before.loop.invariant c.loop-test.true
+    pasted_more c.before.before.args.t.now c.before.before.args.at c.before.before.args.t3 512 c.before.before.requires (omega arith) _ _ c.before.loop.invariant c.loop-test.true
 
 same_length : tie.Need-same-length invariant-loop decreases-loop
 same_length c =
@@ -47,7 +47,7 @@ same_length c =
 returns : tie.Need-returns invariant-loop decreases-loop
 returns c =
     let l : length c.before.before.args.t3 ≡ 512 = search rules in
-    pasted-all c.before.before.args.t.now c.before.before.args.at c.before.before.args.t3 512 c.before.before.requires (omega arith) _ _ c.before.loop.invariant c.loop-test.false
+    pasted_all c.before.before.args.t.now c.before.before.args.at c.before.before.args.t3 512 c.before.before.requires (omega arith) _ _ c.before.loop.invariant c.loop-test.false
 
 pub store_spec : {M : Type 1} → statement M
 store_spec =

@@ -1,6 +1,6 @@
 use Prim.Native.Nat.{◌+◌, ◌-◌, ◌≤◌}
 use native.Mathlib.Omega.{arith}
-use Rattle.parties.proofs.records.BytesLaws.{Ored, ored-none, ored-more, ored-all}
+use Rattle.parties.proofs.records.BytesLaws.{Ored, ored_none, ored_more, ored_all}
 use Rattle.parties.proofs.records.bytes.zero_block.Statement.{statement}
 use Rattle.parties.proofs.records.bytes.zero_block.Tie as tie
 
@@ -11,7 +11,7 @@ abbrev decreases-loop : tie.decreases-loop
 decreases-loop t at bits₀ l₀ bits l = 256 - l
 
 loop-holds : tie.Need-loop-init invariant-loop decreases-loop
-loop-holds c = (omega arith, ored-none _ _ _ (omega arith))
+loop-holds c = (omega arith, ored_none _ _ _ (omega arith))
 
 add-bits : tie.Need-overflow-add-bits invariant-loop decreases-loop
 add-bits c = omega arith
@@ -26,10 +26,10 @@ loop-less : tie.Need-loop-smaller invariant-loop decreases-loop
 loop-less c = omega arith
 
 loop-again : tie.Need-loop-preserved invariant-loop decreases-loop
-loop-again c = (omega arith, ored-more _ _ _ _ _ (omega arith) (omega arith) c.before.before.loop.invariant.1)
+loop-again c = (omega arith, ored_more _ _ _ _ _ (omega arith) (omega arith) c.before.before.loop.invariant.1)
 
 returns : tie.Need-returns invariant-loop decreases-loop
-returns c = ored-all _ _ _ _ 256 c.before.loop.invariant.1 (omega arith)
+returns c = ored_all _ _ _ _ 256 c.before.loop.invariant.1 (omega arith)
 
 pub zero-block-spec : {M : Type 1} → statement M
 zero-block-spec =

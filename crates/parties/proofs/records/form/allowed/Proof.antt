@@ -1,7 +1,7 @@
 use borrow.Author.Rules.{rules}
 use mathlib.Core.Path.{sym, ap, ◌∙◌}
 use Rattle.parties.specs.declared.records.form.Rule.{Rule}
-use Rattle.parties.specs.records.Form.{allowedFront}
+use Rattle.parties.specs.records.Form.{allowed_front}
 use Rattle.parties.proofs.records.form.allowed.Statement.{statement}
 use Rattle.parties.proofs.records.form.allowed.Tie as tie
 
@@ -25,11 +25,11 @@ returns c = search rules
 
 returns-2 : tie.Need-returns-2
 returns-2 c =
-    let a = c.before.before.before.args in c.proper.ensures ∙ sym (ap (λ (r : Rule). allowedFront a.s r a.v a.map) c.before.enum-told2.given.1)
+    let a = c.before.before.before.args in c.proper.ensures ∙ sym (ap (λ (r : Rule). allowed_front a.s r a.v a.map) c.before.enum-told2.given.1)
 
 returns-3 : tie.Need-returns-3
 returns-3 c =
-    let a = c.before.before.before.before.args in c.owned.ensures ∙ sym (ap (λ (r : Rule). allowedFront a.s r a.v a.map) c.before.before.rule.given.1)
+    let a = c.before.before.before.before.args in c.owned.ensures ∙ sym (ap (λ (r : Rule). allowed_front a.s r a.v a.map) c.before.before.rule.given.1)
 
 pub allowed-spec : {M : Type 1} → statement M
 allowed-spec =

@@ -7,10 +7,10 @@ use native.Mathlib.Omega.{arith}
 use borrow.Author.Tests.{not-true, not-false}
 use lib.ListN.{drop, length-drop}
 use lib.Seq.{drop-drop}
-use Rattle.parties.specs.protocol.Directory.{Field, readContent}
+use Rattle.parties.specs.protocol.Directory.{Field, read_content}
 use Rattle.parties.specs.records.Form.{rest}
-use Rattle.parties.proofs.records.FormLaws.{fixed-fits, fixed-short}
-use Rattle.parties.proofs.records.RecordLaws.{fixed-indices}
+use Rattle.parties.proofs.records.FormLaws.{fixed_fits, fixed_short}
+use Rattle.parties.proofs.records.RecordLaws.{fixed_indices}
 use Rattle.parties.proofs.records.form.indices_if.Statement.{statement}
 use Rattle.parties.proofs.records.form.indices_if.Tie as tie
 
@@ -19,7 +19,7 @@ returns c = λ p.
     let a = c.before.args in
     let u = drop a.at a.t.now in
     record {
-      told = sym (ap (λ (b : Bool). cond b (rest (readContent p (Field.indices a.n) u)) (some u)) (not-true a.stands c.if1.true));
+      told = sym (ap (λ (b : Bool). cond b (rest (read_content p (Field.indices a.n) u)) (some u)) (not-true a.stands c.if1.true));
       within = (omega arith, c.before.requires.1);
     }
 
@@ -34,8 +34,8 @@ returns-2 c = λ p.
     let a = c.before.before.args in
     let u = drop a.at a.t.now in
     record {
-      told = sym (ap (λ (b : Bool). cond b (rest (readContent p (Field.indices a.n) u)) (some u)) (not-false a.stands c.before.if1.false)
-          ∙ fixed-short (a.n * 4) (readContent p (Field.indices a.n)) (fixed-indices p a.n) u (omega (arith, length-drop a.at a.t.now)));
+      told = sym (ap (λ (b : Bool). cond b (rest (read_content p (Field.indices a.n) u)) (some u)) (not-false a.stands c.before.if1.false)
+          ∙ fixed_short (a.n * 4) (read_content p (Field.indices a.n)) (fixed_indices p a.n) u (omega (arith, length-drop a.at a.t.now)));
       within = tt;
     }
 
@@ -51,8 +51,8 @@ returns-3 c = λ p.
     let u = drop a.at a.t.now in
     let e : a.at + a.n * 4 ≡ a.at + 4 * a.n = omega arith in
     record {
-      told = sym (ap (λ (b : Bool). cond b (rest (readContent p (Field.indices a.n) u)) (some u)) (not-false a.stands c.before.if1.false)
-          ∙ fixed-fits (a.n * 4) (readContent p (Field.indices a.n)) (fixed-indices p a.n) u (omega (arith, length-drop a.at a.t.now))
+      told = sym (ap (λ (b : Bool). cond b (rest (read_content p (Field.indices a.n) u)) (some u)) (not-false a.stands c.before.if1.false)
+          ∙ fixed_fits (a.n * 4) (read_content p (Field.indices a.n)) (fixed_indices p a.n) u (omega (arith, length-drop a.at a.t.now))
           ∙ ap some (drop-drop (a.n * 4) a.at a.t.now ∙ ap (λ (k : ℕ). drop k a.t.now) e));
       within = (omega arith, omega arith);
     }

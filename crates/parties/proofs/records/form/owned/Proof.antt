@@ -2,9 +2,9 @@ use borrow.Author.Rules.{rules}
 use mathlib.Core.Path.{◌≡◌, sym, ap, ◌∙◌}
 use mathlib.Core.Bool.{Bool, true, ◌&&◌}
 use borrow.Author.Tests.{not-true, not-false}
-use Rattle.parties.specs.protocol.Owner.{ownPointer}
-use Rattle.parties.specs.records.Form.{front, properFront}
-use Rattle.parties.proofs.records.RecordLaws.{front-own, front-other}
+use Rattle.parties.specs.protocol.Owner.{own_pointer}
+use Rattle.parties.specs.records.Form.{front, proper_front}
+use Rattle.parties.proofs.records.RecordLaws.{front_own, front-other}
 use Rattle.parties.proofs.records.form.owned.Statement.{statement}
 use Rattle.parties.proofs.records.form.owned.Tie as tie
 
@@ -15,9 +15,9 @@ returns : tie.Need-returns
 returns c =
     let a = c.before.before.args in
     let p = c.before.proper in
-    sym (ap (λ (b : Bool). b && ownPointer a.own (front a.v a.map)) (sym p.ensures ∙ not-true p.result c.if1.true))
+    sym (ap (λ (b : Bool). b && own_pointer a.own (front a.v a.map)) (sym p.ensures ∙ not-true p.result c.if1.true))
 
-keeps : (c : tie.Else1) → let a = c.before.before.args in properFront a.s a.v a.map ≡ true
+keeps : (c : tie.Else1) → let a = c.before.before.args in proper_front a.s a.v a.map ≡ true
 keeps c = let p = c.before.proper in sym p.ensures ∙ not-false p.result c.if1.false
 
 cast-if2 : tie.Need-overflow-cast-if2
@@ -25,7 +25,7 @@ cast-if2 c = search rules
 
 returns-2 : tie.Need-returns-2
 returns-2 c =
-    let a = c.before.before.before.before.args in front-own a.s a.v a.map a.own (keeps c.before.before) c.if2.true
+    let a = c.before.before.before.before.args in front_own a.s a.v a.map a.own (keeps c.before.before) c.if2.true
 
 is-none-requires : tie.Need-is-none-requires
 is-none-requires c κs = search rules

@@ -7,7 +7,7 @@ use borrow.Author.Tests.{not-true, not-false}
 use lib.ListN.{drop, length-drop}
 use Rattle.coding.proofs.NodesLaws.{nodes-few}
 use Rattle.parties.specs.protocol.Nodes.{count}
-use Rattle.parties.proofs.records.RecordLaws.{pointer-short, pointer-improper, pointer-long, pointer-sound}
+use Rattle.parties.proofs.records.RecordLaws.{pointer-short, pointer_improper, pointer-long, pointer-sound}
 use Rattle.parties.proofs.records.PlaceLaws.{version-read}
 use Rattle.parties.proofs.records.form.pointer.Statement.{statement}
 use Rattle.parties.proofs.records.form.pointer.Tie as tie
@@ -55,7 +55,7 @@ returns-2 c =
     let p = c.before.allowed in
     let r = c.before.before.before.before.before.if1.false in
     record {
-      told = sym (pointer-improper a.s a.rule a.t.now a.at v.result m.result r (version-read a.t.now a.at v.result v.ensures (omega arith)) m.ensures
+      told = sym (pointer_improper a.s a.rule a.t.now a.at v.result m.result r (version-read a.t.now a.at v.result v.ensures (omega arith)) m.ensures
           (sym p.ensures ∙ not-true p.result c.if2.true));
       within = tt;
     }

@@ -3,14 +3,14 @@ use mathlib.Core.Path.{◌≡◌, sym, ap, ◌∙◌}
 use Prim.Native.Nat.{ℕ, ◌-◌, ◌≤◌}
 use native.Mathlib.Omega.{arith}
 use lib.ListN.{length, drop}
-use Rattle.parties.specs.protocol.Format.{readMany}
-use Rattle.parties.specs.records.Form.{rest, pointerBy}
-use Rattle.parties.proofs.records.FormLaws.{formed-sound, formed-broken, many-turn, many-broken, many-end}
+use Rattle.parties.specs.protocol.Format.{read_many}
+use Rattle.parties.specs.records.Form.{rest, pointer_by}
+use Rattle.parties.proofs.records.FormLaws.{formed_sound, formed_broken, many_turn, many-broken, many_end}
 use Rattle.parties.proofs.records.form.pointers.Statement.{statement}
 use Rattle.parties.proofs.records.form.pointers.Tie as tie
 
 abbrev invariant-loop : tie.invariant-loop
-invariant-loop s rule n t at p₀ i₀ p i = (i ≤ n) × (at ≤ p) × (p ≤ length t) × (rest (readMany (pointerBy s rule) n (drop at t)) ≡ rest (readMany (pointerBy s rule) (n - i) (drop p t)))
+invariant-loop s rule n t at p₀ i₀ p i = (i ≤ n) × (at ≤ p) × (p ≤ length t) × (rest (read_many (pointer_by s rule) n (drop at t)) ≡ rest (read_many (pointer_by s rule) (n - i) (drop p t)))
 
 abbrev decreases-loop : tie.decreases-loop
 decreases-loop s rule n t at p₀ i₀ p i = n - i
@@ -19,7 +19,7 @@ loop-holds : tie.Need-loop-init invariant-loop decreases-loop
 loop-holds c =
     let a = c.before.args in
     let e : a.n - 0 ≡ a.n = omega arith in
-    (omega arith, omega arith, omega arith, ap (λ (k : ℕ). rest (readMany (pointerBy a.s a.rule) k (drop a.at a.t.now))) (sym e))
+    (omega arith, omega arith, omega arith, ap (λ (k : ℕ). rest (read_many (pointer_by a.s a.rule) k (drop a.at a.t.now))) (sym e))
 
 pointer-requires : tie.Need-pointer-requires invariant-loop decreases-loop
 pointer-requires c κs = (c.before.before.before.requires.0, omega arith)
@@ -37,8 +37,8 @@ returns c =
     let p = c.before.before.pointer in
     record {
       told = sym (l.invariant.3
-          ∙ many-broken (pointerBy a.s a.rule) a.n l.i (drop l.p a.t.now) c.before.before.before.loop-test.true
-          (formed-broken a.t.now l.p (rest (pointerBy a.s a.rule (drop l.p a.t.now))) p.result p.ensures c.enum_told.given.1));
+          ∙ many-broken (pointer_by a.s a.rule) a.n l.i (drop l.p a.t.now) c.before.before.before.loop-test.true
+          (formed_broken a.t.now l.p (rest (pointer_by a.s a.rule (drop l.p a.t.now))) p.result p.ensures c.enum_told.given.1));
       within = tt;
     }
 
@@ -54,11 +54,11 @@ loop-again c =
     let l = c.before.before.before.before.before.loop in
     let p = c.before.before.before.pointer in
     let next = c.before.next.given.0.0 in
-    let g = formed-sound a.t.now l.p next (rest (pointerBy a.s a.rule (drop l.p a.t.now))) p.result p.ensures c.before.next.given.1 in (
+    let g = formed_sound a.t.now l.p next (rest (pointer_by a.s a.rule (drop l.p a.t.now))) p.result p.ensures c.before.next.given.1 in (
       omega arith,
       omega arith,
       omega arith,
-      l.invariant.3 ∙ many-turn (pointerBy a.s a.rule) a.n l.i (drop l.p a.t.now) c.before.before.before.before.loop-test.true (drop next a.t.now) g.left,
+      l.invariant.3 ∙ many_turn (pointer_by a.s a.rule) a.n l.i (drop l.p a.t.now) c.before.before.before.before.loop-test.true (drop next a.t.now) g.left,
     )
 
 returns-2 : tie.Need-returns-2 invariant-loop decreases-loop
@@ -66,7 +66,7 @@ returns-2 c =
     let a = c.before.before.before.args in
     let l = c.before.loop in
     record {
-      told = sym (l.invariant.3 ∙ many-end (pointerBy a.s a.rule) a.n l.i (drop l.p a.t.now) c.loop-test.false);
+      told = sym (l.invariant.3 ∙ many_end (pointer_by a.s a.rule) a.n l.i (drop l.p a.t.now) c.loop-test.false);
       within = (l.invariant.1, l.invariant.2);
     }
 

@@ -5,9 +5,9 @@ use native.Mathlib.Omega.{arith}
 use borrow.Author.Tests.{eq-eqb, ne_eqb, not-true, not-false}
 use lib.Dec.{eqb, ltb}
 use Rattle.parties.specs.protocol.Nodes.{count}
-use Rattle.parties.specs.records.Form.{properFront}
+use Rattle.parties.specs.records.Form.{proper_front}
 use Rattle.parties.proofs.protocol.formats.MeasureLaws.{passed}
-use Rattle.parties.proofs.records.RecordLaws.{front-none, front-some}
+use Rattle.parties.proofs.records.RecordLaws.{front-none, front_some}
 use Rattle.parties.proofs.records.form.proper.Statement.{statement}
 use Rattle.parties.proofs.records.form.proper.Tie as tie
 
@@ -27,15 +27,15 @@ returns-2 c =
     let a = c.before.before.before.before.args in
     let p = c.before.proper in
     sym (ap (λ (b : Bool). b && (eqb (count a.map) (a.s.t + a.s.k) && ltb a.map (2 ^ a.s.n))) (sym p.ensures ∙ not-true p.result c.if2.true))
-    ∙ front-some a.s a.v a.map (sym c.before.before.before.is_none.ensures ∙ c.before.before.if1.false)
+    ∙ front_some a.s a.v a.map (sym c.before.before.before.is_none.ensures ∙ c.before.before.if1.false)
 
 -- a version that is proper, and the nodes' tests
-some : (c : tie.Else2) → let a = c.before.before.before.before.args in (eqb (count a.map) (a.s.t + a.s.k) && ltb a.map (2 ^ a.s.n)) ≡ properFront a.s a.v a.map
+some : (c : tie.Else2) → let a = c.before.before.before.before.args in (eqb (count a.map) (a.s.t + a.s.k) && ltb a.map (2 ^ a.s.n)) ≡ proper_front a.s a.v a.map
 some c =
     let a = c.before.before.before.before.args in
     let p = c.before.proper in
     sym (ap (λ (b : Bool). b && (eqb (count a.map) (a.s.t + a.s.k) && ltb a.map (2 ^ a.s.n))) (sym p.ensures ∙ not-false p.result c.if2.false))
-    ∙ front-some a.s a.v a.map (sym c.before.before.before.is_none.ensures ∙ c.before.before.if1.false)
+    ∙ front_some a.s a.v a.map (sym c.before.before.before.is_none.ensures ∙ c.before.before.if1.false)
 
 add-if3 : tie.Need-overflow-add-if3
 add-if3 c = let x = c.before.before.before.before.before in omega (arith, (passed x.args.s x.requires.0).enough)

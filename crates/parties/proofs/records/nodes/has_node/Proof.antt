@@ -1,13 +1,13 @@
 use borrow.Author.Rules.{rules}
-use Rattle.parties.proofs.records.NodesLaws.{has-low, has-high, has_within}
+use Rattle.parties.proofs.records.NodesLaws.{has_low, has_high, has_within}
 use Rattle.parties.proofs.records.nodes.has_node.Statement.{statement}
 use Rattle.parties.proofs.records.nodes.has_node.Tie as tie
 
 returns : tie.Need-returns
-returns c = has-low c.before.args.map c.before.args.i c.if1.true
+returns c = has_low c.before.args.map c.before.args.i c.if1.true
 
 returns-2 : tie.Need-returns-2
-returns-2 c = let a = c.before.before.args in has-high a.map a.i c.before.if1.false c.if2.true
+returns-2 c = let a = c.before.before.args in has_high a.map a.i c.before.if1.false c.if2.true
 
 stands-requires : tie.Need-stands-requires
 stands-requires c κs = search rules

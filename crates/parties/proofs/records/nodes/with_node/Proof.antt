@@ -1,6 +1,6 @@
 use Prim.Native.Nat.{◌-◌}
 use native.Mathlib.Omega.{arith}
-use Rattle.parties.proofs.records.NodesLaws.{or-power, one_shifted}
+use Rattle.parties.proofs.records.NodesLaws.{or_power, one_shifted}
 use borrow.Author.Rules.{rules}
 use Rattle.parties.proofs.records.nodes.with_node.Statement.{statement}
 use Rattle.parties.proofs.records.nodes.with_node.Tie as tie
@@ -15,7 +15,7 @@ shl-result : tie.Need-overflow-shl-result
 shl-result c = search rules
 
 returns : tie.Need-returns
-returns c = rw (one_shifted (c.args.i - 1) (omega arith)) (or-power c.args.map c.args.i)
+returns c = rw (one_shifted (c.args.i - 1) (omega arith)) (or_power c.args.map c.args.i)
 
 pub with-node-spec : {M : Type 1} → statement M
 with-node-spec = tie.close (tie.spec sub-result cast-result shl-result returns)
