@@ -3,7 +3,7 @@ use Rattle.std.proofs.Common.{◌≡◌, ℕ, ◌-◌, ◌*◌, ◌<◌, ◌≤�
 use native.Mathlib.Decide.{dec_lt}
 use lib.Seq.{paste, take-paste, drop-paste}
 use Rattle.coding.specs.Pieces.{proper, columns, piece}
-use Rattle.coding.specs.Split.{SplitEnd, split, cut}
+use Rattle.coding.specs.Split.{SplitEnd}
 use Rattle.coding.specs.Join.{piece_in}
 use Rattle.coding.specs.Alone.{Alone}
 use Rattle.coding.proofs.SplitLaws.{split-long, split_done, cut-long, cut-done}

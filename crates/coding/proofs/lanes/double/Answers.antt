@@ -1,0 +1,25 @@
+use Rattle.std.proofs.Common.{◌≡◌, ℕ, length, get_or, ap, ◌∙◌, arith, length-set, rules}
+use lib.ListN.{get_or-eq_default}
+use Rattle.coding.specs.Field.{product}
+use Rattle.coding.proofs.FieldLaws.{zero_product}
+use Rattle.coding.proofs.LaneLaws.{lanes_filled}
+use Rattle.coding.proofs.BytesLaws.{stored_more}
+use Rattle.coding.proofs.lanes.double.Goals as goal
+
+pub loop-l-preserved : goal.loop-l-preserved
+loop-l-preserved c =
+    let v = c.args.v in
+    let r = c.loop-l.r in
+    let l = c.loop-l.l in (
+      search rules,
+      length-set r l c.twice.result ∙ c.loop-l.invariant.1,
+      stored_more 0 (λ k y. y ≡ product (get_or v k 0) 2) l r c.twice.result (search rules) c.loop-l.invariant.2 c.twice.ensures,
+    )
+
+pub returns : goal.returns
+returns c =
+    let v = c.args.v in
+    let h : length v ≡ 16 = search rules in
+    lanes_filled (λ k. product (get_or v k 0) 2) c.loop-l.r 16 c.loop-l.invariant.1
+    (λ k p. ap (λ (x : ℕ). product x 2) (get_or-eq_default v 0 (omega arith)) ∙ zero_product 2)
+    (λ k p. c.loop-l.invariant.2 k (omega arith))

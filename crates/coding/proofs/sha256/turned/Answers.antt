@@ -1,0 +1,6 @@
+use Rattle.coding.specs.Sha256.{turned}
+use Rattle.coding.proofs.sha256.turned.Goals as goal
+
+pub returns : goal.returns
+unfolding turned
+returns c = simp (c.add-2.ensures, c.add.ensures, c.t2.ensures, c.t1-x.ensures)
