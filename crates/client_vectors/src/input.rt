@@ -4,7 +4,7 @@ ghost use Rattle.std.specs.Prelude.{◌+◌, ◌≤◌, ◌<◌, length};
 use libc::STDIN_FILENO;
 use parties::Measures;
 
-#[derive(Drop)]
+#[derive(Clone, Copy)]
 pub struct Call {
     pub more: bool,
     pub kind: u8,

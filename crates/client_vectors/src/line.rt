@@ -2,7 +2,7 @@
 use numbers::numbers_of;
 use parties::{ClientAnswer, Phase, Version};
 
-#[derive(Drop)]
+#[derive(Clone, Copy)]
 pub struct Effect {
     pub answer: ClientAnswer,
     pub phase: Phase,

@@ -8,6 +8,8 @@
 // 6 a message, 7 they become the record's front.
 // A call goes through `parties::client::turn`, and once more through `parties::client::record`; one whose answer, record, room or output
 // would then be others is followed by a line of words.
+#![tactic(auto)]
+
 mod call;
 mod forms;
 mod input;

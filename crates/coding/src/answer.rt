@@ -1,6 +1,6 @@
 // What splitting and joining answer.
 
-#[derive(Drop)]
+#[derive(Clone, Copy)]
 pub enum Refusal {
     Measures,
     Short,
@@ -10,14 +10,14 @@ pub enum Refusal {
     TooFew,
 }
 
-#[derive(Drop)]
+#[derive(Clone, Copy)]
 pub enum SplitAnswer {
     // The length of each piece.
     Pieces(usize),
     Refused(Refusal),
 }
 
-#[derive(Drop)]
+#[derive(Clone, Copy)]
 pub enum JoinAnswer {
     // The length of the page at the front of the output.
     Page(usize),

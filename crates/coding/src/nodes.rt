@@ -2,7 +2,7 @@
 ghost use Rattle.std.specs.Prelude.{◌≡◌, ℕ, ◌+◌, ◌-◌, ◌/◌, ◌%◌, ◌^◌, ◌<◌, ◌≤◌, length, take, ◌==◌, nat_lt, slice_index};
 ghost use Rattle.coding.specs.Nodes.{sound, Named};
 
-#[derive(Drop)]
+#[derive(Clone, Copy)]
 pub struct Nodes {
     pub list: [u8; 16],
     pub count: usize,

@@ -1,5 +1,7 @@
 // The coding layer for C and Rust: each function takes numbers and slices, requires nothing, and answers with one number. A
 // length is below 2^32, so that a refusal is told apart by that bit.
+#![tactic(auto)]
+
 ghost use Rattle.std.specs.Prelude.{◌≡◌, ◌≤◌, length, take};
 ghost use Rattle.std.proofs.Math.Seq.{paste};
 ghost use Rattle.coding.specs.Answer.{refuses, number, split_outcome, join_outcome};

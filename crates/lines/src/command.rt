@@ -4,7 +4,7 @@ ghost use Rattle.lines.specs.Command.{config_from, read_from, deposit_from, aske
 
 use crate::read::{Line, Page};
 
-#[derive(Drop)]
+#[derive(Clone, Copy)]
 pub enum Command {
     // m, n, k, t and F.
     Config(usize, usize, usize, usize, usize),

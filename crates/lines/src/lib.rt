@@ -1,3 +1,5 @@
+#![tactic(auto)]
+
 pub mod command;
 pub mod read;
 pub mod text;

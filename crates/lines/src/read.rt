@@ -4,7 +4,7 @@ ghost use Rattle.lines.specs.Words.{between as within, hex_value};
 ghost use Rattle.lines.specs.Read.{counted, packed_with, value_with, bytes_with, page_with, name_from, number_from, numbers_with, begun, space_of, letter_of, next_of, next_page, page_from, ended_of};
 
 // What was read of a line so far.
-#[derive(Drop)]
+#[derive(Clone, Copy)]
 pub struct Reading {
     // Words so far, the one under way too; 8 for more than 7.
     pub words: usize,
@@ -29,7 +29,7 @@ pub struct Reading {
 }
 
 // The last word as a page.
-#[derive(Drop)]
+#[derive(Clone, Copy)]
 pub enum Page {
     // So many bytes at the front of the slice.
     Bytes(usize),
@@ -38,7 +38,7 @@ pub enum Page {
 }
 
 // What a line says.
-#[derive(Drop)]
+#[derive(Clone, Copy)]
 pub struct Line {
     pub words: usize,
     pub name: u64,

@@ -1,4 +1,6 @@
 // Answers as numbers, for C and Rust.
+#![tactic(auto)]
+
 ghost use Rattle.std.specs.Prelude.{◌≡◌};
 ghost use Rattle.parties.specs.protocol.Answer.{refuses};
 ghost use Rattle.parties.specs.records.Answer.{number};

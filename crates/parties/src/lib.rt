@@ -1,4 +1,6 @@
 // What the parties' events take and give; beside it the rooms of the layer.
+#![tactic(auto)]
+
 pub mod client;
 pub mod directory;
 mod message;
@@ -8,7 +10,7 @@ pub mod records;
 pub mod sizes;
 
 // The measures of a set of tables.
-#[derive(Drop)]
+#[derive(Clone, Copy)]
 pub struct Measures {
     pub m: usize,
     pub n: usize,
@@ -18,26 +20,26 @@ pub struct Measures {
 }
 
 // Sequence numbers and reading indices are separate counters; no rule compares one with the other.
-#[derive(Drop)]
+#[derive(Clone, Copy)]
 pub struct Sequence(pub u32);
 
-#[derive(Drop)]
+#[derive(Clone, Copy)]
 pub struct ReadingIndex(pub u32);
 
-#[derive(Drop)]
+#[derive(Clone, Copy)]
 pub struct Version {
     pub sequence: Sequence,
     pub client: u8,
 }
 
-#[derive(Drop)]
+#[derive(Clone, Copy)]
 pub enum NextSequence {
     Drawn(Sequence),
     // The last sequence number is in use.
     Spent,
 }
 
-#[derive(Drop)]
+#[derive(Clone, Copy)]
 pub enum NextIndex {
     Raised(ReadingIndex),
     // The last reading index is in use.
@@ -45,7 +47,7 @@ pub enum NextIndex {
 }
 
 // What is refused.
-#[derive(Drop)]
+#[derive(Clone, Copy)]
 pub enum Refusal {
     // 1: measures out of bounds
     Measures,
@@ -72,14 +74,14 @@ pub enum Refusal {
 }
 
 // An answer of the directory or of a node: refused, or so many bytes at the front of the room.
-#[derive(Drop)]
+#[derive(Clone, Copy)]
 pub enum Service {
     Refused(Refusal),
     Served(usize),
 }
 
 // Of an event at a client. What it sends stands in the room.
-#[derive(Drop)]
+#[derive(Clone, Copy)]
 pub enum ClientAnswer {
     Refused(Refusal),
     // Nothing more to do.
@@ -105,14 +107,14 @@ pub enum ClientAnswer {
 }
 
 // The part of a client's record that goes by value: its step and its reading index. The rest is a lent area.
-#[derive(Drop)]
+#[derive(Clone, Copy)]
 pub struct Phase {
     pub step: u8,
     pub reading: ReadingIndex,
 }
 
 // What an event at a client leaves: the phase after it, and its answer.
-#[derive(Drop)]
+#[derive(Clone, Copy)]
 pub struct Turned {
     pub phase: Phase,
     pub answer: ClientAnswer,

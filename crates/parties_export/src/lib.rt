@@ -1,4 +1,6 @@
 // Directory, data node and client for C and Rust: each function takes numbers and slices, and requires nothing.
+#![tactic(auto)]
+
 ghost use Rattle.std.specs.Prelude.{◌≡◌};
 ghost use Rattle.parties.specs.protocol.DirectoryEvents.{directory_fresh, directory_update, directory_scan};
 ghost use Rattle.parties.specs.protocol.NodeEvents.{node_fresh, node_message};

@@ -3,6 +3,8 @@
 //     kind (1 byte), whether the table after it is kept (1), m n k t F and a number (2 each), the length lent of the table
 //     and of a room (4 each), a place of the table (4), what its byte is changed by (1), the message's length (2), and the message
 // Kinds: 1 a fresh directory, 2 an update, 3 a scan, 4 a fresh node table, 5 a message to a node.
+#![tactic(auto)]
+
 mod call;
 mod input;
 

@@ -8,7 +8,7 @@ use coding::join::join;
 use coding::split::{cut, split};
 
 // The arguments of the next call, how much is lent of each slice among them, and the sum of its line so far.
-#[derive(Drop)]
+#[derive(Clone, Copy)]
 pub struct Call {
     pub n: usize,
     pub k: usize,
@@ -22,7 +22,7 @@ pub struct Call {
 }
 
 // The number of a refusal, or 0 and a length.
-#[derive(Drop)]
+#[derive(Clone, Copy)]
 pub struct Answer {
     pub number: usize,
     pub len: usize,

@@ -12,6 +12,8 @@
 // Bit map and lengths are those of the last join. After the arguments come the number of a refusal, or 0, and the length that is
 // answered. BYTES are those given and those written, as the call left them, where they are few. SUM is a checksum of them all. A
 // digit is the number; the bytes of a call with a digit enter the next sum.
+#![tactic(auto)]
+
 mod call;
 mod input;
 mod print;

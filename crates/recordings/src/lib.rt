@@ -1,3 +1,5 @@
+#![tactic(auto)]
+
 pub mod answer;
 pub mod arrange;
 mod blocks;

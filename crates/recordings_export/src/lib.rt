@@ -1,4 +1,6 @@
 // Recordings by byte plane for C and Rust: each function takes a width and slices, requires nothing, and answers with one number.
+#![tactic(auto)]
+
 ghost use Rattle.std.specs.Prelude.{◌≡◌};
 ghost use Rattle.recordings.specs.Answer.{refuses, number, outcome};
 ghost use Rattle.recordings.specs.Arrange.{planes, samples};

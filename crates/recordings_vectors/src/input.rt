@@ -4,7 +4,7 @@ ghost use Rattle.std.specs.Prelude.{◌+◌, ◌≤◌, ◌<◌, length};
 use libc::STDIN_FILENO;
 
 // A head; `more` is false at the end of the input.
-#[derive(Drop)]
+#[derive(Clone, Copy)]
 pub struct Call {
     pub more: bool,
     pub which: u8,

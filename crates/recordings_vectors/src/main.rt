@@ -8,6 +8,8 @@
 //     NAME WIDTH DATA OUT: NUMBER BYTES.. sum SUM
 // with the two lengths, and without a width where none is taken. NUMBER is that of the refusal, or 0. BYTES are those of the data and of
 // the output, as the call left them, where they are few. SUM is a checksum of both.
+#![tactic(auto)]
+
 mod call;
 mod input;
 mod print;

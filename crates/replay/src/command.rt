@@ -3,7 +3,7 @@ use lines::command::{Command as StandCommand, asked as asked_of_stand};
 use lines::read::{Line, Page};
 use parties::Measures;
 
-#[derive(Drop)]
+#[derive(Clone, Copy)]
 pub enum Event {
     // A client, and a page of so many bytes.
     Deposit(usize, usize),
@@ -19,7 +19,7 @@ pub enum Event {
     Lie(usize, usize, usize),
 }
 
-#[derive(Drop)]
+#[derive(Clone, Copy)]
 pub enum Command {
     // An empty line, or one whose first word is `#`.
     Nothing,

@@ -1,4 +1,6 @@
 // `replay`: a script of single events from standard input, one a line, and after each what happened.
+#![tactic(auto)]
+
 use crate::run::{Run, line, start};
 use crate::space::{Input, Memory, Page, Post};
 use libc::STDIN_FILENO;
@@ -11,7 +13,7 @@ mod run;
 mod space;
 
 // A run, and what was read of the next line.
-#[derive(Drop)]
+#[derive(Clone, Copy)]
 struct Script {
     run: Run,
     reading: Reading,

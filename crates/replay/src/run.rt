@@ -12,7 +12,7 @@ use runs::least::least;
 use title::fresh::fresh;
 use title::{Part, table_part};
 
-#[derive(Drop)]
+#[derive(Clone, Copy)]
 pub struct Run {
     // 0 before a `config`, 1 after it, 2 after the first event, also one that is refused.
     pub stage: u8,

@@ -1,7 +1,7 @@
 // What an event of a run answers.
 use parties::{ClientAnswer, Refusal, Service};
 
-#[derive(Drop)]
+#[derive(Clone, Copy)]
 pub enum Happened {
     // The event is not carried out.
     Refused(Refusal),
@@ -13,7 +13,7 @@ pub enum Happened {
     ByServer(Service),
 }
 
-#[derive(Drop)]
+#[derive(Clone, Copy)]
 pub struct EventEnd {
     // How many bytes of parcels are under way after it.
     pub used: usize,

@@ -29,14 +29,14 @@ use title::title::{
 };
 use title::{Part, table_part};
 
-#[derive(Drop)]
+#[derive(Clone, Copy)]
 pub enum Readiness {
     Yes,
     No(Refusal),
 }
 
 // What an event that hands over a parcel finds.
-#[derive(Drop)]
+#[derive(Clone, Copy)]
 pub enum Ahead {
     // It ends here: refused, or nothing is under way.
     Ends(EventEnd),
@@ -45,7 +45,7 @@ pub enum Ahead {
 }
 
 // What an event that goes to a client at once finds.
-#[derive(Drop)]
+#[derive(Clone, Copy)]
 pub enum Clear {
     Yes,
     // It ends here, refused.

@@ -1,3 +1,5 @@
+#![tactic(auto)]
+
 pub mod answer;
 mod bytes;
 pub mod event;

@@ -27,7 +27,7 @@ pub const FILLED: u8 = 1;
 // The heading: kind, client and node in a byte each, the length in four.
 pub const HEADING: usize = 7;
 
-#[derive(Drop)]
+#[derive(Clone, Copy)]
 pub enum Found {
     // The parcel from the first place to the second.
     At(usize, usize),

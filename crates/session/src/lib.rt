@@ -1,3 +1,5 @@
+#![tactic(auto)]
+
 pub mod say;
 pub mod session;
 pub mod settle;

@@ -15,7 +15,7 @@ use runs::event::{deposit, needed, reading};
 use runs::least::least;
 use title::fresh::fresh;
 
-#[derive(Drop)]
+#[derive(Clone, Copy)]
 pub struct Session {
     // 0 before the first line, 1 after a `config`, 2 after a first line that was refused.
     pub stage: u8,
@@ -27,7 +27,7 @@ pub struct Session {
     pub reading: Reading,
 }
 
-#[derive(Drop)]
+#[derive(Clone, Copy)]
 pub struct Answer {
     pub session: Session,
     // The length of the line that answers, or 0.
@@ -35,7 +35,7 @@ pub struct Answer {
 }
 
 // How long the slices are that are lent with the memory.
-#[derive(Drop)]
+#[derive(Clone, Copy)]
 pub struct Lengths {
     pub room: usize,
     pub out: usize,

@@ -7,7 +7,7 @@ use parties::Measures;
 use runs::answer::EventEnd;
 use runs::oldest::oldest;
 
-#[derive(Drop)]
+#[derive(Clone, Copy)]
 pub struct Settled {
     // How many bytes of parcels are still under way: none after an operation.
     pub used: usize,

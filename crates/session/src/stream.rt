@@ -53,7 +53,7 @@ fn more(stage: u8, most: usize, input: &mut [u8]) -> usize
     io::count(libc::read(STDIN_FILENO, part), part)
 }
 
-#[derive(Drop)]
+#[derive(Clone, Copy)]
 pub struct Fed {
     pub session: Session,
     // How many bytes were not read.

@@ -2,6 +2,8 @@
 // empty one and the standard's examples; a number is how many bytes of a pattern the message has. Then come placed pieces, by
 // version, node and length, and beside them messages that a placed piece's digest must not be taken of: its fields in another
 // order, and the piece alone.
+#![tactic(auto)]
+
 ghost use Rattle.std.specs.Prelude.{◌≤◌};
 
 use libc::STDOUT_FILENO;

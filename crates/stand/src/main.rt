@@ -1,4 +1,6 @@
 // `stand`: deposits and readings from standard input, one a line, each message delivered at once.
+#![tactic(auto)]
+
 use session::session::start;
 use session::space;
 use session::stream::{end, feed_input};

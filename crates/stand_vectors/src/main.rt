@@ -1,5 +1,7 @@
 // Executes sessions of `stand`, one after the other, and writes a line `=` after each. Standard input has them, each after its length (4 bytes, high byte
 // first).
+#![tactic(auto)]
+
 ghost use Rattle.std.specs.Prelude.{◌<◌, ◌≤◌, length};
 
 use libc::{STDIN_FILENO, STDOUT_FILENO};

@@ -1,3 +1,5 @@
+#![tactic(auto)]
+
 pub mod fresh;
 mod memory;
 pub mod title;

@@ -10,7 +10,7 @@ ghost use Rattle.title.specs.Part.{Placed};
 use parties::{Measures, Refusal, sizes};
 
 // Where a part of the memory stands.
-#[derive(Drop)]
+#[derive(Clone, Copy)]
 pub enum Part {
     // From the first place to the second.
     Within(usize, usize),

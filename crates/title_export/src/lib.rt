@@ -1,4 +1,6 @@
 // The title service for C and Rust: each function takes numbers and slices, and requires nothing.
+#![tactic(auto)]
+
 ghost use Rattle.std.specs.Prelude.{◌≡◌};
 ghost use Rattle.parties.specs.protocol.ClientEvents.{start_deposit, start_reading, update_answer, scan_answer, client_message};
 ghost use Rattle.parties.specs.protocol.DirectoryEvents.{directory_update, directory_scan};

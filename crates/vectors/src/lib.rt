@@ -1,4 +1,6 @@
 // What the programs that execute vectors have in common: bytes to work on, sums of them, and printing.
+#![tactic(auto)]
+
 ghost use Rattle.std.specs.Prelude.{◌≡◌, ◌<◌, length};
 ghost use Rattle.vectors.specs.Bytes.{poison_of, checksum_from};
 

@@ -26,7 +26,7 @@ use crate::records::version::version_at;
 use crate::{ClientAnswer, Measures, Phase, ReadingIndex, Version};
 
 // A row, by its place, and the version of the pointer that it offers.
-#[derive(Drop)]
+#[derive(Clone, Copy)]
 pub struct Offer {
     pub row: usize,
     pub version: Version,

@@ -9,7 +9,7 @@ use crate::client::form::{area_size, sound};
 use crate::records::form::row_size;
 use crate::{Measures, Phase, Refusal};
 
-#[derive(Drop)]
+#[derive(Clone, Copy)]
 pub enum Gate {
     Open,
     Shut(Refusal),

@@ -26,7 +26,7 @@ use coding::answer::JoinAnswer;
 use coding::join::join;
 
 // What a reading keeps beside its pieces: the picked version, the nodes named, those counted, those that match.
-#[derive(Drop)]
+#[derive(Clone, Copy)]
 pub struct Standing {
     pub version: Version,
     pub named: u16,

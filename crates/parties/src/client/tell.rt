@@ -7,7 +7,7 @@ use crate::protocol::tags::{FREED, REPLY, STORED};
 use crate::records::version::{proper_at, version_alone, version_at};
 use crate::{Measures, Version};
 
-#[derive(Drop)]
+#[derive(Clone, Copy)]
 pub enum Told {
     // A version is stored.
     Stored(Version),

@@ -22,7 +22,7 @@ pub(crate) const DEPOSIT_MAP: u8 = 7;
 pub(crate) const READING_MAP: u8 = 8;
 
 // What is asked of a pointer.
-#[derive(Drop)]
+#[derive(Clone, Copy)]
 pub enum Rule {
     // Its length alone.
     Length,
@@ -33,7 +33,7 @@ pub enum Rule {
 }
 
 // Of a record at a place.
-#[derive(Drop)]
+#[derive(Clone, Copy)]
 pub enum Form {
     // The place after it.
     Sound(usize),
@@ -41,7 +41,7 @@ pub enum Form {
 }
 
 // Where each field of a directory record ends; a field whose bit does not stand has no bytes.
-#[derive(Drop)]
+#[derive(Clone, Copy)]
 pub struct Ends {
     pub written: usize,
     pub frozen: usize,
@@ -50,35 +50,35 @@ pub struct Ends {
 }
 
 // Of a directory record's fields.
-#[derive(Drop)]
+#[derive(Clone, Copy)]
 pub enum Parts {
     Sound(Ends),
     Broken,
 }
 
 // Of the proper fields of a client's record or row: where they end, and whether each pointer is that client's.
-#[derive(Drop)]
+#[derive(Clone, Copy)]
 pub enum OwnParts {
     Sound(Ends, bool),
     Broken,
 }
 
 // Of the record of an update: the same, or why it is refused.
-#[derive(Drop)]
+#[derive(Clone, Copy)]
 pub enum Record {
     Sound(Ends, bool),
     Broken(Refusal),
 }
 
 // Of a directory row or table that keeps its form: whether each pointer is its row's client's.
-#[derive(Drop)]
+#[derive(Clone, Copy)]
 pub enum Table {
     Sound(bool),
     Broken,
 }
 
 // Of a directory table: why it is refused, if it is.
-#[derive(Drop)]
+#[derive(Clone, Copy)]
 pub enum Verdict {
     Sound,
     Broken(Refusal),
