@@ -24,6 +24,5 @@ pub mod FreeListLaws
 pub mod MatchLaws
 pub mod JoinWithLaws
 pub mod ReplyLaws
-pub mod LoanLaws
 pub mod BriefLaws
 pub mod RecordLaws

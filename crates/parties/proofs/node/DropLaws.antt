@@ -15,7 +15,7 @@ use Rattle.parties.specs.protocol.Node.{listed, release}
 use Rattle.parties.proofs.protocol.formats.FormatLaws.{Each}
 use Rattle.parties.proofs.protocol.formats.VersionLaws.{below_true, true_below, below_trans}
 use Rattle.parties.proofs.protocol.events.NodeLaws.{not_below_back}
-use Rattle.parties.specs.records.Places.{version_at, held_at, from, held_from}
+use Rattle.parties.specs.records.Places.{version_at, held_at, held_from}
 use Rattle.parties.specs.node.ToNode.{versions_from}
 use Rattle.parties.specs.node.NodeCode.{list_behind, list_names}
 use Rattle.parties.proofs.records.PositionLaws.{from_first, from-none}

@@ -3,7 +3,7 @@ use Rattle.std.specs.Prelude.{◌≡◌, Bool, true, ◌&&◌, not, List, ◌++�
 use Rattle.parties.specs.declared.Measures.{Measures}
 use Rattle.parties.specs.declared.Version.{Version}
 use Rattle.parties.specs.protocol.Format.{write_number, write_many}
-use Rattle.parties.specs.protocol.Measures.{passes, places, place_size}
+use Rattle.parties.specs.protocol.Measures.{passes, place_size}
 use Rattle.parties.specs.protocol.Version.{below, ascending}
 use Rattle.parties.specs.protocol.Answer.{Served}
 use Rattle.parties.specs.protocol.NodeTable.{Held, in_order, read_table}

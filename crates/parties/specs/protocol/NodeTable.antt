@@ -1,5 +1,5 @@
 -- A data node's table.
-use Rattle.std.specs.Prelude.{Bool, ◌&&◌, List, ◌++◌, map, ℕ, ◌+◌, ◌-◌, ◌*◌, leb, ltb, length, replicate}
+use Rattle.std.specs.Prelude.{Bool, ◌&&◌, List, ◌++◌, map, ℕ, ◌-◌, ◌*◌, leb, ltb, length, replicate}
 use Rattle.parties.specs.declared.Measures.{Measures}
 use Rattle.parties.specs.declared.Version.{Version}
 use Rattle.parties.specs.protocol.Format.{Reader, both, given, read_number, write_number, read_bytes, read_many, write_many, read_zeros, read_area, write_area}

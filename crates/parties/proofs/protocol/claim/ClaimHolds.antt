@@ -37,6 +37,7 @@ use Rattle.parties.proofs.protocol.steps.View.{Shows}
 -- a pointer that is put in was first put in for its version's deposit
 first_put : (p : Past) (x : Pointer) (l : List Put) → ((y : Put) → Member y l → Rightly p y) → p.pointers (ver x) ≡ x
     → (d : ℕ) → Member (record { pointer = x; operation = d }) l → FirstPut x (p.deposits (ver x)) l
+first_put p x [] r e d m = elim m [ ]
 first_put p x (y ∷ l) r e d m =
     go (ℕ_discrete (ver y.pointer) (ver x)) (λ n. first_put p x l (λ y' m'. r y' (Member.there y l m')) e d n)
     (member_cases (record { pointer = x; operation = d }) y l m)
@@ -51,6 +52,7 @@ first_put p x (y ∷ l) r e d m =
 
 -- what was first put in was put in
 first-listed : (x : Pointer) (d : ℕ) (l : List Put) → FirstPut x d l → Member (record { pointer = x; operation = d }) l
+first-listed x d [] m = elim m [ ]
 first-listed x d (y ∷ l) (inl e) = subst (λ (a : Put). Member a (y ∷ l)) (λ i. record { pointer = e.0 i; operation = e.1 i }) (Member.here l)
 first-listed x d (y ∷ l) (inr e) = Member.there y l (first-listed x d l e.1)
 

@@ -1,6 +1,6 @@
 -- Demand 3 of the worked run. Its premise holds: the digests of its 21 strings differ in their first bytes.
 use mathlib.Core.Path.{◌≡◌, refl, sym, ap, subst, ◌∙◌}
-use mathlib.Core.Bool.{Bool, true, false, not, ◌&&◌, false≢true}
+use mathlib.Core.Bool.{Bool, true, not, ◌&&◌, false≢true}
 use mathlib.Core.Logic.{◌⊎◌, inl, inr, ◌↔◌}
 use mathlib.Core.List.{List, [], ◌∷◌, map}
 use mathlib.Core.Option.{some, none}
@@ -132,6 +132,7 @@ abbrev Came : Reply → Type 0
 Came r = Member (digest_input (write_version r.version) r.node r.piece) strings
 
 member_each : (r : Reply) (l : List Reply) → Each Came l → Member r l → Came r
+member_each r [] h m = elim m [ ]
 member_each r (y ∷ l) h m = go (member_each r l h.1) (member_cases r y l m)
   where
     go : (Member r l → Came r) → (r ≡ y) ⊎ Member r l → Came r
@@ -171,6 +172,7 @@ first-bytes = refl
 
 absent_member : (a : ℕ) (l : List (List ℕ)) → absent a (map first l) ≡ true → (x : List ℕ) → Member x l → a ≡ first x → ⊥
 unfolding absent
+absent_member a [] t x m e = elim m [ ]
 absent_member a (y ∷ l) t x m e =
     let u = and-true (not (eqb a (first y))) (absent a (map first l)) t in go u.0 (λ n. absent_member a l u.1 x n e) (member_cases x y l m)
   where
@@ -180,6 +182,7 @@ absent_member a (y ∷ l) t x m e =
 
 told_apart : (l : List (List ℕ)) → distinct (map first l) ≡ true → (x y : List ℕ) → Member x l → Member y l → first x ≡ first y → x ≡ y
 unfolding distinct
+told_apart [] t x y m n e = elim m [ ]
 told_apart (z ∷ l) t x y m n e =
     let u = and-true (absent (first z) (map first l)) (distinct (map first l)) t in
     go u.0 (λ m' n'. told_apart l u.1 x y m' n' e) (member_cases x z l m) (member_cases y z l n)
@@ -213,6 +216,7 @@ bears j v l e = let h : j < ended.history.begun = omega (arith, begun, l) in (h,
 
 -- what a reading concerns is one deposit
 first_one : (p : Pointer) (d e : ℕ) (l : List Put) → FirstPut p d l → FirstPut p e l → d ≡ e
+first_one p d e [] f g = elim f [ ]
 first_one p d e (x ∷ l) (inl a) (inl b) = sym a.1 ∙ b.1
 first_one p d e (x ∷ l) (inl a) (inr b) = absurd (b.0 a.0)
 first_one p d e (x ∷ l) (inr a) (inl b) = absurd (a.0 b.0)

@@ -1,5 +1,5 @@
 -- Directory rows and the directory table as bytes: written and read back.
-use mathlib.Core.Path.{◌≡◌, refl, ap, subst⁻¹, ◌∙◌, sym}
+use mathlib.Core.Path.{◌≡◌, refl, ap, subst, subst⁻¹, ◌∙◌, sym}
 use mathlib.Core.Bool.{Bool, true, false}
 use mathlib.Core.List.{List, [], ◌∷◌, ◌++◌}
 use mathlib.Core.Option.{Option, some, none}
@@ -77,7 +77,7 @@ format_row_fields s =
     there : (l : List (Option Content)) → GoodRecord s l × (eqb (map_of l) 0x0F ≡ true) → GoodRow s (as_row l) × (write_row (as_row l) ≡ write_record l)
     there l h =
         let q : map_of l ≡ 15 = eqb-true (map_of l) 15 h.1 in
-        let e : row_fields (as_row l) ≡ l = row_shape s l (rw q at h.0.1) in
+        let e : row_fields (as_row l) ≡ l = row_shape s l (subst (λ (m : ℕ). GoodFields s (fields s) m l) q h.0.1) in
         (subst⁻¹ (λ (x : List (Option Content)). GoodRecord s x × (eqb (map_of x) 0x0F ≡ true)) e h, ap write_record e)
 
 -- the row fits its area

@@ -368,7 +368,7 @@ arriving_kept z honest ok s t (Next.store c i v x rest h q hi lo up l e) o d k a
     (stored_arrived s.n.to_node c i rest v f.2 (rw e at (a.once c i hi lo up l)).1, f.2, f.0)
 arriving_kept z honest ok s t (Next.request c i v rest h q hi lo up l e) o d k a =
     answered_arriving z honest s o a c i (ToNode.request v) rest e (s.n.held i) (answer v (hand_back v (s.n.held i))) h
-    (reply_true z honest s k a i v hi lo up c (rw e at (k.sound c i hi lo up l)).0 _ refl refl c)
+    (reply_true z honest s k a i v hi lo up c (rw e at (k.sound c i hi lo up l)).0 t refl refl c)
 arriving_kept z honest ok s t (Next.free c i fl rest h q hi lo up l e) o d k a =
     answered_arriving z honest s o a c i (ToNode.free fl) rest e (release fl (s.n.held i)) ToClient.freed h tt
 arriving_kept z honest ok s t (Next.passed i c m qs h q co) o d k a = quiet_arriving z honest s o a (came z honest s a i c m qs co)

@@ -22,6 +22,7 @@ module _ {A : Type 0} (x : A) where
 
   pub member_split : (a : A) (l : List A) → Member x (l ++ (a ∷ [])) → Member x l ⊎ (x ≡ a)
   member_split a [] (Member.here l) = inr refl
+  member_split a [] (Member.there b l m) = elim m [ ]
   member_split a (b ∷ l) (Member.here k) = inl (Member.here l)
   member_split a (b ∷ l) (Member.there c k m) = go (member_split a l m)
     where

@@ -169,7 +169,7 @@ module _ (z : Measures) (honest : ℕ → Bool) (passed : passes z ≡ true) (st
             record {
               bytes = rw f (subst (λ (p : Phase). st.clients c ≡ write_client z (with_phase p (client_at z s.c c))) phase w.bytes);
               good = rw f (subst (λ (p : Phase). GoodClient z (with_phase p (client_at z s.c c))) phase w.good);
-              calls = rw f (sym (called _));
+              calls = rw f (sym (called (client_at z (turned s.c c t) c)));
               returns = rw f (ap (λ (q : List Return). q ++ (r ∷ [])) (w.returns ∙ before) ∙ sym returned);
               turn = rw f good;
             }

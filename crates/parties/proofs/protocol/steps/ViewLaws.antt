@@ -3,7 +3,7 @@ use mathlib.Core.Path.{◌≡◌, refl, sym, ap, subst, ◌∙◌}
 use mathlib.Core.Bool.{Bool, true, false, cond, not, ◌&&◌, ◌||◌, true≢false}
 use mathlib.Core.List.{List, [], ◌++◌, append-nil}
 use mathlib.Core.Option.{Option, some, none}
-use Prim.Native.Nat.{ℕ, ◌+◌, ◌≤◌, ◌<◌}
+use Prim.Native.Nat.{ℕ, ◌≤◌, ◌<◌}
 use native.Mathlib.Omega.{arith}
 use borrow.Author.Tests.{eq-eqb, ne_eqb, le-leb}
 use lib.Dec.{leb, eqb}
@@ -17,7 +17,6 @@ use Rattle.parties.specs.protocol.Pointer.{Pointer, all_pointers}
 use Rattle.parties.specs.protocol.Directory.{no_row, write_row, read_directory, write_directory}
 use Rattle.parties.specs.protocol.Owner.{own_pointer, own_row, own_rows}
 use Rattle.parties.specs.protocol.Client.{Client, read_client, write_client, client_size}
-use Rattle.parties.specs.protocol.Answer.{refused}
 use Rattle.parties.specs.protocol.Message.{ToNode}
 use Rattle.parties.specs.protocol.ClientEvents.{ClientEnd, with_phase, message_to}
 use Rattle.parties.specs.protocol.DirectoryEvents.{directory_size}

@@ -1,0 +1,29 @@
+use mathlib.Core.Path.{◌≡◌}
+use native.Mathlib.Omega.{arith}
+use lib.ListN.{length}
+use borrow.Author.Rules.{rules}
+use Rattle.coding.proofs.BytesLaws.{pasted_none, pasted_more, pasted_length, pasted_all}
+use Rattle.parties.proofs.client.draw.put_digest.Goals as goal
+
+pub loop-l-init : goal.loop-l-init
+loop-l-init c = pasted_none _ _ _ _
+
+pub bounds-t-at : goal.bounds-t-at
+bounds-t-at c =
+    let l : length c.args.d ≡ 32 = search rules in
+    omega (arith, pasted_length c.args.t.now c.args.at c.args.d 32 c.requires (omega arith) _ _ c.loop-l.invariant)
+
+pub loop-l-preserved : goal.loop-l-preserved
+loop-l-preserved c =
+    let l : length c.args.d ≡ 32 = search rules in
+    pasted_more c.args.t.now c.args.at c.args.d 32 c.requires (omega arith) _ _ c.loop-l.invariant c.loop-l-test.true
+
+pub shape_of-t : goal.shape_of-t
+shape_of-t c =
+    let l : length c.args.d ≡ 32 = search rules in
+    pasted_length c.args.t.now c.args.at c.args.d 32 c.requires (omega arith) _ _ c.loop-l.invariant
+
+pub returns : goal.returns
+returns c =
+    let l : length c.args.d ≡ 32 = search rules in
+    pasted_all c.args.t.now c.args.at c.args.d 32 c.requires (omega arith) _ _ c.loop-l.invariant c.loop-l-test.false

@@ -1,0 +1,26 @@
+use mathlib.Core.Path.{sym, ◌∙◌}
+use Rattle.parties.proofs.client.FreeListLaws.{place_within, added_old, added_new}
+use Rattle.parties.proofs.client.free.add_version.Goals as goal
+
+pub returns-then-reaches : goal.returns-then-reaches
+returns-then-reaches c =
+    let a = c.args in
+    let p = c.requires in
+    let j = c.seek-j in
+    added_old a.room.now (λ i. (c.slice_known-1.given i).fits) a.v a.count j.result j.ensures p
+    (sym c.reaches.ensures ∙ c.if-reaches.true)
+
+pub put_in-requires : goal.put_in-requires
+put_in-requires c =
+    let a = c.args in
+    let p = c.requires in
+    let j = c.seek-j in
+    (place_within a.room.now a.v a.count j.result j.ensures, p)
+
+pub returns : goal.returns
+returns c =
+    let a = c.args in
+    let p = c.requires in
+    let j = c.seek-j in
+    added_new a.room.now (λ i. (c.slice_known-1.given i).fits) a.v a.count j.result j.ensures p
+    (sym c.reaches.ensures ∙ c.if-reaches.false) _ c.put_in.ensures

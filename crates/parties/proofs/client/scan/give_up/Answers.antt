@@ -1,0 +1,30 @@
+use mathlib.Core.Path.{sym}
+use native.Mathlib.Omega.{arith}
+use Rattle.parties.proofs.client.FormLaws.{sizes}
+use Rattle.parties.proofs.client.ScanLaws.{spent_leaves}
+use Rattle.parties.proofs.client.GateLaws.{work_within, Opened}
+use Rattle.parties.proofs.client.scan.give_up.Goals as goal
+
+pub overflow_add-at : goal.overflow_add-at
+overflow_add-at c =
+    let z = sizes c.args.s c.requires.0 in
+    omega (arith, z.clients, z.nodes, z.pieces, z.pointer, z.pointers, c.work_at-at.ensures, c.work_size-size.ensures)
+
+pub clear-requires : goal.clear-requires
+clear-requires c =
+    let opened : let a = c.args in Opened a.s a.p a.area.now =
+    let q = c.requires in
+    record { measures = q.0; step = omega arith; reading = omega arith; bytes = λ i. (c.slice_known-1.given i).fits; reads = q.1 } in
+    let a = c.args in
+    let q = c.requires in
+    (omega arith, omega (arith, work_within a.s a.p a.area.now (opened), c.work_at-at.ensures, c.work_size-size.ensures))
+
+pub returns : goal.returns
+returns c =
+    let opened : let a = c.args in Opened a.s a.p a.area.now =
+    let q = c.requires in
+    record { measures = q.0; step = omega arith; reading = omega arith; bytes = λ i. (c.slice_known-1.given i).fits; reads = q.1 } in
+    let a = c.args in
+    let q = c.requires in
+    sym (spent_leaves a.s a.p a.area.now (opened) c.work_at-at.result c.work_at-at.ensures c.work_size-size.result
+    c.work_size-size.ensures _ c.clear.ensures a.room.now)

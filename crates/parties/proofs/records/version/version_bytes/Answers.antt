@@ -1,0 +1,6 @@
+use native.Mathlib.Omega.{arith}
+use Rattle.parties.proofs.records.PlaceLaws.{version-five}
+use Rattle.parties.proofs.records.version.version_bytes.Goals as goal
+
+pub returns : goal.returns
+returns c = version-five c.args.v (omega arith)
