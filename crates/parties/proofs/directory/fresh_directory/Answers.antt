@@ -30,7 +30,7 @@ overflow_mul-s c =
     let p = c.pass in sym p.ensures ∙ c.if-not-pass.false in
     let sized : c.args.s.m * c.row_size-size.result ≡ directory_size c.args.s =
     ap (λ (k : ℕ). c.args.s.m * k) c.row_size-size.ensures in
-    omega (arith, sized, table_bound c.args.s (good))
+    omega (arith, sized, table_bound c.args.s good)
 
 pub returns-then-table-s : goal.returns-then-table-s
 returns-then-table-s c =
@@ -38,7 +38,7 @@ returns-then-table-s c =
     let p = c.pass in sym p.ensures ∙ c.if-not-pass.false in
     let sized : c.args.s.m * c.row_size-size.result ≡ directory_size c.args.s =
     ap (λ (k : ℕ). c.args.s.m * k) c.row_size-size.ensures in
-    let a = c.args in ends-table _ _ (fresh-short a.s a.table.now (good) (omega (arith, sized)))
+    let a = c.args in ends-table _ _ (fresh-short a.s a.table.now good (omega (arith, sized)))
 
 pub fresh_row-requires : goal.fresh_row-requires
 fresh_row-requires c =
@@ -53,7 +53,7 @@ repeat-requires c =
     let a = c.args in
     let r = c.row_size-size in
     let f = c.fresh_row in
-    (omega (arith, r.ensures, row_bound a.s (good), built_length (write_row (fresh_row a.s)) f.new.room f.ensures), c.if-table-s.false)
+    (omega (arith, r.ensures, row_bound a.s good, built_length (write_row (fresh_row a.s)) f.new.room f.ensures), c.if-table-s.false)
 
 pub returns : goal.returns
 returns c =
@@ -65,9 +65,9 @@ returns c =
     let r = c.row_size-size in
     let f = c.fresh_row in
     let e = sized in
-    let x = ends-table _ _ (fresh-written a.s a.table.now (good) (omega (arith, e, c.if-table-s.false))) in (
+    let x = ends-table _ _ (fresh-written a.s a.table.now good (omega (arith, e, c.if-table-s.false))) in (
       x.0,
       c.repeat.ensures
-          ∙ ap₂ (λ (y : List ℕ) (k : ℕ). y ++ drop k a.table.now) (fresh-rows a.s (good) f.new.room r.result f.ensures r.ensures) e
+          ∙ ap₂ (λ (y : List ℕ) (k : ℕ). y ++ drop k a.table.now) (fresh-rows a.s good f.new.room r.result f.ensures r.ensures) e
           ∙ x.1,
     )

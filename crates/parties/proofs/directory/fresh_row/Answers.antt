@@ -47,7 +47,7 @@ loop-i-preserved c =
     let few : c.loop-i.i < 9 =
     omega (arith, (passed c.args.s c.requires.0).clients, c.loop-i-test.true) in
     let l = c.loop-i in
-    let f = fresh_turn l.i l.room (few) l.invariant.2 in (omega (arith, c.loop-i-test.true), built_length (started (l.i + 1)) _ f, f)
+    let f = fresh_turn l.i l.room few l.invariant.2 in (omega (arith, c.loop-i-test.true), built_length (started (l.i + 1)) _ f, f)
 
 pub shape_of-room : goal.shape_of-room
 shape_of-room c = c.loop-i.invariant.1 ∙ sym (ap length c.requires.1 ∙ length-replicate {A = ℕ} longest_row 0)

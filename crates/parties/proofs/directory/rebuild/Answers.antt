@@ -16,15 +16,15 @@ put-p-requires c =
     let map : ℕ =
     get_or c.args.fields.now 0 0 in
     let w : List ℕ =
-    written_part (map) c.args.fields.now c.args.e c.args.table.now c.args.at c.args.f in
+    written_part map c.args.fields.now c.args.e c.args.table.now c.args.at c.args.f in
     let p : List ℕ =
-    frozen_part (map) c.args.fields.now c.args.e c.args.table.now c.args.f in
+    frozen_part map c.args.fields.now c.args.e c.args.table.now c.args.f in
     let i : List ℕ =
-    indices_part (map) c.args.fields.now c.args.e c.args.table.now c.args.f in
+    indices_part map c.args.fields.now c.args.e c.args.table.now c.args.f in
     let j : List ℕ =
-    index_part (map) c.args.fields.now c.args.e c.args.table.now c.args.f in
-    let room : 1 + length (w) + length (p) + length (i) + length (j) ≤ longest_row =
-    omega (arith, c.requires.4, renewed-length (map) c.args.fields.now c.args.e c.args.table.now c.args.at c.args.f) in
+    index_part map c.args.fields.now c.args.e c.args.table.now c.args.f in
+    let room : 1 + length w + length p + length i + length j ≤ longest_row =
+    omega (arith, c.requires.4, renewed-length map c.args.fields.now c.args.e c.args.table.now c.args.at c.args.f) in
     let e = c.requires.2 in
     let f = c.requires.3 in
     let l = built_length (15 ∷ []) _ (built_map c.args.room.now c.requires.1) in
@@ -35,17 +35,17 @@ put-q-requires c =
     let map : ℕ =
     get_or c.args.fields.now 0 0 in
     let w : List ℕ =
-    written_part (map) c.args.fields.now c.args.e c.args.table.now c.args.at c.args.f in
+    written_part map c.args.fields.now c.args.e c.args.table.now c.args.at c.args.f in
     let p : List ℕ =
-    frozen_part (map) c.args.fields.now c.args.e c.args.table.now c.args.f in
+    frozen_part map c.args.fields.now c.args.e c.args.table.now c.args.f in
     let i : List ℕ =
-    indices_part (map) c.args.fields.now c.args.e c.args.table.now c.args.f in
+    indices_part map c.args.fields.now c.args.e c.args.table.now c.args.f in
     let j : List ℕ =
-    index_part (map) c.args.fields.now c.args.e c.args.table.now c.args.f in
-    let room : 1 + length (w) + length (p) + length (i) + length (j) ≤ longest_row =
-    omega (arith, c.requires.4, renewed-length (map) c.args.fields.now c.args.e c.args.table.now c.args.at c.args.f) in
-    let one : Built ((15 ∷ []) ++ w) c.put-p.new.room × (c.put-p.result ≡ 1 + length (w)) =
-    let m = rebuild_more (15 ∷ []) _ (w) 1 (built_map c.args.room.now c.requires.1) refl (omega (arith, room)) in
+    index_part map c.args.fields.now c.args.e c.args.table.now c.args.f in
+    let room : 1 + length w + length p + length i + length j ≤ longest_row =
+    omega (arith, c.requires.4, renewed-length map c.args.fields.now c.args.e c.args.table.now c.args.at c.args.f) in
+    let one : Built ((15 ∷ []) ++ w) c.put-p.new.room × (c.put-p.result ≡ 1 + length w) =
+    let m = rebuild_more (15 ∷ []) _ w 1 (built_map c.args.room.now c.requires.1) refl (omega (arith, room)) in
     (rw c.put-p.ensures.1 m, c.put-p.ensures.0) in
     let e = c.requires.2 in
     let f = c.requires.3 in
@@ -57,22 +57,22 @@ put-r-requires c =
     let map : ℕ =
     get_or c.args.fields.now 0 0 in
     let w : List ℕ =
-    written_part (map) c.args.fields.now c.args.e c.args.table.now c.args.at c.args.f in
+    written_part map c.args.fields.now c.args.e c.args.table.now c.args.at c.args.f in
     let p : List ℕ =
-    frozen_part (map) c.args.fields.now c.args.e c.args.table.now c.args.f in
+    frozen_part map c.args.fields.now c.args.e c.args.table.now c.args.f in
     let i : List ℕ =
-    indices_part (map) c.args.fields.now c.args.e c.args.table.now c.args.f in
+    indices_part map c.args.fields.now c.args.e c.args.table.now c.args.f in
     let j : List ℕ =
-    index_part (map) c.args.fields.now c.args.e c.args.table.now c.args.f in
-    let room : 1 + length (w) + length (p) + length (i) + length (j) ≤ longest_row =
-    omega (arith, c.requires.4, renewed-length (map) c.args.fields.now c.args.e c.args.table.now c.args.at c.args.f) in
-    let one : Built ((15 ∷ []) ++ w) c.put-p.new.room × (c.put-p.result ≡ 1 + length (w)) =
-    let m = rebuild_more (15 ∷ []) _ (w) 1 (built_map c.args.room.now c.requires.1) refl (omega (arith, room)) in
+    index_part map c.args.fields.now c.args.e c.args.table.now c.args.f in
+    let room : 1 + length w + length p + length i + length j ≤ longest_row =
+    omega (arith, c.requires.4, renewed-length map c.args.fields.now c.args.e c.args.table.now c.args.at c.args.f) in
+    let one : Built ((15 ∷ []) ++ w) c.put-p.new.room × (c.put-p.result ≡ 1 + length w) =
+    let m = rebuild_more (15 ∷ []) _ w 1 (built_map c.args.room.now c.requires.1) refl (omega (arith, room)) in
     (rw c.put-p.ensures.1 m, c.put-p.ensures.0) in
-    let two : Built (((15 ∷ []) ++ w) ++ p) c.put-q.new.room × (c.put-q.result ≡ 1 + length (w) + length (p)) =
+    let two : Built (((15 ∷ []) ++ w) ++ p) c.put-q.new.room × (c.put-q.result ≡ 1 + length w + length p) =
     let l = one in
     let n : length ((15 ∷ []) ++ w) ≡ c.put-p.result = omega (arith, l.1) in
-    let m = rebuild_more ((15 ∷ []) ++ w) _ (p) c.put-p.result l.0 n (omega (arith, room, l.1)) in
+    let m = rebuild_more ((15 ∷ []) ++ w) _ p c.put-p.result l.0 n (omega (arith, room, l.1)) in
     (rw c.put-q.ensures.1 m, omega (arith, c.put-q.ensures.0, l.1)) in
     let e = c.requires.2 in
     let f = c.requires.3 in
@@ -84,27 +84,27 @@ put-requires c =
     let map : ℕ =
     get_or c.args.fields.now 0 0 in
     let w : List ℕ =
-    written_part (map) c.args.fields.now c.args.e c.args.table.now c.args.at c.args.f in
+    written_part map c.args.fields.now c.args.e c.args.table.now c.args.at c.args.f in
     let p : List ℕ =
-    frozen_part (map) c.args.fields.now c.args.e c.args.table.now c.args.f in
+    frozen_part map c.args.fields.now c.args.e c.args.table.now c.args.f in
     let i : List ℕ =
-    indices_part (map) c.args.fields.now c.args.e c.args.table.now c.args.f in
+    indices_part map c.args.fields.now c.args.e c.args.table.now c.args.f in
     let j : List ℕ =
-    index_part (map) c.args.fields.now c.args.e c.args.table.now c.args.f in
-    let room : 1 + length (w) + length (p) + length (i) + length (j) ≤ longest_row =
-    omega (arith, c.requires.4, renewed-length (map) c.args.fields.now c.args.e c.args.table.now c.args.at c.args.f) in
-    let one : Built ((15 ∷ []) ++ w) c.put-p.new.room × (c.put-p.result ≡ 1 + length (w)) =
-    let m = rebuild_more (15 ∷ []) _ (w) 1 (built_map c.args.room.now c.requires.1) refl (omega (arith, room)) in
+    index_part map c.args.fields.now c.args.e c.args.table.now c.args.f in
+    let room : 1 + length w + length p + length i + length j ≤ longest_row =
+    omega (arith, c.requires.4, renewed-length map c.args.fields.now c.args.e c.args.table.now c.args.at c.args.f) in
+    let one : Built ((15 ∷ []) ++ w) c.put-p.new.room × (c.put-p.result ≡ 1 + length w) =
+    let m = rebuild_more (15 ∷ []) _ w 1 (built_map c.args.room.now c.requires.1) refl (omega (arith, room)) in
     (rw c.put-p.ensures.1 m, c.put-p.ensures.0) in
-    let two : Built (((15 ∷ []) ++ w) ++ p) c.put-q.new.room × (c.put-q.result ≡ 1 + length (w) + length (p)) =
+    let two : Built (((15 ∷ []) ++ w) ++ p) c.put-q.new.room × (c.put-q.result ≡ 1 + length w + length p) =
     let l = one in
     let n : length ((15 ∷ []) ++ w) ≡ c.put-p.result = omega (arith, l.1) in
-    let m = rebuild_more ((15 ∷ []) ++ w) _ (p) c.put-p.result l.0 n (omega (arith, room, l.1)) in
+    let m = rebuild_more ((15 ∷ []) ++ w) _ p c.put-p.result l.0 n (omega (arith, room, l.1)) in
     (rw c.put-q.ensures.1 m, omega (arith, c.put-q.ensures.0, l.1)) in
-    let three : Built ((((15 ∷ []) ++ w) ++ p) ++ i) c.put-r.new.room × (c.put-r.result ≡ 1 + length (w) + length (p) + length (i)) =
+    let three : Built ((((15 ∷ []) ++ w) ++ p) ++ i) c.put-r.new.room × (c.put-r.result ≡ 1 + length w + length p + length i) =
     let l = two in
-    let n : length (((15 ∷ []) ++ w) ++ p) ≡ c.put-q.result = omega (arith, l.1, length-append ((15 ∷ []) ++ w) (p)) in
-    let m = rebuild_more (((15 ∷ []) ++ w) ++ p) _ (i) c.put-q.result l.0 n (omega (arith, room, l.1)) in
+    let n : length (((15 ∷ []) ++ w) ++ p) ≡ c.put-q.result = omega (arith, l.1, length-append ((15 ∷ []) ++ w) p) in
+    let m = rebuild_more (((15 ∷ []) ++ w) ++ p) _ i c.put-q.result l.0 n (omega (arith, room, l.1)) in
     (rw c.put-r.ensures.1 m, omega (arith, c.put-r.ensures.0, l.1)) in
     let e = c.requires.2 in
     let f = c.requires.3 in
@@ -116,69 +116,69 @@ shape_of-room c =
     let map : ℕ =
     get_or c.args.fields.now 0 0 in
     let w : List ℕ =
-    written_part (map) c.args.fields.now c.args.e c.args.table.now c.args.at c.args.f in
+    written_part map c.args.fields.now c.args.e c.args.table.now c.args.at c.args.f in
     let p : List ℕ =
-    frozen_part (map) c.args.fields.now c.args.e c.args.table.now c.args.f in
+    frozen_part map c.args.fields.now c.args.e c.args.table.now c.args.f in
     let i : List ℕ =
-    indices_part (map) c.args.fields.now c.args.e c.args.table.now c.args.f in
+    indices_part map c.args.fields.now c.args.e c.args.table.now c.args.f in
     let j : List ℕ =
-    index_part (map) c.args.fields.now c.args.e c.args.table.now c.args.f in
-    let room : 1 + length (w) + length (p) + length (i) + length (j) ≤ longest_row =
-    omega (arith, c.requires.4, renewed-length (map) c.args.fields.now c.args.e c.args.table.now c.args.at c.args.f) in
-    let one : Built ((15 ∷ []) ++ w) c.put-p.new.room × (c.put-p.result ≡ 1 + length (w)) =
-    let m = rebuild_more (15 ∷ []) _ (w) 1 (built_map c.args.room.now c.requires.1) refl (omega (arith, room)) in
+    index_part map c.args.fields.now c.args.e c.args.table.now c.args.f in
+    let room : 1 + length w + length p + length i + length j ≤ longest_row =
+    omega (arith, c.requires.4, renewed-length map c.args.fields.now c.args.e c.args.table.now c.args.at c.args.f) in
+    let one : Built ((15 ∷ []) ++ w) c.put-p.new.room × (c.put-p.result ≡ 1 + length w) =
+    let m = rebuild_more (15 ∷ []) _ w 1 (built_map c.args.room.now c.requires.1) refl (omega (arith, room)) in
     (rw c.put-p.ensures.1 m, c.put-p.ensures.0) in
-    let two : Built (((15 ∷ []) ++ w) ++ p) c.put-q.new.room × (c.put-q.result ≡ 1 + length (w) + length (p)) =
+    let two : Built (((15 ∷ []) ++ w) ++ p) c.put-q.new.room × (c.put-q.result ≡ 1 + length w + length p) =
     let l = one in
     let n : length ((15 ∷ []) ++ w) ≡ c.put-p.result = omega (arith, l.1) in
-    let m = rebuild_more ((15 ∷ []) ++ w) _ (p) c.put-p.result l.0 n (omega (arith, room, l.1)) in
+    let m = rebuild_more ((15 ∷ []) ++ w) _ p c.put-p.result l.0 n (omega (arith, room, l.1)) in
     (rw c.put-q.ensures.1 m, omega (arith, c.put-q.ensures.0, l.1)) in
-    let three : Built ((((15 ∷ []) ++ w) ++ p) ++ i) c.put-r.new.room × (c.put-r.result ≡ 1 + length (w) + length (p) + length (i)) =
+    let three : Built ((((15 ∷ []) ++ w) ++ p) ++ i) c.put-r.new.room × (c.put-r.result ≡ 1 + length w + length p + length i) =
     let l = two in
-    let n : length (((15 ∷ []) ++ w) ++ p) ≡ c.put-q.result = omega (arith, l.1, length-append ((15 ∷ []) ++ w) (p)) in
-    let m = rebuild_more (((15 ∷ []) ++ w) ++ p) _ (i) c.put-q.result l.0 n (omega (arith, room, l.1)) in
+    let n : length (((15 ∷ []) ++ w) ++ p) ≡ c.put-q.result = omega (arith, l.1, length-append ((15 ∷ []) ++ w) p) in
+    let m = rebuild_more (((15 ∷ []) ++ w) ++ p) _ i c.put-q.result l.0 n (omega (arith, room, l.1)) in
     (rw c.put-r.ensures.1 m, omega (arith, c.put-r.ensures.0, l.1)) in
     let four : Built (((((15 ∷ []) ++ w) ++ p) ++ i) ++ j) c.put.new.room =
     let l = three in
     let n : length ((((15 ∷ []) ++ w) ++ p) ++ i) ≡ c.put-r.result =
-    omega (arith, l.1, length-append (((15 ∷ []) ++ w) ++ p) (i), length-append ((15 ∷ []) ++ w) (p))
+    omega (arith, l.1, length-append (((15 ∷ []) ++ w) ++ p) i, length-append ((15 ∷ []) ++ w) p)
     in
-    let m = rebuild_more ((((15 ∷ []) ++ w) ++ p) ++ i) _ (j) c.put-r.result l.0 n (omega (arith, room, l.1)) in
+    let m = rebuild_more ((((15 ∷ []) ++ w) ++ p) ++ i) _ j c.put-r.result l.0 n (omega (arith, room, l.1)) in
     rw c.put.ensures.1 m in
-    built_length _ _ (four) ∙ sym (ap length c.requires.1 ∙ length-replicate {A = ℕ} longest_row 0)
+    built_length _ _ four ∙ sym (ap length c.requires.1 ∙ length-replicate {A = ℕ} longest_row 0)
 
 pub returns : goal.returns
 returns c =
     let map : ℕ =
     get_or c.args.fields.now 0 0 in
     let w : List ℕ =
-    written_part (map) c.args.fields.now c.args.e c.args.table.now c.args.at c.args.f in
+    written_part map c.args.fields.now c.args.e c.args.table.now c.args.at c.args.f in
     let p : List ℕ =
-    frozen_part (map) c.args.fields.now c.args.e c.args.table.now c.args.f in
+    frozen_part map c.args.fields.now c.args.e c.args.table.now c.args.f in
     let i : List ℕ =
-    indices_part (map) c.args.fields.now c.args.e c.args.table.now c.args.f in
+    indices_part map c.args.fields.now c.args.e c.args.table.now c.args.f in
     let j : List ℕ =
-    index_part (map) c.args.fields.now c.args.e c.args.table.now c.args.f in
-    let room : 1 + length (w) + length (p) + length (i) + length (j) ≤ longest_row =
-    omega (arith, c.requires.4, renewed-length (map) c.args.fields.now c.args.e c.args.table.now c.args.at c.args.f) in
-    let one : Built ((15 ∷ []) ++ w) c.put-p.new.room × (c.put-p.result ≡ 1 + length (w)) =
-    let m = rebuild_more (15 ∷ []) _ (w) 1 (built_map c.args.room.now c.requires.1) refl (omega (arith, room)) in
+    index_part map c.args.fields.now c.args.e c.args.table.now c.args.f in
+    let room : 1 + length w + length p + length i + length j ≤ longest_row =
+    omega (arith, c.requires.4, renewed-length map c.args.fields.now c.args.e c.args.table.now c.args.at c.args.f) in
+    let one : Built ((15 ∷ []) ++ w) c.put-p.new.room × (c.put-p.result ≡ 1 + length w) =
+    let m = rebuild_more (15 ∷ []) _ w 1 (built_map c.args.room.now c.requires.1) refl (omega (arith, room)) in
     (rw c.put-p.ensures.1 m, c.put-p.ensures.0) in
-    let two : Built (((15 ∷ []) ++ w) ++ p) c.put-q.new.room × (c.put-q.result ≡ 1 + length (w) + length (p)) =
+    let two : Built (((15 ∷ []) ++ w) ++ p) c.put-q.new.room × (c.put-q.result ≡ 1 + length w + length p) =
     let l = one in
     let n : length ((15 ∷ []) ++ w) ≡ c.put-p.result = omega (arith, l.1) in
-    let m = rebuild_more ((15 ∷ []) ++ w) _ (p) c.put-p.result l.0 n (omega (arith, room, l.1)) in
+    let m = rebuild_more ((15 ∷ []) ++ w) _ p c.put-p.result l.0 n (omega (arith, room, l.1)) in
     (rw c.put-q.ensures.1 m, omega (arith, c.put-q.ensures.0, l.1)) in
-    let three : Built ((((15 ∷ []) ++ w) ++ p) ++ i) c.put-r.new.room × (c.put-r.result ≡ 1 + length (w) + length (p) + length (i)) =
+    let three : Built ((((15 ∷ []) ++ w) ++ p) ++ i) c.put-r.new.room × (c.put-r.result ≡ 1 + length w + length p + length i) =
     let l = two in
-    let n : length (((15 ∷ []) ++ w) ++ p) ≡ c.put-q.result = omega (arith, l.1, length-append ((15 ∷ []) ++ w) (p)) in
-    let m = rebuild_more (((15 ∷ []) ++ w) ++ p) _ (i) c.put-q.result l.0 n (omega (arith, room, l.1)) in
+    let n : length (((15 ∷ []) ++ w) ++ p) ≡ c.put-q.result = omega (arith, l.1, length-append ((15 ∷ []) ++ w) p) in
+    let m = rebuild_more (((15 ∷ []) ++ w) ++ p) _ i c.put-q.result l.0 n (omega (arith, room, l.1)) in
     (rw c.put-r.ensures.1 m, omega (arith, c.put-r.ensures.0, l.1)) in
     let four : Built (((((15 ∷ []) ++ w) ++ p) ++ i) ++ j) c.put.new.room =
     let l = three in
     let n : length ((((15 ∷ []) ++ w) ++ p) ++ i) ≡ c.put-r.result =
-    omega (arith, l.1, length-append (((15 ∷ []) ++ w) ++ p) (i), length-append ((15 ∷ []) ++ w) (p))
+    omega (arith, l.1, length-append (((15 ∷ []) ++ w) ++ p) i, length-append ((15 ∷ []) ++ w) p)
     in
-    let m = rebuild_more ((((15 ∷ []) ++ w) ++ p) ++ i) _ (j) c.put-r.result l.0 n (omega (arith, room, l.1)) in
+    let m = rebuild_more ((((15 ∷ []) ++ w) ++ p) ++ i) _ j c.put-r.result l.0 n (omega (arith, room, l.1)) in
     rw c.put.ensures.1 m in
-    subst (λ (x : List ℕ). Built x c.put.new.room) (renewed-parts (map) c.args.fields.now c.args.e c.args.table.now c.args.at c.args.f) (four)
+    subst (λ (x : List ℕ). Built x c.put.new.room) (renewed-parts map c.args.fields.now c.args.e c.args.table.now c.args.at c.args.f) four

@@ -1,3 +1,4 @@
+use Rattle.std.proofs.Common.{Fits, w8, get_or, rules}
 use mathlib.Core.Path.{refl, sym, subst}
 use Prim.Native.Nat.{◌+◌}
 use native.Mathlib.Omega.{arith}
@@ -17,7 +18,7 @@ pub returns-in_default : goal.returns-in_default
 returns-in_default c = λ u r p q.
     let a = c.args in
     let f = c.field_ends in
-    absurd (row_fields_sound a.s a.table.now a.at (record { value = r; rest = drop (a.at + row_size a.s) a.table.now }) (λ i. (c.slice_known-1.given i).fits) q
+    absurd (row_fields_sound a.s a.table.now a.at (record { value = r; rest = drop (a.at + row_size a.s) a.table.now }) (λ i. let b : Fits w8 (get_or c.args.table.now i 0) = search rules in b.fits) q
     (parted_broken a.s Rule.Proper a.table.now (a.at + 1) 15 f.result f.ensures c.in_default.is))
 
 pub rebuild-requires : goal.rebuild-requires
@@ -32,7 +33,7 @@ rebuild-requires c =
       refl,
       p.3.2.ordered,
       e.ordered,
-      renewed-fits a.s p.0 a.fields.now a.table.now a.at a.e c.in-Sound.f (λ i. (c.type_inv.fields i).fits) (λ i. (c.slice_known-1.given i).fits)
+      renewed-fits a.s p.0 a.fields.now a.table.now a.at a.e c.in-Sound.f (λ i. (c.type_inv.fields i).fits) (λ i. let b : Fits w8 (get_or c.args.table.now i 0) = search rules in b.fits)
           p.3 e (drop (a.at + row_size a.s) a.table.now) p.4,
     )
 
@@ -52,5 +53,5 @@ returns c =
     let p = c.requires in
     let r = c.rebuild in
     subst (Renewed a.s a.at a.fields.now a.table.now) (sym c.copy.ensures)
-    (renewed_end a.s p.0 a.fields.now a.table.now a.at a.e c.in-Sound.f (λ i. (c.type_inv.fields i).fits) (λ i. (c.slice_known-1.given i).fits)
-    p.3 (ended) r.new.room r.ensures a.size p.1)
+    (renewed_end a.s p.0 a.fields.now a.table.now a.at a.e c.in-Sound.f (λ i. (c.type_inv.fields i).fits) (λ i. let b : Fits w8 (get_or c.args.table.now i 0) = search rules in b.fits)
+    p.3 ended r.new.room r.ensures a.size p.1)

@@ -31,7 +31,7 @@ overflow_mul-all c =
     let p = c.pass in sym p.ensures ∙ c.if-not-pass.false in
     let sized : c.args.s.m * c.row_size-size.result ≡ directory_size c.args.s =
     ap (λ (k : ℕ). c.args.s.m * k) c.row_size-size.ensures in
-    omega (arith, sized, table_bound c.args.s (good))
+    omega (arith, sized, table_bound c.args.s good)
 
 pub returns-then-table-all : goal.returns-then-table-all
 returns-then-table-all c =
@@ -40,7 +40,7 @@ returns-then-table-all c =
     let sized : c.args.s.m * c.row_size-size.result ≡ directory_size c.args.s =
     ap (λ (k : ℕ). c.args.s.m * k) c.row_size-size.ensures in
     let a = c.args in
-    ends-room _ _ (scan-short-table a.s a.table.now a.room.now (good) (omega (arith, sized)))
+    ends-room _ _ (scan-short-table a.s a.table.now a.room.now good (omega (arith, sized)))
 
 pub returns-then-room-all : goal.returns-then-room-all
 returns-then-room-all c =
@@ -49,7 +49,7 @@ returns-then-room-all c =
     let sized : c.args.s.m * c.row_size-size.result ≡ directory_size c.args.s =
     ap (λ (k : ℕ). c.args.s.m * k) c.row_size-size.ensures in
     let a = c.args in
-    ends-room _ _ (scan-short-room a.s a.table.now a.room.now (good) (omega (arith, sized)) (omega (arith, sized)))
+    ends-room _ _ (scan-short-room a.s a.table.now a.room.now good (omega (arith, sized)) (omega (arith, sized)))
 
 pub directory-requires : goal.directory-requires
 directory-requires c =
@@ -68,7 +68,7 @@ returns-in-Broken c =
     let a = c.args in
     let d = c.directory in
     let n = c.in-Broken.r in
-    ends-room _ _ (scan-broken a.s a.table.now a.room.now (good) (omega (arith, sized)) (omega (arith, sized)) (number n)
+    ends-room _ _ (scan-broken a.s a.table.now a.room.now good (omega (arith, sized)) (omega (arith, sized)) (number n)
     (judged_broken a.s a.table.now d.result d.ensures n c.in-Broken.is))
 
 pub returns : goal.returns
@@ -82,7 +82,7 @@ returns c =
     let e : a.s.m * c.row_size-size.result ≡ directory_size a.s = sized in
     let z : 0 + directory_size a.s ≡ directory_size a.s = omega arith in
     let j = judged_sound a.s a.table.now d.result d.ensures c.in_default.is in
-    let x = ends-room _ _ (scan-rows a.s a.table.now a.room.now (good) (omega arith) (omega arith) (drop (a.s.m * row_size a.s) a.table.now) j.0 j.1) in (
+    let x = ends-room _ _ (scan-rows a.s a.table.now a.room.now good (omega arith) (omega arith) (drop (a.s.m * row_size a.s) a.table.now) j.0 j.1) in (
       ap serves e ∙ x.0,
       c.copy.ensures ∙ ap (λ (k : ℕ). take k a.table.now ++ drop (0 + k) a.room.now) e
           ∙ ap (λ (k : ℕ). take (directory_size a.s) a.table.now ++ drop k a.room.now) z ∙ x.1,

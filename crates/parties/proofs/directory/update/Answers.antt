@@ -1,3 +1,4 @@
+use Rattle.std.proofs.Common.{Fits, w8, get_or, rules}
 use mathlib.Core.Path.{◌≡◌, sym, ap, subst, ◌∙◌}
 use mathlib.Core.Bool.{Bool, true, false, ◌&&◌}
 use mathlib.Core.List.{[]}
@@ -39,7 +40,7 @@ overflow_mul-s c =
     let p = c.pass in sym p.ensures ∙ c.if-not-pass.false in
     let sized : c.args.s.m * c.row_size-size.result ≡ directory_size c.args.s =
     ap (λ (k : ℕ). c.args.s.m * k) c.row_size-size.ensures in
-    omega (arith, sized, table_bound c.args.s (good))
+    omega (arith, sized, table_bound c.args.s good)
 
 pub returns-then-table-s : goal.returns-then-table-s
 returns-then-table-s c =
@@ -48,7 +49,7 @@ returns-then-table-s c =
     let sized : c.args.s.m * c.row_size-size.result ≡ directory_size c.args.s =
     ap (λ (k : ℕ). c.args.s.m * k) c.row_size-size.ensures in
     let a = c.args in
-    ends-table _ _ (update-short a.s a.own a.table.now a.fields.now (good) (omega (arith, sized)))
+    ends-table _ _ (update-short a.s a.own a.table.now a.fields.now good (omega (arith, sized)))
 
 pub returns-then-s-own : goal.returns-then-s-own
 returns-then-s-own c =
@@ -59,7 +60,7 @@ returns-then-s-own c =
     let enough : directory_size c.args.s ≤ length c.args.table.now =
     omega (arith, sized, c.if-table-s.false) in
     let a = c.args in
-    ends-table _ _ (update-number a.s a.own a.table.now a.fields.now (good) (enough) c.if-s-own.true)
+    ends-table _ _ (update-number a.s a.own a.table.now a.fields.now good enough c.if-s-own.true)
 
 pub rows-requires : goal.rows-requires
 rows-requires c =
@@ -81,7 +82,7 @@ returns-in_default c =
     omega (arith, sized, c.if-table-s.false) in
     let a = c.args in
     let r = c.rows in
-    ends-table _ _ (update-broken-table a.s a.own a.table.now a.fields.now (good) (enough) c.if-s-own.false
+    ends-table _ _ (update-broken-table a.s a.own a.table.now a.fields.now good enough c.if-s-own.false
     (tabled_broken a.s a.table.now r.result r.ensures c.in_default.is))
 
 pub whole_record-requires : goal.whole_record-requires
@@ -107,9 +108,9 @@ returns-then-not-all c =
     let foreign : let a = c.args in (c.in-Sound.all && c.in-Sound-whole_record.owned) ≡ false → directory_update a.s a.own a.table.now a.fields.now ≡ record { answer = refuses 14; table = a.table.now; room = [] } =
     λ f. let a = c.args in
     let t = read in
-    update_foreign a.s a.own a.table.now a.fields.now (good) (enough) c.if-s-own.false
+    update_foreign a.s a.own a.table.now a.fields.now good enough c.if-s-own.false
     c.in-Sound.all c.in-Sound-whole_record.owned (drop (a.s.m * row_size a.s) a.table.now) t.0 t.1
-    (λ i. (c.type_inv.fields i).fits) c.in-Sound-whole_record.e (recorded) f in
+    (λ i. (c.type_inv.fields i).fits) c.in-Sound-whole_record.e recorded f in
     ends-table _ _ (foreign (ap (λ (b : Bool). b && c.in-Sound-whole_record.owned) (c.if-not-all.true)))
 
 pub returns-then-not-owned : goal.returns-then-not-owned
@@ -129,9 +130,9 @@ returns-then-not-owned c =
     let foreign : let a = c.args in (c.in-Sound.all && c.in-Sound-whole_record.owned) ≡ false → directory_update a.s a.own a.table.now a.fields.now ≡ record { answer = refuses 14; table = a.table.now; room = [] } =
     λ f. let a = c.args in
     let t = read in
-    update_foreign a.s a.own a.table.now a.fields.now (good) (enough) c.if-s-own.false
+    update_foreign a.s a.own a.table.now a.fields.now good enough c.if-s-own.false
     c.in-Sound.all c.in-Sound-whole_record.owned (drop (a.s.m * row_size a.s) a.table.now) t.0 t.1
-    (λ i. (c.type_inv.fields i).fits) c.in-Sound-whole_record.e (recorded) f in
+    (λ i. (c.type_inv.fields i).fits) c.in-Sound-whole_record.e recorded f in
     let all = c.in-Sound.all in
     ends-table _ _ (foreign (ap (λ (b : Bool). all && b) (c.if-not-owned.true) ∙ and_none all))
 
@@ -173,9 +174,9 @@ renew-requires c =
       good,
       c.row_size-size.ensures,
       omega (arith, q),
-      (recorded).0,
+      recorded.0,
       subst (λ (k : ℕ). rest (read_row a.s (drop k t)) ≡ some (drop (k + row_size a.s) t)) (sym q.0)
-          (own_row_left a.s t (λ i. (c.slice_known-1.given i).fits) a.own c.if-s-own.false (drop (a.s.m * row_size a.s) t) (read).0),
+          (own_row_left a.s t (λ i. let b : Fits w8 (get_or c.args.table.now i 0) = search rules in b.fits) a.own c.if-s-own.false (drop (a.s.m * row_size a.s) t) read.0),
     )
 
 pub returns-in-Broken : goal.returns-in-Broken
@@ -192,8 +193,8 @@ returns-in-Broken c =
     let a = c.args in
     let r = c.whole_record in
     let n = c.in-Broken.r in
-    ends-table _ _ (update_broken_record a.s a.own a.table.now a.fields.now (good) (enough) c.if-s-own.false
-    (drop (a.s.m * row_size a.s) a.table.now) (read).0 (number n) (recorded_broken a.s a.own a.fields.now r.result r.ensures n c.in-Broken.is))
+    ends-table _ _ (update_broken_record a.s a.own a.table.now a.fields.now good enough c.if-s-own.false
+    (drop (a.s.m * row_size a.s) a.table.now) read.0 (number n) (recorded_broken a.s a.own a.fields.now r.result r.ensures n c.in-Broken.is))
 
 pub returns-else-not-owned : goal.returns-else-not-owned
 returns-else-not-owned c =
@@ -219,8 +220,8 @@ returns-else-not-owned c =
     let all = c.in-Sound.all in
     let owned = c.in-Sound-whole_record.owned in
     let r = c.renew in
-    ends-table _ _ (update-done a.s a.own a.table.now a.fields.now (good) (enough) c.if-s-own.false
-    all owned (drop (a.s.m * row_size a.s) a.table.now) t.0 t.1 (λ i. (c.slice_known-1.given i).fits) (λ i. (c.type_inv.fields i).fits)
-    c.in-Sound-whole_record.e (recorded)
+    ends-table _ _ (update-done a.s a.own a.table.now a.fields.now good enough c.if-s-own.false
+    all owned (drop (a.s.m * row_size a.s) a.table.now) t.0 t.1 (λ i. let b : Fits w8 (get_or c.args.table.now i 0) = search rules in b.fits) (λ i. (c.type_inv.fields i).fits)
+    c.in-Sound-whole_record.e recorded
     (ap (λ (b : Bool). b && owned) (c.if-not-all.false) ∙ c.if-not-owned.false) r.new.table
-    (subst (λ (k : ℕ). Renewed a.s k a.fields.now a.table.now r.new.table) (placed).0 r.ensures))
+    (subst (λ (k : ℕ). Renewed a.s k a.fields.now a.table.now r.new.table) placed.0 r.ensures))

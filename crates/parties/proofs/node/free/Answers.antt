@@ -1,3 +1,4 @@
+use Rattle.std.proofs.Common.{Fits, w8, get_or, rules}
 use mathlib.Core.Path.{◌≡◌, refl, sym, ◌∙◌}
 use mathlib.Core.Bool.{true}
 use native.Mathlib.Nat.{mul-le-mul_right}
@@ -91,7 +92,7 @@ returns c =
     let release = c.release-kept in
     let q : free_sound a.s a.b.now ≡ true = sym free-sound.ensures ∙ c.if-not-free_sound.false in
     freed a.s a.t.now a.b.now a.room.now p.0 length_at.result length_at.ensures.0
-    (λ i. (c.slice_known-1.given i).fits)
+    (λ i. let b : Fits w8 (get_or c.args.t.now i 0) = search rules in b.fits)
     (λ i. (c.type_inv.b i).fits) p.1 p.2 q
     _ release.result release.ensures _ _ _ c.clear.ensures
     c.put_u16.ensures refl

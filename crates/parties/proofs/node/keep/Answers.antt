@@ -1,3 +1,4 @@
+use Rattle.std.proofs.Common.{Fits, w8, get_or, rules}
 use mathlib.Core.Path.{sym, ◌∙◌}
 use native.Mathlib.Omega.{arith}
 use Rattle.parties.proofs.protocol.formats.MeasureLaws.{passed}
@@ -82,7 +83,7 @@ returns-then-stands c =
     let seek = c.seek-j in
     let v = c.version_at-v.ensures in
     store-over a.s a.t.now a.b.now a.room.now p.0 length_at.result length_at.ensures.0
-    (λ i. (c.slice_known-1.given i).fits)
+    (λ i. let b : Fits w8 (get_or c.args.t.now i 0) = search rules in b.fits)
     (λ i. (c.type_inv.b i).fits) p.1 p.2 p.3
     seek.result (rw (← v) seek.ensures)
     (rw (← v) (sym c.stands.ensures ∙ c.if-stands.true)) _ _ c.put_place.ensures
@@ -96,7 +97,7 @@ returns-then-s-count c =
     let seek = c.seek-j in
     let v = c.version_at-v.ensures in
     store_full a.s a.t.now a.b.now a.room.now p.0 length_at.result length_at.ensures.0
-    (λ i. (c.slice_known-1.given i).fits)
+    (λ i. let b : Fits w8 (get_or c.args.t.now i 0) = search rules in b.fits)
     (λ i. (c.type_inv.b i).fits)
     p.1 p.2 p.3
     seek.result (rw (← v) seek.ensures) (rw (← v) (sym c.stands.ensures ∙ c.if-stands.false))
@@ -133,7 +134,7 @@ returns c =
     let seek = c.seek-j in
     let v = c.version_at-v.ensures in
     store_new a.s a.t.now a.b.now a.room.now p.0 length_at.result length_at.ensures.0
-    (λ i. (c.slice_known-1.given i).fits)
+    (λ i. let b : Fits w8 (get_or c.args.t.now i 0) = search rules in b.fits)
     (λ i. (c.type_inv.b i).fits) p.1 p.2 p.3
     seek.result (rw (← v) seek.ensures)
     (rw (← v) (sym c.stands.ensures ∙ c.if-stands.false))

@@ -1,3 +1,4 @@
+use Rattle.std.proofs.Common.{Fits, w8, get_or, rules}
 use mathlib.Core.Path.{◌≡◌, sym, ◌∙◌}
 use mathlib.Core.Bool.{true, false}
 use native.Mathlib.Omega.{arith}
@@ -153,8 +154,7 @@ loop-left-preserved c =
     (sym c.list_names.ensures ∙ c.if-list_names.false) in
     freeing_kept a.s a.t.now a.b.now a.count a.listed l.t l.from l.left l.at l.more l.to l.kept l.invariant
     c.loop-left-test.true
-    (λ i. (c.slice_known-1.given i
-    ).fits) p q _ c.lower.ensures
+    (λ i. let b : Fits w8 (get_or c.args.t.now i 0) = search rules in b.fits) p q _ c.lower.ensures
 
 pub shape_of-t : goal.shape_of-t
 shape_of-t c =

@@ -23,7 +23,7 @@ overflow_mul-result c =
     sym c.pass.ensures ∙ c.if-not-pass.false in
     let all : c.args.s.m * c.row_size-row.result ≡ directory_size c.args.s =
     ap (λ (k : ℕ). c.args.s.m * k) c.row_size-row.ensures in
-    omega (arith, all, table_bound c.args.s (good))
+    omega (arith, all, table_bound c.args.s good)
 
 pub returns : goal.returns
 returns c =
@@ -31,4 +31,4 @@ returns c =
     sym c.pass.ensures ∙ c.if-not-pass.false in
     let all : c.args.s.m * c.row_size-row.result ≡ directory_size c.args.s =
     ap (λ (k : ℕ). c.args.s.m * k) c.row_size-row.ensures in
-    let s = c.args.s in all ∙ sym (sized_passed s (directory_size s) (good))
+    let s = c.args.s in all ∙ sym (sized_passed s (directory_size s) good)

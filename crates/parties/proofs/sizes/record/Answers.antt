@@ -20,10 +20,10 @@ pub overflow_add-result : goal.overflow_add-result
 overflow_add-result c =
     let good : passes c.args.s ≡ true =
     sym c.pass.ensures ∙ c.if-not-pass.false in
-    let z = sizes c.args.s (good) in omega (arith, z.clients, z.nodes, z.pieces, z.pointer, z.pointers, c.area_size-area.ensures)
+    let z = sizes c.args.s good in omega (arith, z.clients, z.nodes, z.pieces, z.pointer, z.pointers, c.area_size-area.ensures)
 
 pub returns : goal.returns
 returns c =
     let good : passes c.args.s ≡ true =
     sym c.pass.ensures ∙ c.if-not-pass.false in
-    let s = c.args.s in omega (arith, c.area_size-area.ensures, sized_passed s (client_size s) (good))
+    let s = c.args.s in omega (arith, c.area_size-area.ensures, sized_passed s (client_size s) good)

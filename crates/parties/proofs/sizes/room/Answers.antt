@@ -18,4 +18,4 @@ pub returns : goal.returns
 returns c =
     let good : passes c.args.s ≡ true =
     sym c.pass.ensures ∙ c.if-not-pass.false in
-    let s = c.args.s in c.room_size.ensures ∙ sym (sized_passed s (room_size s) (good))
+    let s = c.args.s in c.room_size.ensures ∙ sym (sized_passed s (room_size s) good)

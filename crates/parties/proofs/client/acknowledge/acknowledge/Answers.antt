@@ -1,3 +1,4 @@
+use Rattle.std.proofs.Common.{Fits, w8, get_or, rules}
 use mathlib.Core.Path.{sym}
 use mathlib.Core.Bool.{true, false}
 use native.Mathlib.Omega.{arith}
@@ -17,7 +18,7 @@ returns-then-p-ne-STORING c =
       bytes = λ i. (c.type_inv.area i).fits;
       reads = q.3;
     } in
-    λ out. let a = c.args in sym (stored_other a.s a.p a.area.now (opened) a.i a.v c.if-p-ne-STORING.true a.room.now out)
+    λ out. let a = c.args in sym (stored_other a.s a.p a.area.now opened a.i a.v c.if-p-ne-STORING.true a.room.now out)
 
 pub adds-requires : goal.adds-requires
 adds-requires c =
@@ -27,12 +28,12 @@ adds-requires c =
       measures = q.0;
       step = omega arith;
       reading = omega arith;
-      bytes = λ i. (c.slice_known-1.given i).fits;
+      bytes = λ i. let b : Fits w8 (get_or c.args.area.now i 0) = search rules in b.fits;
       reads = q.3;
     } in
     let a = c.args in
     let q = c.requires in
-    (q.1, omega (arith, q.2, (sizes a.s q.0).nodes), omega (arith, map-there a.s a.p a.area.now (opened) a.i a.v, c.work_at-at.ensures))
+    (q.1, omega (arith, q.2, (sizes a.s q.0).nodes), omega (arith, map-there a.s a.p a.area.now opened a.i a.v, c.work_at-at.ensures))
 
 pub returns-then-not-adds : goal.returns-then-not-adds
 returns-then-not-adds c =
@@ -42,15 +43,15 @@ returns-then-not-adds c =
       measures = q.0;
       step = omega arith;
       reading = omega arith;
-      bytes = λ i. (c.slice_known-1.given i).fits;
+      bytes = λ i. let b : Fits w8 (get_or c.args.area.now i 0) = search rules in b.fits;
       reads = q.3;
     } in
     λ out.
     let a = c.args in
     let work-at = c.work_at-at in
     let adds = c.adds in
-    sym (stored_old a.s a.p a.area.now (opened) a.i a.v c.if-p-ne-STORING.false
-    (adds_at a.s a.p a.area.now (opened) a.i a.v work-at.result work-at.ensures adds.result false adds.ensures (c.if-not-adds.true))
+    sym (stored_old a.s a.p a.area.now opened a.i a.v c.if-p-ne-STORING.false
+    (adds_at a.s a.p a.area.now opened a.i a.v work-at.result work-at.ensures adds.result false adds.ensures (c.if-not-adds.true))
     a.room.now out)
 
 pub u16_at-requires : goal.u16_at-requires
@@ -61,10 +62,10 @@ u16_at-requires c =
       measures = q.0;
       step = omega arith;
       reading = omega arith;
-      bytes = λ i. (c.slice_known-1.given i).fits;
+      bytes = λ i. let b : Fits w8 (get_or c.args.area.now i 0) = search rules in b.fits;
       reads = q.3;
     } in
-    let a = c.args in omega (arith, map-there a.s a.p a.area.now (opened) a.i a.v, c.work_at-at.ensures)
+    let a = c.args in omega (arith, map-there a.s a.p a.area.now opened a.i a.v, c.work_at-at.ensures)
 
 pub with_node-map-requires : goal.with_node-map-requires
 with_node-map-requires c =
@@ -80,10 +81,10 @@ put_u16-requires c =
       measures = q.0;
       step = omega arith;
       reading = omega arith;
-      bytes = λ i. (c.slice_known-1.given i).fits;
+      bytes = λ i. let b : Fits w8 (get_or c.args.area.now i 0) = search rules in b.fits;
       reads = q.3;
     } in
-    let a = c.args in omega (arith, map-there a.s a.p a.area.now (opened) a.i a.v, c.work_at-at.ensures)
+    let a = c.args in omega (arith, map-there a.s a.p a.area.now opened a.i a.v, c.work_at-at.ensures)
 
 pub returns-then-count-s : goal.returns-then-count-s
 returns-then-count-s c =
@@ -93,7 +94,7 @@ returns-then-count-s c =
       measures = q.0;
       step = omega arith;
       reading = omega arith;
-      bytes = λ i. (c.slice_known-1.given i).fits;
+      bytes = λ i. let b : Fits w8 (get_or c.args.area.now i 0) = search rules in b.fits;
       reads = q.3;
     } in
     λ out.
@@ -103,10 +104,10 @@ returns-then-count-s c =
     let u16-at = c.u16_at in
     let with_node_lem = c.with_node-map in
     let count = c.count in
-    sym (stored-few a.s a.p a.area.now (opened) a.i a.v c.if-p-ne-STORING.false
-    (adds_at a.s a.p a.area.now (opened) a.i a.v work-at.result work-at.ensures adds.result true adds.ensures
+    sym (stored-few a.s a.p a.area.now opened a.i a.v c.if-p-ne-STORING.false
+    (adds_at a.s a.p a.area.now opened a.i a.v work-at.result work-at.ensures adds.result true adds.ensures
     (c.if-not-adds.false))
-    with_node_lem.result (map_at a.s a.p a.area.now (opened) a.i a.v work-at.result work-at.ensures u16-at.result _ u16-at.ensures with_node_lem.result
+    with_node_lem.result (map_at a.s a.p a.area.now opened a.i a.v work-at.result work-at.ensures u16-at.result _ u16-at.ensures with_node_lem.result
     with_node_lem.ensures)
     (omega (arith, count.ensures, c.if-count-s.true)) work-at.result work-at.ensures _ c.put_u16.ensures a.room.now out)
 
@@ -118,7 +119,7 @@ publish-requires c =
       measures = q.0;
       step = omega arith;
       reading = omega arith;
-      bytes = λ i. (c.slice_known-1.given i).fits;
+      bytes = λ i. let b : Fits w8 (get_or c.args.area.now i 0) = search rules in b.fits;
       reads = q.3;
     } in
     let a = c.args in
@@ -134,7 +135,7 @@ publish-requires c =
       q.3,
       q.4,
       c.if-p-ne-STORING.false,
-      adds_at a.s a.p a.area.now (opened) a.i a.v work-at.result work-at.ensures adds.result true adds.ensures (c.if-not-adds.false),
-      map_at a.s a.p a.area.now (opened) a.i a.v work-at.result work-at.ensures u16-at.result _ u16-at.ensures with_node_lem.result with_node_lem.ensures,
+      adds_at a.s a.p a.area.now opened a.i a.v work-at.result work-at.ensures adds.result true adds.ensures (c.if-not-adds.false),
+      map_at a.s a.p a.area.now opened a.i a.v work-at.result work-at.ensures u16-at.result _ u16-at.ensures with_node_lem.result with_node_lem.ensures,
       omega (arith, count.ensures, c.if-count-s.false),
     )

@@ -1,3 +1,4 @@
+use Rattle.std.proofs.Common.{Fits, w8, get_or, rules}
 use mathlib.Core.Path.{sym, ap, ◌∙◌}
 use native.Mathlib.Omega.{arith}
 use lib.ListN.{length}
@@ -15,12 +16,12 @@ pub version_at-version-requires : goal.version_at-version-requires
 version_at-version-requires c =
     let found : Pointer =
     let a = c.args in offered a.s a.own a.p.reading a.rows.now c.pick_row-row.result in
-    let good : GoodPointer c.args.s (found) =
+    let good : GoodPointer c.args.s found =
     let a = c.args in
     let q = c.requires in
     offered_good a.s a.own a.p.reading a.rows.now c.pick_row-row.result (λ i. (c.type_inv.rows i).fits) q.1
     c.pick_row-row.ensures.2 in
-    version-fits c.args.s (found) (good) c.candidate_at-found.result.now c.candidate_at-found.ensures
+    version-fits c.args.s found good c.candidate_at-found.result.now c.candidate_at-found.ensures
 
 pub returns-then-is_none : goal.returns-then-is_none
 returns-then-is_none c =
@@ -29,48 +30,48 @@ returns-then-is_none c =
     record { measures = q.0; step = omega arith; reading = omega arith; bytes = λ i. (c.type_inv.area i).fits; reads = q.3 } in
     let found : Pointer =
     let a = c.args in offered a.s a.own a.p.reading a.rows.now c.pick_row-row.result in
-    let good : GoodPointer c.args.s (found) =
+    let good : GoodPointer c.args.s found =
     let a = c.args in
     let q = c.requires in
     offered_good a.s a.own a.p.reading a.rows.now c.pick_row-row.result (λ i. (c.type_inv.rows i).fits) q.1
     c.pick_row-row.ensures.2 in
     let a = c.args in
     let q = c.requires in
-    let v = version-shown a.s (found) (good) c.candidate_at-found.result.now c.candidate_at-found.ensures in
-    sym (finds_none a.s a.own a.p a.area.now (opened) q.2 a.rows.now a.room.now (found) c.pick_row-row.ensures.0 (good)
+    let v = version-shown a.s found good c.candidate_at-found.result.now c.candidate_at-found.ensures in
+    sym (finds_none a.s a.own a.p a.area.now opened q.2 a.rows.now a.room.now found c.pick_row-row.ensures.0 good
     (ap is_no_version (sym (c.version_at-version.ensures ∙ v)) ∙ sym c.is_none.ensures ∙ c.if-is_none.true))
 
 pub u16_at-nodes-requires : goal.u16_at-nodes-requires
 u16_at-nodes-requires c =
     let found : Pointer =
     let a = c.args in offered a.s a.own a.p.reading a.rows.now c.pick_row-row.result in
-    let good : GoodPointer c.args.s (found) =
+    let good : GoodPointer c.args.s found =
     let a = c.args in
     let q = c.requires in
     offered_good a.s a.own a.p.reading a.rows.now c.pick_row-row.result (λ i. (c.type_inv.rows i).fits) q.1
     c.pick_row-row.ensures.2 in
-    omega (arith, ap length c.candidate_at-found.ensures, pointer-length c.args.s (found) (good))
+    omega (arith, ap length c.candidate_at-found.ensures, pointer-length c.args.s found good)
 
 pub put_request-requires : goal.put_request-requires
 put_request-requires c =
     let found : Pointer =
     let a = c.args in offered a.s a.own a.p.reading a.rows.now c.pick_row-row.result in
-    let good : GoodPointer c.args.s (found) =
+    let good : GoodPointer c.args.s found =
     let a = c.args in
     let q = c.requires in
     offered_good a.s a.own a.p.reading a.rows.now c.pick_row-row.result (λ i. (c.type_inv.rows i).fits) q.1
     c.pick_row-row.ensures.2 in
     let q = c.requires in
-    (omega (arith, q.6), version-fits c.args.s (found) (good) c.candidate_at-found.result.now c.candidate_at-found.ensures)
+    (omega (arith, q.6), version-fits c.args.s found good c.candidate_at-found.result.now c.candidate_at-found.ensures)
 
 pub put_fetched-requires : goal.put_fetched-requires
 put_fetched-requires c =
     let opened : let a = c.args in Opened a.s a.p a.area.now =
     let q = c.requires in
-    record { measures = q.0; step = omega arith; reading = omega arith; bytes = λ i. (c.slice_known-1.given i).fits; reads = q.3 } in
+    record { measures = q.0; step = omega arith; reading = omega arith; bytes = λ i. let b : Fits w8 (get_or c.args.area.now i 0) = search rules in b.fits; reads = q.3 } in
     let found : Pointer =
     let a = c.args in offered a.s a.own a.p.reading a.rows.now c.pick_row-row.result in
-    let good : GoodPointer c.args.s (found) =
+    let good : GoodPointer c.args.s found =
     let a = c.args in
     let q = c.requires in
     offered_good a.s a.own a.p.reading a.rows.now c.pick_row-row.result (λ i. (c.type_inv.rows i).fits) q.1
@@ -78,25 +79,25 @@ put_fetched-requires c =
     let a = c.args in
     let q = c.requires in
     let w = c.work_size-size.ensures in (
-      omega (arith, ap length c.candidate_at-found.ensures, pointer-fits a.s (found) (good), w),
-      omega (arith, work_within a.s a.p a.area.now (opened), w, c.work_at-at.ensures),
+      omega (arith, ap length c.candidate_at-found.ensures, pointer-fits a.s found good, w),
+      omega (arith, work_within a.s a.p a.area.now opened, w, c.work_at-at.ensures),
     )
 
 pub returns : goal.returns
 returns c =
     let opened : let a = c.args in Opened a.s a.p a.area.now =
     let q = c.requires in
-    record { measures = q.0; step = omega arith; reading = omega arith; bytes = λ i. (c.slice_known-1.given i).fits; reads = q.3 } in
+    record { measures = q.0; step = omega arith; reading = omega arith; bytes = λ i. let b : Fits w8 (get_or c.args.area.now i 0) = search rules in b.fits; reads = q.3 } in
     let found : Pointer =
     let a = c.args in offered a.s a.own a.p.reading a.rows.now c.pick_row-row.result in
-    let good : GoodPointer c.args.s (found) =
+    let good : GoodPointer c.args.s found =
     let a = c.args in
     let q = c.requires in
     offered_good a.s a.own a.p.reading a.rows.now c.pick_row-row.result (λ i. (c.type_inv.rows i).fits) q.1
     c.pick_row-row.ensures.2 in
     let a = c.args in
     let q = c.requires in
-    sym (asks a.s a.own a.p a.area.now (opened) q.2 a.rows.now a.room.now (found) c.pick_row-row.ensures.0 (good)
+    sym (asks a.s a.own a.p a.area.now opened q.2 a.rows.now a.room.now found c.pick_row-row.ensures.0 good
     c.candidate_at-found.result.now c.candidate_at-found.ensures c.version_at-version.result
     c.version_at-version.ensures
     (sym c.is_none.ensures ∙ c.if-is_none.false) c.u16_at-nodes.result _ c.u16_at-nodes.ensures c.work_at-at.result c.work_at-at.ensures

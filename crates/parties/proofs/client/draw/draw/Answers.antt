@@ -1,3 +1,4 @@
+use Rattle.std.proofs.Common.{Fits, w8, get_or}
 use mathlib.Core.Path.{sym}
 use Prim.Native.Nat.{◌^◌, ◌<◌}
 use native.Mathlib.Omega.{arith}
@@ -13,10 +14,10 @@ pub u32_at-requires : goal.u32_at-requires
 u32_at-requires c =
     let opened : let a = c.args in Opened a.s a.p a.area.now =
     let q = c.requires in
-    record { measures = q.0; step = omega arith; reading = omega arith; bytes = λ i. (c.slice_known-1.given i).fits; reads = q.3 } in
+    record { measures = q.0; step = omega arith; reading = omega arith; bytes = λ i. let b : Fits w8 (get_or c.args.area.now i 0) = search rules in b.fits; reads = q.3 } in
     let a = c.args in
     let q = c.requires in
-    omega (arith, work_within a.s a.p a.area.now (opened), c.work_at-at.ensures)
+    omega (arith, work_within a.s a.p a.area.now opened, c.work_at-at.ensures)
 
 pub overflow_cast-v : goal.overflow_cast-v
 overflow_cast-v c =
@@ -28,10 +29,10 @@ pub slice_bounds-put_pieces-end : goal.slice_bounds-put_pieces-end
 slice_bounds-put_pieces-end c =
     let opened : let a = c.args in Opened a.s a.p a.area.now =
     let q = c.requires in
-    record { measures = q.0; step = omega arith; reading = omega arith; bytes = λ i. (c.slice_known-1.given i).fits; reads = q.3 } in
+    record { measures = q.0; step = omega arith; reading = omega arith; bytes = λ i. let b : Fits w8 (get_or c.args.area.now i 0) = search rules in b.fits; reads = q.3 } in
     let a = c.args in
     let q = c.requires in
-    let f = page-fits a.s a.own q.1 a.p a.area.now (opened) q.2 c.work_at-at.result
+    let f = page-fits a.s a.own q.1 a.p a.area.now opened q.2 c.work_at-at.result
     c.work_at-at.ensures c.u32_at.result _ c.u32_at.ensures
     in
     omega (arith, f)
@@ -40,11 +41,11 @@ pub put_pieces-len-requires : goal.put_pieces-len-requires
 put_pieces-len-requires c =
     let opened : let a = c.args in Opened a.s a.p a.area.now =
     let q = c.requires in
-    record { measures = q.0; step = omega arith; reading = omega arith; bytes = λ i. (c.slice_known-1.given i).fits; reads = q.3 } in
+    record { measures = q.0; step = omega arith; reading = omega arith; bytes = λ i. let b : Fits w8 (get_or c.args.area.now i 0) = search rules in b.fits; reads = q.3 } in
     let a = c.args in
     let q = c.requires in (
       q.0,
-      page_short_at a.s a.own q.1 a.p a.area.now (opened) q.2 c.work_at-at.result
+      page_short_at a.s a.own q.1 a.p a.area.now opened q.2 c.work_at-at.result
           c.work_at-at.ensures c.u32_at.result _ c.u32_at.ensures,
       q.4,
     )
@@ -53,10 +54,10 @@ pub put_stores-requires : goal.put_stores-requires
 put_stores-requires c =
     let opened : let a = c.args in Opened a.s a.p a.area.now =
     let q = c.requires in
-    record { measures = q.0; step = omega arith; reading = omega arith; bytes = λ i. (c.slice_known-1.given i).fits; reads = q.3 } in
+    record { measures = q.0; step = omega arith; reading = omega arith; bytes = λ i. let b : Fits w8 (get_or c.args.area.now i 0) = search rules in b.fits; reads = q.3 } in
     let a = c.args in
     let q = c.requires in
-    let f = page_short_at a.s a.own q.1 a.p a.area.now (opened) q.2 c.work_at-at.result
+    let f = page_short_at a.s a.own q.1 a.p a.area.now opened q.2 c.work_at-at.result
     c.work_at-at.ensures c.u32_at.result _ c.u32_at.ensures
     in
     let g = columns-within a.s.k a.s.f _ (passed a.s q.0).parts (passed a.s q.0).frame f in (
@@ -64,18 +65,18 @@ put_stores-requires c =
       omega (arith, g, c.put_pieces-len.ensures.0),
       search rules,
       omega
-          (arith, work_within a.s a.p a.area.now (opened), c.work_at-at.ensures),
+          (arith, work_within a.s a.p a.area.now opened, c.work_at-at.ensures),
     )
 
 pub returns : goal.returns
 returns c =
     let opened : let a = c.args in Opened a.s a.p a.area.now =
     let q = c.requires in
-    record { measures = q.0; step = omega arith; reading = omega arith; bytes = λ i. (c.slice_known-1.given i).fits; reads = q.3 } in
+    record { measures = q.0; step = omega arith; reading = omega arith; bytes = λ i. let b : Fits w8 (get_or c.args.area.now i 0) = search rules in b.fits; reads = q.3 } in
     let small_sequence : c.args.q.0 < 256 ^ 4 =
     omega arith in
     let a = c.args in
     let q = c.requires in
-    sym (drawn_at a.s a.own q.1 a.p a.area.now (opened) q.2 c.work_at-at.result
-    c.work_at-at.ensures c.u32_at.result _ c.u32_at.ensures a.q q.5 (small_sequence) a.room.now q.4 c.put_pieces-len.result
+    sym (drawn_at a.s a.own q.1 a.p a.area.now opened q.2 c.work_at-at.result
+    c.work_at-at.ensures c.u32_at.result _ c.u32_at.ensures a.q q.5 small_sequence a.room.now q.4 c.put_pieces-len.result
     c.put_pieces-len.ensures.0 _ c.put_pieces-len.ensures.1 _ c.put_stores.ensures)

@@ -35,9 +35,9 @@ overflow_add-p c =
     let ends : let a = c.args in (c.in-Sound.p + 4 + 2 * a.s.n + a.s.n * a.s.f ≤ length a.t.now) × (a.at ≤ c.in-Sound.p) =
     let a = c.args in
     let z = sizes a.s c.requires.0 in
-    let e = some_ends a.s a.t.now a.at c.in-Sound.p (λ i. (c.type_inv.t i).fits) (read) in
-    (omega (arith, z.pieces, c.requires.1, e), (read).from) in
-    omega (arith, (ends).0)
+    let e = some_ends a.s a.t.now a.at c.in-Sound.p (λ i. (c.type_inv.t i).fits) read in
+    (omega (arith, z.pieces, c.requires.1, e), read.from) in
+    omega (arith, ends.0)
 
 pub u16_at-m-requires : goal.u16_at-m-requires
 u16_at-m-requires c =
@@ -48,9 +48,9 @@ u16_at-m-requires c =
     let ends : let a = c.args in (c.in-Sound.p + 4 + 2 * a.s.n + a.s.n * a.s.f ≤ length a.t.now) × (a.at ≤ c.in-Sound.p) =
     let a = c.args in
     let z = sizes a.s c.requires.0 in
-    let e = some_ends a.s a.t.now a.at c.in-Sound.p (λ i. (c.type_inv.t i).fits) (read) in
-    (omega (arith, z.pieces, c.requires.1, e), (read).from) in
-    omega (arith, (ends).0)
+    let e = some_ends a.s a.t.now a.at c.in-Sound.p (λ i. (c.type_inv.t i).fits) read in
+    (omega (arith, z.pieces, c.requires.1, e), read.from) in
+    omega (arith, ends.0)
 
 pub within-requires : goal.within-requires
 within-requires c = (sizes c.args.s c.requires.0).nodes
@@ -64,11 +64,11 @@ returns-then-not-within c =
     let ends : let a = c.args in (c.in-Sound.p + 4 + 2 * a.s.n + a.s.n * a.s.f ≤ length a.t.now) × (a.at ≤ c.in-Sound.p) =
     let a = c.args in
     let z = sizes a.s c.requires.0 in
-    let e = some_ends a.s a.t.now a.at c.in-Sound.p (λ i. (c.type_inv.t i).fits) (read) in
-    (omega (arith, z.pieces, c.requires.1, e), (read).from) in
+    let e = some_ends a.s a.t.now a.at c.in-Sound.p (λ i. (c.type_inv.t i).fits) read in
+    (omega (arith, z.pieces, c.requires.1, e), read.from) in
     let left : let a = c.args in let p = c.in-Sound.p in let m = c.u16_at-m.result in rest (read_fetches a.s (drop a.at a.t.now)) ≡ cond (ltb m (2 ^ a.s.n) && ltb (count m) a.s.k) (rest (read_pieces a.s (drop (p + 4) a.t.now))) none =
     let a = c.args in
-    fetches_left a.s a.t.now a.at c.in-Sound.p c.u16_at-m.result (read).left (omega (arith, (ends).0)) c.u16_at-m.ensures in
+    fetches_left a.s a.t.now a.at c.in-Sound.p c.u16_at-m.result read.left (omega (arith, ends.0)) c.u16_at-m.ensures in
     let a = c.args in
     let v = c.within in
     let w : ltb c.u16_at-m.result (2 ^ a.s.n) ≡ false = sym v.ensures ∙ c.if-not-within.true in
@@ -83,11 +83,11 @@ returns-then-s-count c =
     let ends : let a = c.args in (c.in-Sound.p + 4 + 2 * a.s.n + a.s.n * a.s.f ≤ length a.t.now) × (a.at ≤ c.in-Sound.p) =
     let a = c.args in
     let z = sizes a.s c.requires.0 in
-    let e = some_ends a.s a.t.now a.at c.in-Sound.p (λ i. (c.type_inv.t i).fits) (read) in
-    (omega (arith, z.pieces, c.requires.1, e), (read).from) in
+    let e = some_ends a.s a.t.now a.at c.in-Sound.p (λ i. (c.type_inv.t i).fits) read in
+    (omega (arith, z.pieces, c.requires.1, e), read.from) in
     let left : let a = c.args in let p = c.in-Sound.p in let m = c.u16_at-m.result in rest (read_fetches a.s (drop a.at a.t.now)) ≡ cond (ltb m (2 ^ a.s.n) && ltb (count m) a.s.k) (rest (read_pieces a.s (drop (p + 4) a.t.now))) none =
     let a = c.args in
-    fetches_left a.s a.t.now a.at c.in-Sound.p c.u16_at-m.result (read).left (omega (arith, (ends).0)) c.u16_at-m.ensures in
+    fetches_left a.s a.t.now a.at c.in-Sound.p c.u16_at-m.result read.left (omega (arith, ends.0)) c.u16_at-m.ensures in
     let a = c.args in
     let m = c.u16_at-m.result in
     let v = c.within in
@@ -104,9 +104,9 @@ overflow_add-p-2 c =
     let ends : let a = c.args in (c.in-Sound.p + 4 + 2 * a.s.n + a.s.n * a.s.f ≤ length a.t.now) × (a.at ≤ c.in-Sound.p) =
     let a = c.args in
     let z = sizes a.s c.requires.0 in
-    let e = some_ends a.s a.t.now a.at c.in-Sound.p (λ i. (c.type_inv.t i).fits) (read) in
-    (omega (arith, z.pieces, c.requires.1, e), (read).from) in
-    omega (arith, (ends).0)
+    let e = some_ends a.s a.t.now a.at c.in-Sound.p (λ i. (c.type_inv.t i).fits) read in
+    (omega (arith, z.pieces, c.requires.1, e), read.from) in
+    omega (arith, ends.0)
 
 pub pieces-requires : goal.pieces-requires
 pieces-requires c =
@@ -117,9 +117,9 @@ pieces-requires c =
     let ends : let a = c.args in (c.in-Sound.p + 4 + 2 * a.s.n + a.s.n * a.s.f ≤ length a.t.now) × (a.at ≤ c.in-Sound.p) =
     let a = c.args in
     let z = sizes a.s c.requires.0 in
-    let e = some_ends a.s a.t.now a.at c.in-Sound.p (λ i. (c.type_inv.t i).fits) (read) in
-    (omega (arith, z.pieces, c.requires.1, e), (read).from) in
-    (c.requires.0, (ends).0)
+    let e = some_ends a.s a.t.now a.at c.in-Sound.p (λ i. (c.type_inv.t i).fits) read in
+    (omega (arith, z.pieces, c.requires.1, e), read.from) in
+    (c.requires.0, ends.0)
 
 pub returns-then-not-pieces : goal.returns-then-not-pieces
 returns-then-not-pieces c =
@@ -130,11 +130,11 @@ returns-then-not-pieces c =
     let ends : let a = c.args in (c.in-Sound.p + 4 + 2 * a.s.n + a.s.n * a.s.f ≤ length a.t.now) × (a.at ≤ c.in-Sound.p) =
     let a = c.args in
     let z = sizes a.s c.requires.0 in
-    let e = some_ends a.s a.t.now a.at c.in-Sound.p (λ i. (c.type_inv.t i).fits) (read) in
-    (omega (arith, z.pieces, c.requires.1, e), (read).from) in
+    let e = some_ends a.s a.t.now a.at c.in-Sound.p (λ i. (c.type_inv.t i).fits) read in
+    (omega (arith, z.pieces, c.requires.1, e), read.from) in
     let left : let a = c.args in let p = c.in-Sound.p in let m = c.u16_at-m.result in rest (read_fetches a.s (drop a.at a.t.now)) ≡ cond (ltb m (2 ^ a.s.n) && ltb (count m) a.s.k) (rest (read_pieces a.s (drop (p + 4) a.t.now))) none =
     let a = c.args in
-    fetches_left a.s a.t.now a.at c.in-Sound.p c.u16_at-m.result (read).left (omega (arith, (ends).0)) c.u16_at-m.ensures in
+    fetches_left a.s a.t.now a.at c.in-Sound.p c.u16_at-m.result read.left (omega (arith, ends.0)) c.u16_at-m.ensures in
     let a = c.args in
     let t = a.t.now in
     let p = c.in-Sound.p in
@@ -157,9 +157,9 @@ overflow_add-result c =
     let ends : let a = c.args in (c.in-Sound.p + 4 + 2 * a.s.n + a.s.n * a.s.f ≤ length a.t.now) × (a.at ≤ c.in-Sound.p) =
     let a = c.args in
     let z = sizes a.s c.requires.0 in
-    let e = some_ends a.s a.t.now a.at c.in-Sound.p (λ i. (c.type_inv.t i).fits) (read) in
-    (omega (arith, z.pieces, c.requires.1, e), (read).from) in
-    omega (arith, (ends).0)
+    let e = some_ends a.s a.t.now a.at c.in-Sound.p (λ i. (c.type_inv.t i).fits) read in
+    (omega (arith, z.pieces, c.requires.1, e), read.from) in
+    omega (arith, ends.0)
 
 pub overflow_add-result-2 : goal.overflow_add-result-2
 overflow_add-result-2 c =
@@ -170,9 +170,9 @@ overflow_add-result-2 c =
     let ends : let a = c.args in (c.in-Sound.p + 4 + 2 * a.s.n + a.s.n * a.s.f ≤ length a.t.now) × (a.at ≤ c.in-Sound.p) =
     let a = c.args in
     let z = sizes a.s c.requires.0 in
-    let e = some_ends a.s a.t.now a.at c.in-Sound.p (λ i. (c.type_inv.t i).fits) (read) in
-    (omega (arith, z.pieces, c.requires.1, e), (read).from) in
-    omega (arith, (ends).0)
+    let e = some_ends a.s a.t.now a.at c.in-Sound.p (λ i. (c.type_inv.t i).fits) read in
+    (omega (arith, z.pieces, c.requires.1, e), read.from) in
+    omega (arith, ends.0)
 
 pub overflow_add-result-3 : goal.overflow_add-result-3
 overflow_add-result-3 c =
@@ -183,9 +183,9 @@ overflow_add-result-3 c =
     let ends : let a = c.args in (c.in-Sound.p + 4 + 2 * a.s.n + a.s.n * a.s.f ≤ length a.t.now) × (a.at ≤ c.in-Sound.p) =
     let a = c.args in
     let z = sizes a.s c.requires.0 in
-    let e = some_ends a.s a.t.now a.at c.in-Sound.p (λ i. (c.type_inv.t i).fits) (read) in
-    (omega (arith, z.pieces, c.requires.1, e), (read).from) in
-    omega (arith, (ends).0)
+    let e = some_ends a.s a.t.now a.at c.in-Sound.p (λ i. (c.type_inv.t i).fits) read in
+    (omega (arith, z.pieces, c.requires.1, e), read.from) in
+    omega (arith, ends.0)
 
 pub returns : goal.returns
 returns c =
@@ -196,11 +196,11 @@ returns c =
     let ends : let a = c.args in (c.in-Sound.p + 4 + 2 * a.s.n + a.s.n * a.s.f ≤ length a.t.now) × (a.at ≤ c.in-Sound.p) =
     let a = c.args in
     let z = sizes a.s c.requires.0 in
-    let e = some_ends a.s a.t.now a.at c.in-Sound.p (λ i. (c.type_inv.t i).fits) (read) in
-    (omega (arith, z.pieces, c.requires.1, e), (read).from) in
+    let e = some_ends a.s a.t.now a.at c.in-Sound.p (λ i. (c.type_inv.t i).fits) read in
+    (omega (arith, z.pieces, c.requires.1, e), read.from) in
     let left : let a = c.args in let p = c.in-Sound.p in let m = c.u16_at-m.result in rest (read_fetches a.s (drop a.at a.t.now)) ≡ cond (ltb m (2 ^ a.s.n) && ltb (count m) a.s.k) (rest (read_pieces a.s (drop (p + 4) a.t.now))) none =
     let a = c.args in
-    fetches_left a.s a.t.now a.at c.in-Sound.p c.u16_at-m.result (read).left (omega (arith, (ends).0)) c.u16_at-m.ensures in
+    fetches_left a.s a.t.now a.at c.in-Sound.p c.u16_at-m.result read.left (omega (arith, ends.0)) c.u16_at-m.ensures in
     let a = c.args in
     let t = a.t.now in
     let p = c.in-Sound.p in

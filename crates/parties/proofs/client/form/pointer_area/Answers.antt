@@ -31,7 +31,7 @@ zero_run-requires c =
     let a = c.args in
     let z : a.size ≡ pointer_size a.s = c.requires.1 in
     let w = area_ends (pointer_size a.s) (read_pointer a.s) write_pointer (GoodPointer a.s) (format_pointer a.s) (pointer-fits a.s) a.t.now
-    (λ i. (c.type_inv.t i).fits) a.at c.in-Sound.next (read)
+    (λ i. (c.type_inv.t i).fits) a.at c.in-Sound.next read
     in
     (omega (arith, w), omega (arith, c.requires.2))
 
@@ -46,6 +46,6 @@ returns c =
     let next = c.in-Sound.next in
     let z : pointer_size a.s ≡ a.size = sym c.requires.1 in
     area_left (pointer_size a.s) (read_pointer a.s) write_pointer (GoodPointer a.s) (format_pointer a.s) (pointer-fits a.s) t
-    (λ i. (c.type_inv.t i).fits) a.at next (read) c.requires.2
+    (λ i. (c.type_inv.t i).fits) a.at next read c.requires.2
     ∙ ap (λ (x : Bool). cond x (some (drop (a.at + pointer_size a.s) t)) none)
     (ap (λ (k : ℕ). all (λ b. eqb b 0) (take (a.at + k - next) (drop next t))) z ∙ sym c.zero_run.ensures)

@@ -41,9 +41,9 @@ returns-in_default c =
     let a = c.args in
     let b = c.type_inv.area in
     let f : a.p.reading.0 < 256 ^ 4 = omega arith in
-    sym (client-broken a.s c.requires.0 a.p f a.area.now (λ i. (b i).fits) (kept)
+    sym (client-broken a.s c.requires.0 a.p f a.area.now (λ i. (b i).fits) kept
     (formed_broken a.area.now (work_at a.s) (left a.s a.p a.area.now) c.work_form.result
-    (formed) c.in_default.is))
+    formed c.in_default.is))
 
 pub zero_run-requires : goal.zero_run-requires
 zero_run-requires c =
@@ -58,12 +58,12 @@ zero_run-requires c =
     let goes : let a = c.args in Goes a.area.now (work_at a.s) c.in-Sound.next (left a.s a.p a.area.now) =
     let a = c.args in
     formed_sound a.area.now (work_at a.s) c.in-Sound.next (left a.s a.p a.area.now) c.work_form.result
-    (formed) c.in-Sound.is in
+    formed c.in-Sound.is in
     let a = c.args in
     let b = c.type_inv.area in
     let f : a.p.reading.0 < 256 ^ 4 = omega arith in
-    let e = client-ends a.s c.requires.0 a.p f a.area.now (λ i. (b i).fits) (kept)
-    c.in-Sound.next (goes)
+    let e = client-ends a.s c.requires.0 a.p f a.area.now (λ i. (b i).fits) kept
+    c.in-Sound.next goes
     in
     let w = c.work_at-at.ensures in
     let z = c.work_size-size.ensures in
@@ -82,7 +82,7 @@ returns c =
     let goes : let a = c.args in Goes a.area.now (work_at a.s) c.in-Sound.next (left a.s a.p a.area.now) =
     let a = c.args in
     formed_sound a.area.now (work_at a.s) c.in-Sound.next (left a.s a.p a.area.now) c.work_form.result
-    (formed) c.in-Sound.is in
+    formed c.in-Sound.is in
     let a = c.args in
     let b = c.type_inv.area in
     let f : a.p.reading.0 < 256 ^ 4 = omega arith in
@@ -93,5 +93,5 @@ returns c =
     c.zero_run.ensures
     ∙ ap (λ (n : ℕ). all (λ b. eqb b 0) (take (n - next) (drop next a.area.now))) k
     ∙ client-sound a.s c.requires.0 a.p f a.area.now (λ i. (b i).fits)
-    (kept) next (goes)
+    kept next goes
     (omega (arith, c.requires.1))

@@ -1,3 +1,4 @@
+use Rattle.std.proofs.Common.{Fits, w8, get_or, rules}
 use mathlib.Core.Path.{sym, ◌∙◌}
 use Rattle.parties.proofs.client.FreeListLaws.{place_within, added_old, added_new}
 use Rattle.parties.proofs.client.free.add_version.Goals as goal
@@ -7,7 +8,7 @@ returns-then-reaches c =
     let a = c.args in
     let p = c.requires in
     let j = c.seek-j in
-    added_old a.room.now (λ i. (c.slice_known-1.given i).fits) a.v a.count j.result j.ensures p
+    added_old a.room.now (λ i. let b : Fits w8 (get_or c.args.room.now i 0) = search rules in b.fits) a.v a.count j.result j.ensures p
     (sym c.reaches.ensures ∙ c.if-reaches.true)
 
 pub put_in-requires : goal.put_in-requires
@@ -22,5 +23,5 @@ returns c =
     let a = c.args in
     let p = c.requires in
     let j = c.seek-j in
-    added_new a.room.now (λ i. (c.slice_known-1.given i).fits) a.v a.count j.result j.ensures p
+    added_new a.room.now (λ i. let b : Fits w8 (get_or c.args.room.now i 0) = search rules in b.fits) a.v a.count j.result j.ensures p
     (sym c.reaches.ensures ∙ c.if-reaches.false) _ c.put_in.ensures

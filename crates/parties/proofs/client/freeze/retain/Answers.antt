@@ -1,3 +1,4 @@
+use Rattle.std.proofs.Common.{Fits, w8, get_or, rules}
 use mathlib.Core.Path.{◌≡◌, ◌∙◌}
 use native.Mathlib.Omega.{arith}
 use Rattle.parties.specs.protocol.Directory.{read_directory}
@@ -33,7 +34,7 @@ retain_one-requires c =
       omega (
         arith,
         p.1,
-        retaining_length a.s a.map (rows_of (read_directory a.s a.rows.now)) a.area.now (λ i. (c.slice_known-1.given i).fits) p.1 p.2 p.3 l.area l.q
+        retaining_length a.s a.map (rows_of (read_directory a.s a.rows.now)) a.area.now (λ i. let b : Fits w8 (get_or c.args.area.now i 0) = search rules in b.fits) p.1 p.2 p.3 l.area l.q
             l.invariant.1,
       ),
       p.4,
@@ -56,7 +57,7 @@ loop-q-preserved c =
     let l = c.loop-q in
     let t = c.loop-q-test.true in (
       omega (arith, t),
-      retaining_more a.s a.map (rows_of (read_directory a.s a.rows.now)) a.area.now (λ i. (c.slice_known-1.given i).fits) p.1 p.2
+      retaining_more a.s a.map (rows_of (read_directory a.s a.rows.now)) a.area.now (λ i. let b : Fits w8 (get_or c.args.area.now i 0) = search rules in b.fits) p.1 p.2
           p.3 l.area l.q l.invariant.1 t _ c.retain_one.ensures,
     )
 
@@ -77,7 +78,7 @@ move_down-requires c =
       omega (
         arith,
         p.1,
-        retaining_length a.s a.map (rows_of (read_directory a.s a.rows.now)) a.area.now (λ i. (c.slice_known-1.given i).fits) p.1
+        retaining_length a.s a.map (rows_of (read_directory a.s a.rows.now)) a.area.now (λ i. let b : Fits w8 (get_or c.args.area.now i 0) = search rules in b.fits) p.1
             p.2 p.3 l.area l.q l.invariant.1,
         c.work_at-at.ensures,
         c.pointer_size-size.ensures,
@@ -101,7 +102,7 @@ clear-requires c =
         arith,
         p.1,
         retaining_length a.s a.map (rows_of (read_directory a.s a.rows.now)) a.area.now
-            (λ i. (c.slice_known-1.given i).fits) p.1 p.2 p.3 l.area l.q
+            (λ i. let b : Fits w8 (get_or c.args.area.now i 0) = search rules in b.fits) p.1 p.2 p.3 l.area l.q
             l.invariant.1,
         c.move_down.auto.t,
         c.work_at-at.ensures,
@@ -115,7 +116,7 @@ shape_of-area c =
     let p = c.requires in
     let l = c.loop-q in
     c.clear.auto.t ∙ c.move_down.auto.t ∙ retaining_length a.s a.map (rows_of (read_directory a.s a.rows.now)) a.area.now
-    (λ i. (c.slice_known-1.given i).fits) p.1 p.2 p.3 l.area l.q l.invariant.1
+    (λ i. let b : Fits w8 (get_or c.args.area.now i 0) = search rules in b.fits) p.1 p.2 p.3 l.area l.q l.invariant.1
 
 pub returns : goal.returns
 returns c =
@@ -123,7 +124,7 @@ returns c =
     let p = c.requires in
     let l = c.loop-q in
     let e : l.q ≡ a.s.m = omega (arith, l.invariant.0, c.loop-q-test.false) in
-    retaining_ends a.s a.map (rows_of (read_directory a.s a.rows.now)) a.area.now (λ i. (c.slice_known-1.given i).fits) p.1 p.2 p.3 l.area l.q
+    retaining_ends a.s a.map (rows_of (read_directory a.s a.rows.now)) a.area.now (λ i. let b : Fits w8 (get_or c.args.area.now i 0) = search rules in b.fits) p.1 p.2 p.3 l.area l.q
     l.invariant.1 e c.work_at-at.result c.pointer_size-size.result c.work_size-work.result
     c.work_at-at.ensures c.pointer_size-size.ensures c.work_size-work.ensures _ _ c.move_down.ensures
     c.clear.ensures

@@ -23,7 +23,7 @@ returns-then-not-enough c =
     let a = c.args in
     let client = record_of a.p a.area.now in
     guarded-short a.s a.enough a.within (on_client a.s client room out (read_client a.s client) f) (λ x. unchanged x client room out)
-    (measured) (c.if-not-enough.true)
+    measured (c.if-not-enough.true)
 
 pub returns-then-not-within : goal.returns-then-not-within
 returns-then-not-within c =
@@ -33,7 +33,7 @@ returns-then-not-within c =
     let a = c.args in
     let client = record_of a.p a.area.now in
     guarded-number a.s a.enough a.within (on_client a.s client room out (read_client a.s client) f) (λ x. unchanged x client room out)
-    (measured) (c.if-not-enough.false) (c.if-not-within.true)
+    measured (c.if-not-enough.false) (c.if-not-within.true)
 
 pub sound-requires : goal.sound-requires
 sound-requires c =
@@ -49,7 +49,7 @@ returns-then-not-sound c =
     let a = c.args in
     let client = record_of a.p a.area.now in
     guarded_through a.s a.enough a.within (on_client a.s client room out (read_client a.s client) f) (λ x. unchanged x client room out)
-    (measured) (c.if-not-enough.false) (c.if-not-within.false)
+    measured (c.if-not-enough.false) (c.if-not-within.false)
     ∙ broken_record a.s client room out (read_client a.s client) f (sym c.sound.ensures ∙ c.if-not-sound.true)
 
 pub returns : goal.returns

@@ -23,14 +23,14 @@ overflow_mul-result c =
     let measured : passes c.args.s ≡ true =
     let l = c.area_and_room_long in
     (and-true (passes c.args.s) _ (sym l.ensures ∙ c.if-not-area_and_room_long.false)).0 in
-    omega (arith, (sizes c.args.s (measured)).frame)
+    omega (arith, (sizes c.args.s measured).frame)
 
 pub overflow_sub-result : goal.overflow_sub-result
 overflow_sub-result c =
     let measured : passes c.args.s ≡ true =
     let l = c.area_and_room_long in
     (and-true (passes c.args.s) _ (sym l.ensures ∙ c.if-not-area_and_room_long.false)).0 in
-    omega (arith, (sizes c.args.s (measured)).frame)
+    omega (arith, (sizes c.args.s measured).frame)
 
 pub returns : goal.returns
 returns c =

@@ -30,7 +30,7 @@ overflow_mul-result c =
     let measured : passes c.args.s ≡ true =
     let l = c.area_and_room_long in
     (and-true (passes c.args.s) _ (sym l.ensures ∙ c.if-not-area_and_room_long.false)).0 in
-    let s = c.args.s in omega (arith, ap (λ (k : ℕ). s.m * k) c.row_size-size.ensures, table_bound s (measured))
+    let s = c.args.s in omega (arith, ap (λ (k : ℕ). s.m * k) c.row_size-size.ensures, table_bound s measured)
 
 pub returns : goal.returns
 returns c =

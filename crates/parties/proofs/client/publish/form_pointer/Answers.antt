@@ -1,3 +1,4 @@
+use Rattle.std.proofs.Common.{Fits, w8, get_or, rules}
 use Rattle.parties.proofs.client.GatherLaws.{formed}
 use Rattle.parties.proofs.client.publish.form_pointer.Goals as goal
 
@@ -5,5 +6,5 @@ pub returns : goal.returns
 returns c =
     let a = c.args in
     let p = c.requires in
-    formed a.s p.0 a.map p.1 a.area.now a.at p.2 p.3 (λ i. (c.slice_known-1.given i).fits) _ _
+    formed a.s p.0 a.map p.1 a.area.now a.at p.2 p.3 (λ i. let b : Fits w8 (get_or c.args.area.now i 0) = search rules in b.fits) _ _
     c.pointer_size-front.ensures c.work_size-size.ensures _ _ _ c.gather.ensures c.put_u16.ensures c.clear.ensures

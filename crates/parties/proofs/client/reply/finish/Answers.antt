@@ -1,3 +1,4 @@
+use Rattle.std.proofs.Common.{Fits, w8, get_or, rules}
 use mathlib.Core.Path.{◌≡◌, sym, ap, ◌∙◌}
 use mathlib.Core.List.{List}
 use Prim.Native.Nat.{ℕ, ◌+◌, ◌-◌}
@@ -32,7 +33,7 @@ pub join_with-a-requires : goal.join_with-a-requires
 join_with-a-requires c =
     let opened : let a = c.args in Opened a.s a.p a.area.now =
     let q = c.requires in
-    record { measures = q.0; step = omega arith; reading = omega arith; bytes = λ i. (c.slice_known-1.given i).fits; reads = q.3 } in
+    record { measures = q.0; step = omega arith; reading = omega arith; bytes = λ i. let b : Fits w8 (get_or c.args.area.now i 0) = search rules in b.fits; reads = q.3 } in
     let a = c.args in
     let q = c.requires in (
       q.0,
@@ -41,7 +42,7 @@ join_with-a-requires c =
       omega (
         arith,
         lengths-within a.s a.p a.area.now
-            (opened),
+            opened,
         c.work_at-at.ensures,
         c.pointer_size.ensures,
       ),
@@ -53,7 +54,7 @@ pub returns-in_default : goal.returns-in_default
 returns-in_default c =
     let opened : let a = c.args in Opened a.s a.p a.area.now =
     let q = c.requires in
-    record { measures = q.0; step = omega arith; reading = omega arith; bytes = λ i. (c.slice_known-1.given i).fits; reads = q.3 } in
+    record { measures = q.0; step = omega arith; reading = omega arith; bytes = λ i. let b : Fits w8 (get_or c.args.area.now i 0) = search rules in b.fits; reads = q.3 } in
     let a = c.args in
     let q = c.requires in
     let g = c.join_with-a.ensures in
@@ -62,7 +63,7 @@ returns-in_default c =
     in
     let z : JoinEnd = record { outcome = join_outcome c.join_with-a.result; out = c.join_with-a.new.out } in
     λ room.
-    let r = sym (refused_end a.s a.p a.area.now (opened) q.5 a.i q.1 q.2 a.v a.x q.6 a.piece.now
+    let r = sym (refused_end a.s a.p a.area.now opened q.5 a.i q.1 q.2 a.v a.x q.6 a.piece.now
     (λ i. (c.type_inv.piece i).fits) q.7 q.8 q.9 room a.out.now z
     (join-told a.s a.i a.piece.now a.area.now a.out.now _ _ _ lens c.with_node-matching.ensures z g.0 g.1) _ (ap join_outcome c.in_default.is))
     in
@@ -77,17 +78,17 @@ pub clear-requires : goal.clear-requires
 clear-requires c =
     let opened : let a = c.args in Opened a.s a.p a.area.now =
     let q = c.requires in
-    record { measures = q.0; step = omega arith; reading = omega arith; bytes = λ i. (c.slice_known-1.given i).fits; reads = q.3 } in
+    record { measures = q.0; step = omega arith; reading = omega arith; bytes = λ i. let b : Fits w8 (get_or c.args.area.now i 0) = search rules in b.fits; reads = q.3 } in
     let a = c.args in
     let q = c.requires in
-    let w = work_within a.s a.p a.area.now (opened) in
+    let w = work_within a.s a.p a.area.now opened in
     (omega arith, omega (arith, w, c.work_at-at.ensures, c.work_size-size.ensures, ap length c.join_with-a.ensures.2))
 
 pub returns : goal.returns
 returns c =
     let opened : let a = c.args in Opened a.s a.p a.area.now =
     let q = c.requires in
-    record { measures = q.0; step = omega arith; reading = omega arith; bytes = λ i. (c.slice_known-1.given i).fits; reads = q.3 } in
+    record { measures = q.0; step = omega arith; reading = omega arith; bytes = λ i. let b : Fits w8 (get_or c.args.area.now i 0) = search rules in b.fits; reads = q.3 } in
     let a = c.args in
     let q = c.requires in
     let g = c.join_with-a.ensures in
@@ -97,7 +98,7 @@ returns c =
     let z : JoinEnd = record { outcome = join_outcome c.join_with-a.result; out = c.join_with-a.new.out } in
     let x = c.clear.ensures ∙ ap (λ (l : List ℕ). paste l at (replicate to 0) to) g.2 ∙ clear_done a.s a.area.now _ _ c.work_at-at.ensures c.work_size-size.ensures in
     λ room.
-    let r = sym (page_end_lem a.s a.p a.area.now (opened) q.5 a.i q.1 q.2 a.v a.x q.6 a.piece.now
+    let r = sym (page_end_lem a.s a.p a.area.now opened q.5 a.i q.1 q.2 a.v a.x q.6 a.piece.now
     (λ i. (c.type_inv.piece i).fits) q.7 q.8 q.9 room a.out.now z
     (join-told a.s a.i a.piece.now a.area.now a.out.now _ _ _ lens c.with_node-matching.ensures z g.0 g.1) _
     (ap join_outcome c.in-Page.is))

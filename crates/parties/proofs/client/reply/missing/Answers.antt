@@ -1,3 +1,4 @@
+use Rattle.std.proofs.Common.{Fits, w8, get_or, rules}
 use mathlib.Core.Path.{sym, ◌∙◌}
 use mathlib.Core.Bool.{cond}
 use mathlib.Core.Option.{none}
@@ -18,7 +19,7 @@ returns-then-p-ne-FETCHING c =
     record { measures = q.0; step = omega arith; reading = omega arith; bytes = λ i. (c.type_inv.area i).fits; reads = q.3 } in
     let a = c.args in
     let q = c.requires in
-    λ room out. sym (other_end a.s a.p a.area.now (opened) a.i a.v none room out c.if-p-ne-FETCHING.true)
+    λ room out. sym (other_end a.s a.p a.area.now opened a.i a.v none room out c.if-p-ne-FETCHING.true)
 
 pub overflow_add-at : goal.overflow_add-at
 overflow_add-at c =
@@ -30,10 +31,10 @@ pub standing_at-x-requires : goal.standing_at-x-requires
 standing_at-x-requires c =
     let opened : let a = c.args in Opened a.s a.p a.area.now =
     let q = c.requires in
-    record { measures = q.0; step = omega arith; reading = omega arith; bytes = λ i. (c.slice_known-1.given i).fits; reads = q.3 } in
+    record { measures = q.0; step = omega arith; reading = omega arith; bytes = λ i. let b : Fits w8 (get_or c.args.area.now i 0) = search rules in b.fits; reads = q.3 } in
     let a = c.args in
     let q = c.requires in
-    let w = work_within a.s a.p a.area.now (opened) in
+    let w = work_within a.s a.p a.area.now opened in
     (omega (arith, w, c.work_at-at.ensures), omega (arith, w, c.work_at-at.ensures, c.pointer_size.ensures))
 
 pub counts-requires : goal.counts-requires
@@ -44,13 +45,13 @@ pub returns-then-not-counts : goal.returns-then-not-counts
 returns-then-not-counts c =
     let opened : let a = c.args in Opened a.s a.p a.area.now =
     let q = c.requires in
-    record { measures = q.0; step = omega arith; reading = omega arith; bytes = λ i. (c.slice_known-1.given i).fits; reads = q.3 } in
+    record { measures = q.0; step = omega arith; reading = omega arith; bytes = λ i. let b : Fits w8 (get_or c.args.area.now i 0) = search rules in b.fits; reads = q.3 } in
     let a = c.args in
     let q = c.requires in
     let x = c.standing_at-x.ensures ∙ (λ j. standing_at a.area.now (c.work_at-at.ensures j)
     (c.work_at-at.ensures j + c.pointer_size.ensures j))
     in
-    λ room out. sym (skipped_end a.s a.p a.area.now (opened) c.if-p-ne-FETCHING.false a.i q.1 q.2 a.v
+    λ room out. sym (skipped_end a.s a.p a.area.now opened c.if-p-ne-FETCHING.false a.i q.1 q.2 a.v
     c.standing_at-x.result x none room out (sym c.counts.ensures ∙ c.if-not-counts.true))
 
 pub with_node-counted-requires : goal.with_node-counted-requires
@@ -61,16 +62,16 @@ pub go_on-requires : goal.go_on-requires
 go_on-requires c =
     let opened : let a = c.args in Opened a.s a.p a.area.now =
     let q = c.requires in
-    record { measures = q.0; step = omega arith; reading = omega arith; bytes = λ i. (c.slice_known-1.given i).fits; reads = q.3 } in
+    record { measures = q.0; step = omega arith; reading = omega arith; bytes = λ i. let b : Fits w8 (get_or c.args.area.now i 0) = search rules in b.fits; reads = q.3 } in
     let a = c.args in
     let q = c.requires in
-    (q.0, work_within a.s a.p a.area.now (opened))
+    (q.0, work_within a.s a.p a.area.now opened)
 
 pub returns : goal.returns
 returns c =
     let opened : let a = c.args in Opened a.s a.p a.area.now =
     let q = c.requires in
-    record { measures = q.0; step = omega arith; reading = omega arith; bytes = λ i. (c.slice_known-1.given i).fits; reads = q.3 } in
+    record { measures = q.0; step = omega arith; reading = omega arith; bytes = λ i. let b : Fits w8 (get_or c.args.area.now i 0) = search rules in b.fits; reads = q.3 } in
     let a = c.args in
     let q = c.requires in
     let s = c.standing_at-x.result in
@@ -79,7 +80,7 @@ returns c =
     in
     let n = c.with_node-counted.ensures in
     let g = c.go_on.ensures in
-    λ room out. sym (missing_end a.s a.p a.area.now (opened) c.if-p-ne-FETCHING.false a.i q.1 q.2 a.v s x
+    λ room out. sym (missing_end a.s a.p a.area.now opened c.if-p-ne-FETCHING.false a.i q.1 q.2 a.v s x
     (sym c.counts.ensures ∙ c.if-not-counts.false) room out _
     (g.0 ∙ (λ j. went_on (all (stands (n j)) (nodes_in s.named)))) _
     (g.1 ∙ (λ j. cond (all (stands (n j)) (nodes_in s.named)) (cleared a.s a.area.now) (mapped a.s (n j) s.matching a.area.now))))

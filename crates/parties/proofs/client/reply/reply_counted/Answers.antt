@@ -1,3 +1,4 @@
+use Rattle.std.proofs.Common.{Fits, w8, get_or, rules}
 use mathlib.Core.Path.{sym, ap, ◌∙◌}
 use mathlib.Core.Bool.{cond}
 use Prim.Native.Nat.{◌+◌, ◌-◌, ◌*◌, ◌<◌}
@@ -32,13 +33,13 @@ pub matches-requires : goal.matches-requires
 matches-requires c =
     let opened : let a = c.args in Opened a.s a.p a.area.now =
     let q = c.requires in
-    record { measures = q.0; step = omega arith; reading = omega arith; bytes = λ i. (c.slice_known-1.given i).fits; reads = q.3 } in
+    record { measures = q.0; step = omega arith; reading = omega arith; bytes = λ i. let b : Fits w8 (get_or c.args.area.now i 0) = search rules in b.fits; reads = q.3 } in
     let a = c.args in
     let q = c.requires in (
       omega (arith, q.2, (sizes a.s q.0).nodes),
       omega (
         arith,
-        digest-within a.s a.p a.area.now (opened) q.5 a.i q.1 q.2 a.v a.x q.6
+        digest-within a.s a.p a.area.now opened q.5 a.i q.1 q.2 a.v a.x q.6
             q.7,
         c.work_at-at.ensures,
         c.rank.ensures,
@@ -49,16 +50,16 @@ pub go_on-requires : goal.go_on-requires
 go_on-requires c =
     let opened : let a = c.args in Opened a.s a.p a.area.now =
     let q = c.requires in
-    record { measures = q.0; step = omega arith; reading = omega arith; bytes = λ i. (c.slice_known-1.given i).fits; reads = q.3 } in
+    record { measures = q.0; step = omega arith; reading = omega arith; bytes = λ i. let b : Fits w8 (get_or c.args.area.now i 0) = search rules in b.fits; reads = q.3 } in
     let a = c.args in
     let q = c.requires in
-    (q.0, work_within a.s a.p a.area.now (opened))
+    (q.0, work_within a.s a.p a.area.now opened)
 
 pub returns-then-not-matches : goal.returns-then-not-matches
 returns-then-not-matches c =
     let opened : let a = c.args in Opened a.s a.p a.area.now =
     let q = c.requires in
-    record { measures = q.0; step = omega arith; reading = omega arith; bytes = λ i. (c.slice_known-1.given i).fits; reads = q.3 } in
+    record { measures = q.0; step = omega arith; reading = omega arith; bytes = λ i. let b : Fits w8 (get_or c.args.area.now i 0) = search rules in b.fits; reads = q.3 } in
     let a = c.args in
     let q = c.requires in
     let n = c.with_node-counted.ensures in
@@ -66,7 +67,7 @@ returns-then-not-matches c =
     let m = (λ j. matches_at a.s.f a.x.version a.i a.piece.now a.area.now (sym c.work_at-at.ensures j + 7 + 32 * sym c.rank.ensures j))
     ∙ sym c.matches.ensures ∙ c.if-not-matches.true
     in
-    λ room. sym (missed_end a.s a.p a.area.now (opened) q.5 a.i q.1 q.2 a.v a.x q.6 a.piece.now q.7 m room a.out.now _
+    λ room. sym (missed_end a.s a.p a.area.now opened q.5 a.i q.1 q.2 a.v a.x q.6 a.piece.now q.7 m room a.out.now _
     (g.0 ∙ (λ j. went_on (all (stands (n j)) (nodes_in a.x.named)))) _
     (g.1 ∙ (λ j. cond (all (stands (n j)) (nodes_in a.x.named)) (cleared a.s a.area.now) (mapped a.s (n j) a.x.matching a.area.now))))
 
@@ -88,7 +89,7 @@ pub put_piece-requires : goal.put_piece-requires
 put_piece-requires c =
     let opened : let a = c.args in Opened a.s a.p a.area.now =
     let q = c.requires in
-    record { measures = q.0; step = omega arith; reading = omega arith; bytes = λ i. (c.slice_known-1.given i).fits; reads = q.3 } in
+    record { measures = q.0; step = omega arith; reading = omega arith; bytes = λ i. let b : Fits w8 (get_or c.args.area.now i 0) = search rules in b.fits; reads = q.3 } in
     let a = c.args in
     let q = c.requires in
     let z = sizes a.s q.0 in (
@@ -96,7 +97,7 @@ put_piece-requires c =
       z.bytes,
       q.1,
       q.2,
-      omega (arith, lengths-within a.s a.p a.area.now (opened), c.work_at-at.ensures, c.pointer_size.ensures),
+      omega (arith, lengths-within a.s a.p a.area.now opened, c.work_at-at.ensures, c.pointer_size.ensures),
       matches-short a.s.f a.x.version a.i a.piece.now a.area.now _ (sym c.matches.ensures ∙ c.if-not-matches.false),
     )
 
@@ -104,17 +105,17 @@ pub go_on-requires-then-count-s : goal.go_on-requires-then-count-s
 go_on-requires-then-count-s c =
     let opened : let a = c.args in Opened a.s a.p a.area.now =
     let q = c.requires in
-    record { measures = q.0; step = omega arith; reading = omega arith; bytes = λ i. (c.slice_known-1.given i).fits; reads = q.3 } in
+    record { measures = q.0; step = omega arith; reading = omega arith; bytes = λ i. let b : Fits w8 (get_or c.args.area.now i 0) = search rules in b.fits; reads = q.3 } in
     let a = c.args in
     let q = c.requires in
-    let w = work_within a.s a.p a.area.now (opened) in
+    let w = work_within a.s a.p a.area.now opened in
     (q.0, omega (arith, w))
 
 pub returns-then-count-s : goal.returns-then-count-s
 returns-then-count-s c =
     let opened : let a = c.args in Opened a.s a.p a.area.now =
     let q = c.requires in
-    record { measures = q.0; step = omega arith; reading = omega arith; bytes = λ i. (c.slice_known-1.given i).fits; reads = q.3 } in
+    record { measures = q.0; step = omega arith; reading = omega arith; bytes = λ i. let b : Fits w8 (get_or c.args.area.now i 0) = search rules in b.fits; reads = q.3 } in
     let a = c.args in
     let q = c.requires in
     let n = c.with_node-counted.ensures in
@@ -127,7 +128,7 @@ returns-then-count-s c =
     let t = c.put_piece.ensures
     ∙ (λ j. piece_put (c.work_at-at.ensures j + c.pointer_size.ensures j + 4) a.s.n a.s.f a.i a.piece.now a.area.now)
     in
-    λ room. sym (more_end a.s a.p a.area.now (opened) q.5 a.i q.1 q.2 a.v a.x q.6 a.piece.now
+    λ room. sym (more_end a.s a.p a.area.now opened q.5 a.i q.1 q.2 a.v a.x q.6 a.piece.now
     (λ i. (c.type_inv.piece i).fits) q.7 m few room a.out.now _
     (g.0 ∙ (λ j. went_on (all (stands (n j)) (nodes_in a.x.named)))) _
     (g.1 ∙ (λ j. cond (all (stands (n j)) (nodes_in a.x.named)) (cleared a.s (t j)) (mapped a.s (n j) (k j) (t j)))))

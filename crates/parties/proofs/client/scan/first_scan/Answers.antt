@@ -1,3 +1,4 @@
+use Rattle.std.proofs.Common.{Fits, w8, get_or, rules}
 use mathlib.Core.Path.{◌≡◌, sym, ap, ◌∙◌}
 use native.Mathlib.Omega.{arith}
 use Rattle.parties.specs.protocol.Version.{next_sequence}
@@ -12,11 +13,11 @@ pub returns-in_default : goal.returns-in_default
 returns-in_default c =
     let opened : let a = c.args in Opened a.s a.p a.area.now =
     let q = c.requires in
-    record { measures = q.0; step = omega arith; reading = omega arith; bytes = λ i. (c.slice_known-1.given i).fits; reads = q.3 } in
+    record { measures = q.0; step = omega arith; reading = omega arith; bytes = λ i. let b : Fits w8 (get_or c.args.area.now i 0) = search rules in b.fits; reads = q.3 } in
     let told : next_sequence (highest (rows_of (read_directory c.args.s c.args.rows.now))) ≡ c.next-next.result =
     sym (c.next-next.ensures ∙ ap next_sequence c.highest-top.ensures) in
     let a = c.args in
-    c.give_up.ensures ∙ sym (scanned-spent a.s a.p a.area.now (opened) a.own a.rows.now a.room.now c.requires.2
+    c.give_up.ensures ∙ sym (scanned-spent a.s a.p a.area.now opened a.own a.rows.now a.room.now c.requires.2
     (told ∙ c.in_default.is))
 
 pub draw-requires : goal.draw-requires
@@ -37,9 +38,9 @@ pub returns : goal.returns
 returns c =
     let opened : let a = c.args in Opened a.s a.p a.area.now =
     let q = c.requires in
-    record { measures = q.0; step = omega arith; reading = omega arith; bytes = λ i. (c.slice_known-1.given i).fits; reads = q.3 } in
+    record { measures = q.0; step = omega arith; reading = omega arith; bytes = λ i. let b : Fits w8 (get_or c.args.area.now i 0) = search rules in b.fits; reads = q.3 } in
     let told : next_sequence (highest (rows_of (read_directory c.args.s c.args.rows.now))) ≡ c.next-next.result =
     sym (c.next-next.ensures ∙ ap next_sequence c.highest-top.ensures) in
     let a = c.args in
-    c.draw.ensures ∙ sym (scanned_draws a.s a.p a.area.now (opened) a.own a.rows.now a.room.now c.requires.2
+    c.draw.ensures ∙ sym (scanned_draws a.s a.p a.area.now opened a.own a.rows.now a.room.now c.requires.2
     c.in-Drawn.q (told ∙ c.in-Drawn.is))

@@ -1,3 +1,4 @@
+use Rattle.std.proofs.Common.{Fits, w8, get_or, rules}
 use mathlib.Core.Path.{sym}
 use native.Mathlib.Omega.{arith}
 use Rattle.parties.proofs.client.FormLaws.{sizes}
@@ -14,17 +15,17 @@ pub clear-requires : goal.clear-requires
 clear-requires c =
     let opened : let a = c.args in Opened a.s a.p a.area.now =
     let q = c.requires in
-    record { measures = q.0; step = omega arith; reading = omega arith; bytes = λ i. (c.slice_known-1.given i).fits; reads = q.1 } in
+    record { measures = q.0; step = omega arith; reading = omega arith; bytes = λ i. let b : Fits w8 (get_or c.args.area.now i 0) = search rules in b.fits; reads = q.1 } in
     let a = c.args in
     let q = c.requires in
-    (omega arith, omega (arith, work_within a.s a.p a.area.now (opened), c.work_at-at.ensures, c.work_size-size.ensures))
+    (omega arith, omega (arith, work_within a.s a.p a.area.now opened, c.work_at-at.ensures, c.work_size-size.ensures))
 
 pub returns : goal.returns
 returns c =
     let opened : let a = c.args in Opened a.s a.p a.area.now =
     let q = c.requires in
-    record { measures = q.0; step = omega arith; reading = omega arith; bytes = λ i. (c.slice_known-1.given i).fits; reads = q.1 } in
+    record { measures = q.0; step = omega arith; reading = omega arith; bytes = λ i. let b : Fits w8 (get_or c.args.area.now i 0) = search rules in b.fits; reads = q.1 } in
     let a = c.args in
     let q = c.requires in
-    sym (spent_leaves a.s a.p a.area.now (opened) c.work_at-at.result c.work_at-at.ensures c.work_size-size.result
+    sym (spent_leaves a.s a.p a.area.now opened c.work_at-at.result c.work_at-at.ensures c.work_size-size.result
     c.work_size-size.ensures _ c.clear.ensures a.room.now)

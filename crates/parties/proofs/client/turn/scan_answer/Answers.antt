@@ -1,3 +1,4 @@
+use Rattle.std.proofs.Common.{Fits, w8, get_or, rules}
 use mathlib.Core.Path.{◌≡◌, sym, ap, ◌∙◌}
 use mathlib.Core.Bool.{true, ◌&&◌}
 use mathlib.Core.List.{[]}
@@ -43,7 +44,7 @@ row_size-size-requires c =
     let a = c.args in
     let l = c.area_rows_and_room_long-enough in
     gated_open a.s a.p a.area.now (leb (area_size a.s) (length a.area.now) && (leb (a.s.m * row_size a.s) (length a.rows.now) && leb (room_size a.s) (length a.room.now))) l.result (ltb a.own a.s.m) l.ensures c.admit-g.result c.admit-g.ensures c.in_default.is in
-    (enters).0
+    enters.0
 
 pub directory-requires : goal.directory-requires
 directory-requires c =
@@ -53,9 +54,9 @@ directory-requires c =
     gated_open a.s a.p a.area.now (leb (area_size a.s) (length a.area.now) && (leb (a.s.m * row_size a.s) (length a.rows.now) && leb (room_size a.s) (length a.room.now))) l.result (ltb a.own a.s.m) l.ensures c.admit-g.result c.admit-g.ensures c.in_default.is in
     let long : let a = c.args in (a.s.m * row_size a.s ≤ length a.rows.now) × (room_size a.s ≤ length a.room.now) =
     let a = c.args in
-    let m = and-true (leb (a.s.m * row_size a.s) (length a.rows.now)) _ (and-true (leb (area_size a.s) (length a.area.now)) _ (enters).1).1 in
+    let m = and-true (leb (a.s.m * row_size a.s) (length a.rows.now)) _ (and-true (leb (area_size a.s) (length a.area.now)) _ enters.1).1 in
     (leb-true (a.s.m * row_size a.s) (length a.rows.now) m.0, leb-true (room_size a.s) (length a.room.now) m.1) in
-    ((enters).0, c.row_size-size.ensures, (long).0)
+    (enters.0, c.row_size-size.ensures, long.0)
 
 pub returns-in-Broken : goal.returns-in-Broken
 returns-in-Broken c =
@@ -65,11 +66,11 @@ returns-in-Broken c =
     gated_open a.s a.p a.area.now (leb (area_size a.s) (length a.area.now) && (leb (a.s.m * row_size a.s) (length a.rows.now) && leb (room_size a.s) (length a.room.now))) l.result (ltb a.own a.s.m) l.ensures c.admit-g.result c.admit-g.ensures c.in_default.is in
     let opened : let a = c.args in Opened a.s a.p a.area.now =
     let e = enters in
-    record { measures = e.0; step = omega arith; reading = omega arith; bytes = λ i. (c.slice_known-1.given i).fits; reads = e.3 } in
+    record { measures = e.0; step = omega arith; reading = omega arith; bytes = λ i. let b : Fits w8 (get_or c.args.area.now i 0) = search rules in b.fits; reads = e.3 } in
     let a = c.args in
     let d = c.directory in
     let n = c.in-Broken.r in
-    rw c.refuse-in-Broken.ensures (ends_three _ _ (scan-broken a.s a.own a.p a.area.now a.rows.now a.room.now (opened) (enters).2 (enters).1 (number n)
+    rw c.refuse-in-Broken.ensures (ends_three _ _ (scan-broken a.s a.own a.p a.area.now a.rows.now a.room.now opened enters.2 enters.1 (number n)
     (judged_broken a.s a.rows.now d.result d.ensures n c.in-Broken.is)))
 
 pub after_scan-a-requires : goal.after_scan-a-requires
@@ -80,10 +81,10 @@ after_scan-a-requires c =
     gated_open a.s a.p a.area.now (leb (area_size a.s) (length a.area.now) && (leb (a.s.m * row_size a.s) (length a.rows.now) && leb (room_size a.s) (length a.room.now))) l.result (ltb a.own a.s.m) l.ensures c.admit-g.result c.admit-g.ensures c.in_default.is in
     let opened : let a = c.args in Opened a.s a.p a.area.now =
     let e = enters in
-    record { measures = e.0; step = omega arith; reading = omega arith; bytes = λ i. (c.slice_known-1.given i).fits; reads = e.3 } in
+    record { measures = e.0; step = omega arith; reading = omega arith; bytes = λ i. let b : Fits w8 (get_or c.args.area.now i 0) = search rules in b.fits; reads = e.3 } in
     let long : let a = c.args in (a.s.m * row_size a.s ≤ length a.rows.now) × (room_size a.s ≤ length a.room.now) =
     let a = c.args in
-    let m = and-true (leb (a.s.m * row_size a.s) (length a.rows.now)) _ (and-true (leb (area_size a.s) (length a.area.now)) _ (enters).1).1 in
+    let m = and-true (leb (a.s.m * row_size a.s) (length a.rows.now)) _ (and-true (leb (area_size a.s) (length a.area.now)) _ enters.1).1 in
     (leb-true (a.s.m * row_size a.s) (length a.rows.now) m.0, leb-true (room_size a.s) (length a.room.now) m.1) in
     let sound : let a = c.args in Judged a.s a.rows.now Verdict.Sound =
     let a = c.args in
@@ -93,9 +94,9 @@ after_scan-a-requires c =
       e.0,
       ltb-true a.own a.s.m e.2,
       e.3,
-      (long).0,
-      rows-read a.s a.own a.p a.area.now a.rows.now a.room.now (opened) e.2 e.1 _ (sound).0,
-      (long).1,
+      long.0,
+      rows-read a.s a.own a.p a.area.now a.rows.now a.room.now opened e.2 e.1 _ sound.0,
+      long.1,
     )
 
 pub returns : goal.returns
@@ -106,11 +107,11 @@ returns c =
     gated_open a.s a.p a.area.now (leb (area_size a.s) (length a.area.now) && (leb (a.s.m * row_size a.s) (length a.rows.now) && leb (room_size a.s) (length a.room.now))) l.result (ltb a.own a.s.m) l.ensures c.admit-g.result c.admit-g.ensures c.in_default.is in
     let opened : let a = c.args in Opened a.s a.p a.area.now =
     let e = enters in
-    record { measures = e.0; step = omega arith; reading = omega arith; bytes = λ i. (c.slice_known-1.given i).fits; reads = e.3 } in
+    record { measures = e.0; step = omega arith; reading = omega arith; bytes = λ i. let b : Fits w8 (get_or c.args.area.now i 0) = search rules in b.fits; reads = e.3 } in
     let sound : let a = c.args in Judged a.s a.rows.now Verdict.Sound =
     let a = c.args in
     let d = c.directory in judged_sound a.s a.rows.now d.result d.ensures c.in_default-directory.is in
     let a = c.args in
-    let r = ends_three _ _ (scan-goes a.s a.own a.p a.area.now a.rows.now a.room.now (opened) (enters).2 (enters).1 _ (sound).0 (sound).1
+    let r = ends_three _ _ (scan-goes a.s a.own a.p a.area.now a.rows.now a.room.now opened enters.2 enters.1 _ sound.0 sound.1
     ∙ sym c.after_scan-a.ensures) in
     (r.0, ap (λ (h : Phase). record_of h c.after_scan-a.new.area) c.phase_after.ensures ∙ r.1, r.2)

@@ -1,3 +1,4 @@
+use Rattle.std.proofs.Common.{Fits, w8, get_or, rules}
 use mathlib.Core.Path.{◌≡◌, sym, ap, ◌∙◌}
 use mathlib.Core.Bool.{true}
 use mathlib.Core.List.{List, []}
@@ -43,11 +44,11 @@ returns-then-p-ne-IDLE c =
     gated_open a.s a.p a.area.now (leb (area_size a.s) (length a.area.now)) l.result (ltb a.own a.s.m) l.ensures c.admit-g.result c.admit-g.ensures c.in_default.is in
     let opened : let a = c.args in Opened a.s a.p a.area.now =
     let e = enters in
-    record { measures = e.0; step = omega arith; reading = omega arith; bytes = λ i. (c.slice_known-1.given i).fits; reads = e.3 } in
+    record { measures = e.0; step = omega arith; reading = omega arith; bytes = λ i. let b : Fits w8 (get_or c.args.area.now i 0) = search rules in b.fits; reads = e.3 } in
     let long : let a = c.args in leb (client_size a.s) (length (record_of a.p a.area.now)) ≡ true =
-    let a = c.args in long_record a.s a.p a.area.now ∙ (enters).1 in
+    let a = c.args in long_record a.s a.p a.area.now ∙ enters.1 in
     let a = c.args in
-    rw c.refuse-then-p-ne-IDLE.ensures (ends-two _ _ (deposit_busy a.s a.own a.p a.area.now (opened) (enters).2 a.page.now (long) c.if-p-ne-IDLE.true))
+    rw c.refuse-then-p-ne-IDLE.ensures (ends-two _ _ (deposit_busy a.s a.own a.p a.area.now opened enters.2 a.page.now long c.if-p-ne-IDLE.true))
 
 pub overflow_mul-s : goal.overflow_mul-s
 overflow_mul-s c =
@@ -55,7 +56,7 @@ overflow_mul-s c =
     let a = c.args in
     let l = c.area_long-enough in
     gated_open a.s a.p a.area.now (leb (area_size a.s) (length a.area.now)) l.result (ltb a.own a.s.m) l.ensures c.admit-g.result c.admit-g.ensures c.in_default.is in
-    let z = sizes c.args.s (enters).0 in
+    let z = sizes c.args.s enters.0 in
     omega (arith, z.frame)
 
 pub overflow_sub-s : goal.overflow_sub-s
@@ -64,7 +65,7 @@ overflow_sub-s c =
     let a = c.args in
     let l = c.area_long-enough in
     gated_open a.s a.p a.area.now (leb (area_size a.s) (length a.area.now)) l.result (ltb a.own a.s.m) l.ensures c.admit-g.result c.admit-g.ensures c.in_default.is in
-    let z = sizes c.args.s (enters).0 in
+    let z = sizes c.args.s enters.0 in
     omega (arith, z.frame)
 
 pub returns-then-s-n : goal.returns-then-s-n
@@ -75,11 +76,11 @@ returns-then-s-n c =
     gated_open a.s a.p a.area.now (leb (area_size a.s) (length a.area.now)) l.result (ltb a.own a.s.m) l.ensures c.admit-g.result c.admit-g.ensures c.in_default.is in
     let opened : let a = c.args in Opened a.s a.p a.area.now =
     let e = enters in
-    record { measures = e.0; step = omega arith; reading = omega arith; bytes = λ i. (c.slice_known-1.given i).fits; reads = e.3 } in
+    record { measures = e.0; step = omega arith; reading = omega arith; bytes = λ i. let b : Fits w8 (get_or c.args.area.now i 0) = search rules in b.fits; reads = e.3 } in
     let long : let a = c.args in leb (client_size a.s) (length (record_of a.p a.area.now)) ≡ true =
-    let a = c.args in long_record a.s a.p a.area.now ∙ (enters).1 in
+    let a = c.args in long_record a.s a.p a.area.now ∙ enters.1 in
     let a = c.args in
-    rw c.refuse-then-s-n.ensures (ends-two _ _ (deposit-long a.s a.own a.p a.area.now (opened) (enters).2 a.page.now (long) c.if-p-ne-IDLE.false c.if-s-n.true))
+    rw c.refuse-then-s-n.ensures (ends-two _ _ (deposit-long a.s a.own a.p a.area.now opened enters.2 a.page.now long c.if-p-ne-IDLE.false c.if-s-n.true))
 
 pub work_at-at-requires : goal.work_at-at-requires
 work_at-at-requires c =
@@ -87,7 +88,7 @@ work_at-at-requires c =
     let a = c.args in
     let l = c.area_long-enough in
     gated_open a.s a.p a.area.now (leb (area_size a.s) (length a.area.now)) l.result (ltb a.own a.s.m) l.ensures c.admit-g.result c.admit-g.ensures c.in_default.is in
-    (enters).0
+    enters.0
 
 pub overflow_cast-n : goal.overflow_cast-n
 overflow_cast-n c =
@@ -95,7 +96,7 @@ overflow_cast-n c =
     let a = c.args in
     let l = c.area_long-enough in
     gated_open a.s a.p a.area.now (leb (area_size a.s) (length a.area.now)) l.result (ltb a.own a.s.m) l.ensures c.admit-g.result c.admit-g.ensures c.in_default.is in
-    let z = sizes c.args.s (enters).0 in
+    let z = sizes c.args.s enters.0 in
     omega (arith, z.frame, c.if-s-n.false)
 
 pub put_u32-requires : goal.put_u32-requires
@@ -105,7 +106,7 @@ put_u32-requires c =
     let l = c.area_long-enough in
     gated_open a.s a.p a.area.now (leb (area_size a.s) (length a.area.now)) l.result (ltb a.own a.s.m) l.ensures c.admit-g.result c.admit-g.ensures c.in_default.is in
     let area_fits : let a = c.args in area_size a.s ≤ length a.area.now =
-    let a = c.args in leb-true (area_size a.s) (length a.area.now) (enters).1 in
+    let a = c.args in leb-true (area_size a.s) (length a.area.now) enters.1 in
     omega (arith, area_fits, c.work_at-at.ensures)
 
 pub overflow_add-at : goal.overflow_add-at
@@ -115,7 +116,7 @@ overflow_add-at c =
     let l = c.area_long-enough in
     gated_open a.s a.p a.area.now (leb (area_size a.s) (length a.area.now)) l.result (ltb a.own a.s.m) l.ensures c.admit-g.result c.admit-g.ensures c.in_default.is in
     let area_fits : let a = c.args in area_size a.s ≤ length a.area.now =
-    let a = c.args in leb-true (area_size a.s) (length a.area.now) (enters).1 in
+    let a = c.args in leb-true (area_size a.s) (length a.area.now) enters.1 in
     omega (arith, area_fits, c.work_at-at.ensures)
 
 pub copy-requires : goal.copy-requires
@@ -125,10 +126,10 @@ copy-requires c =
     let l = c.area_long-enough in
     gated_open a.s a.p a.area.now (leb (area_size a.s) (length a.area.now)) l.result (ltb a.own a.s.m) l.ensures c.admit-g.result c.admit-g.ensures c.in_default.is in
     let area_fits : let a = c.args in area_size a.s ≤ length a.area.now =
-    let a = c.args in leb-true (area_size a.s) (length a.area.now) (enters).1 in
+    let a = c.args in leb-true (area_size a.s) (length a.area.now) enters.1 in
     let a = c.args in
     let n = length a.page.now in
-    let z = sizes a.s (enters).0 in
+    let z = sizes a.s enters.0 in
     let l = area_fits in
     let k : length c.put_u32.new.t ≡ length a.area.now =
     ap length c.put_u32.ensures
@@ -145,12 +146,12 @@ returns c =
     gated_open a.s a.p a.area.now (leb (area_size a.s) (length a.area.now)) l.result (ltb a.own a.s.m) l.ensures c.admit-g.result c.admit-g.ensures c.in_default.is in
     let opened : let a = c.args in Opened a.s a.p a.area.now =
     let e = enters in
-    record { measures = e.0; step = omega arith; reading = omega arith; bytes = λ i. (c.slice_known-1.given i).fits; reads = e.3 } in
+    record { measures = e.0; step = omega arith; reading = omega arith; bytes = λ i. let b : Fits w8 (get_or c.args.area.now i 0) = search rules in b.fits; reads = e.3 } in
     let long : let a = c.args in leb (client_size a.s) (length (record_of a.p a.area.now)) ≡ true =
-    let a = c.args in long_record a.s a.p a.area.now ∙ (enters).1 in
+    let a = c.args in long_record a.s a.p a.area.now ∙ enters.1 in
     let a = c.args in
     let n = length a.page.now in
-    let e = ends-two _ _ (deposit-begun a.s a.own a.p a.area.now (opened) (enters).2 a.page.now (long) c.if-p-ne-IDLE.false
+    let e = ends-two _ _ (deposit-begun a.s a.own a.p a.area.now opened enters.2 a.page.now long c.if-p-ne-IDLE.false
     (λ i. (c.type_inv.page i).fits) c.if-s-n.false)
     in
     let x : c.copy.new.dst ≡ paste (paste a.area.now (work_at a.s) (write_number 4 n) 4) (work_at a.s + 4) a.page.now n =

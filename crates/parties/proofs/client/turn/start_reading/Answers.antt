@@ -1,3 +1,4 @@
+use Rattle.std.proofs.Common.{Fits, w8, get_or, rules}
 use mathlib.Core.Path.{◌≡◌, sym, ap, ◌∙◌}
 use mathlib.Core.Bool.{true, ◌&&◌}
 use mathlib.Core.List.{[]}
@@ -42,11 +43,11 @@ returns-then-p-ne-IDLE c =
     gated_open a.s a.p a.area.now (leb (area_size a.s) (length a.area.now) && leb (room_size a.s) (length a.room.now)) l.result (ltb a.own a.s.m) l.ensures c.admit-g.result c.admit-g.ensures c.in_default.is in
     let opened : let a = c.args in Opened a.s a.p a.area.now =
     let e = enters in
-    record { measures = e.0; step = omega arith; reading = omega arith; bytes = λ i. (c.slice_known-1.given i).fits; reads = e.3 } in
+    record { measures = e.0; step = omega arith; reading = omega arith; bytes = λ i. let b : Fits w8 (get_or c.args.area.now i 0) = search rules in b.fits; reads = e.3 } in
     let long : let a = c.args in (leb (client_size a.s) (length (record_of a.p a.area.now)) && leb (room_size a.s) (length a.room.now)) ≡ true =
-    let a = c.args in both_long a.s a.own a.p a.area.now a.room.now ∙ (enters).1 in
+    let a = c.args in both_long a.s a.own a.p a.area.now a.room.now ∙ enters.1 in
     let a = c.args in
-    rw c.refuse-then-p-ne-IDLE.ensures (ends_three _ _ (reading_busy a.s a.own a.p a.area.now (opened) (enters).2 a.room.now (long) c.if-p-ne-IDLE.true))
+    rw c.refuse-then-p-ne-IDLE.ensures (ends_three _ _ (reading_busy a.s a.own a.p a.area.now opened enters.2 a.room.now long c.if-p-ne-IDLE.true))
 
 pub returns-in_default-next : goal.returns-in_default-next
 returns-in_default-next c =
@@ -56,11 +57,11 @@ returns-in_default-next c =
     gated_open a.s a.p a.area.now (leb (area_size a.s) (length a.area.now) && leb (room_size a.s) (length a.room.now)) l.result (ltb a.own a.s.m) l.ensures c.admit-g.result c.admit-g.ensures c.in_default.is in
     let opened : let a = c.args in Opened a.s a.p a.area.now =
     let e = enters in
-    record { measures = e.0; step = omega arith; reading = omega arith; bytes = λ i. (c.slice_known-1.given i).fits; reads = e.3 } in
+    record { measures = e.0; step = omega arith; reading = omega arith; bytes = λ i. let b : Fits w8 (get_or c.args.area.now i 0) = search rules in b.fits; reads = e.3 } in
     let long : let a = c.args in (leb (client_size a.s) (length (record_of a.p a.area.now)) && leb (room_size a.s) (length a.room.now)) ≡ true =
-    let a = c.args in both_long a.s a.own a.p a.area.now a.room.now ∙ (enters).1 in
+    let a = c.args in both_long a.s a.own a.p a.area.now a.room.now ∙ enters.1 in
     let a = c.args in
-    rw c.refuse-in_default-next.ensures (ends_three _ _ (reading-spent a.s a.own a.p a.area.now (opened) (enters).2 a.room.now (long) c.if-p-ne-IDLE.false
+    rw c.refuse-in_default-next.ensures (ends_three _ _ (reading-spent a.s a.own a.p a.area.now opened enters.2 a.room.now long c.if-p-ne-IDLE.false
     (sym c.next-next.ensures ∙ c.in_default-next.is)))
 
 pub bounds-room-0 : goal.bounds-room-0
@@ -70,10 +71,10 @@ bounds-room-0 c =
     let l = c.area_and_room_long-enough in
     gated_open a.s a.p a.area.now (leb (area_size a.s) (length a.area.now) && leb (room_size a.s) (length a.room.now)) l.result (ltb a.own a.s.m) l.ensures c.admit-g.result c.admit-g.ensures c.in_default.is in
     let long : let a = c.args in (leb (client_size a.s) (length (record_of a.p a.area.now)) && leb (room_size a.s) (length a.room.now)) ≡ true =
-    let a = c.args in both_long a.s a.own a.p a.area.now a.room.now ∙ (enters).1 in
+    let a = c.args in both_long a.s a.own a.p a.area.now a.room.now ∙ enters.1 in
     let room_long : 5 ≤ length c.args.room.now =
     let a = c.args in
-    let l = leb-true (room_size a.s) (length a.room.now) (and-true (leb (client_size a.s) (length (record_of a.p a.area.now))) _ (long)).1 in
+    let l = leb-true (room_size a.s) (length a.room.now) (and-true (leb (client_size a.s) (length (record_of a.p a.area.now))) _ long).1 in
     omega (arith, l) in
     let l = room_long in omega (arith, l)
 
@@ -84,10 +85,10 @@ put_u32-requires c =
     let l = c.area_and_room_long-enough in
     gated_open a.s a.p a.area.now (leb (area_size a.s) (length a.area.now) && leb (room_size a.s) (length a.room.now)) l.result (ltb a.own a.s.m) l.ensures c.admit-g.result c.admit-g.ensures c.in_default.is in
     let long : let a = c.args in (leb (client_size a.s) (length (record_of a.p a.area.now)) && leb (room_size a.s) (length a.room.now)) ≡ true =
-    let a = c.args in both_long a.s a.own a.p a.area.now a.room.now ∙ (enters).1 in
+    let a = c.args in both_long a.s a.own a.p a.area.now a.room.now ∙ enters.1 in
     let room_long : 5 ≤ length c.args.room.now =
     let a = c.args in
-    let l = leb-true (room_size a.s) (length a.room.now) (and-true (leb (client_size a.s) (length (record_of a.p a.area.now))) _ (long)).1 in
+    let l = leb-true (room_size a.s) (length a.room.now) (and-true (leb (client_size a.s) (length (record_of a.p a.area.now))) _ long).1 in
     omega (arith, l) in
     let l = room_long in omega (arith, l, length-set c.args.room.now 0 8)
 
@@ -98,10 +99,10 @@ shape_of-room c =
     let l = c.area_and_room_long-enough in
     gated_open a.s a.p a.area.now (leb (area_size a.s) (length a.area.now) && leb (room_size a.s) (length a.room.now)) l.result (ltb a.own a.s.m) l.ensures c.admit-g.result c.admit-g.ensures c.in_default.is in
     let long : let a = c.args in (leb (client_size a.s) (length (record_of a.p a.area.now)) && leb (room_size a.s) (length a.room.now)) ≡ true =
-    let a = c.args in both_long a.s a.own a.p a.area.now a.room.now ∙ (enters).1 in
+    let a = c.args in both_long a.s a.own a.p a.area.now a.room.now ∙ enters.1 in
     let room_long : 5 ≤ length c.args.room.now =
     let a = c.args in
-    let l = leb-true (room_size a.s) (length a.room.now) (and-true (leb (client_size a.s) (length (record_of a.p a.area.now))) _ (long)).1 in
+    let l = leb-true (room_size a.s) (length a.room.now) (and-true (leb (client_size a.s) (length (record_of a.p a.area.now))) _ long).1 in
     omega (arith, l) in
     let room = c.args.room.now in
     let i = c.in-Raised.i.0 in
@@ -118,16 +119,16 @@ returns c =
     gated_open a.s a.p a.area.now (leb (area_size a.s) (length a.area.now) && leb (room_size a.s) (length a.room.now)) l.result (ltb a.own a.s.m) l.ensures c.admit-g.result c.admit-g.ensures c.in_default.is in
     let opened : let a = c.args in Opened a.s a.p a.area.now =
     let e = enters in
-    record { measures = e.0; step = omega arith; reading = omega arith; bytes = λ i. (c.slice_known-1.given i).fits; reads = e.3 } in
+    record { measures = e.0; step = omega arith; reading = omega arith; bytes = λ i. let b : Fits w8 (get_or c.args.area.now i 0) = search rules in b.fits; reads = e.3 } in
     let long : let a = c.args in (leb (client_size a.s) (length (record_of a.p a.area.now)) && leb (room_size a.s) (length a.room.now)) ≡ true =
-    let a = c.args in both_long a.s a.own a.p a.area.now a.room.now ∙ (enters).1 in
+    let a = c.args in both_long a.s a.own a.p a.area.now a.room.now ∙ enters.1 in
     let room_long : 5 ≤ length c.args.room.now =
     let a = c.args in
-    let l = leb-true (room_size a.s) (length a.room.now) (and-true (leb (client_size a.s) (length (record_of a.p a.area.now))) _ (long)).1 in
+    let l = leb-true (room_size a.s) (length a.room.now) (and-true (leb (client_size a.s) (length (record_of a.p a.area.now))) _ long).1 in
     omega (arith, l) in
     let a = c.args in
-    let e = ends_three _ _ (reading_raised a.s a.own a.p a.area.now (opened) (enters).2 a.room.now (long) c.if-p-ne-IDLE.false
+    let e = ends_three _ _ (reading_raised a.s a.own a.p a.area.now opened enters.2 a.room.now long c.if-p-ne-IDLE.false
     c.in-Raised.i
-    (sym c.next-next.ensures ∙ c.in-Raised.is) (room_long))
+    (sym c.next-next.ensures ∙ c.in-Raised.is) room_long)
     in
     (e.0, e.1, c.put_u32.ensures ∙ e.2)

@@ -1,3 +1,4 @@
+use Rattle.std.proofs.Common.{Fits, w8, get_or, rules}
 use mathlib.Core.Path.{◌≡◌, sym, ◌∙◌}
 use mathlib.Core.Bool.{true, ◌&&◌}
 use mathlib.Core.List.{[]}
@@ -38,11 +39,11 @@ returns-then-p-eq-UPDATING c =
     gated_open a.s a.p a.area.now (leb (area_size a.s) (length a.area.now) && leb (room_size a.s) (length a.room.now)) l.result (ltb a.own a.s.m) l.ensures c.admit-g.result c.admit-g.ensures c.in_default.is in
     let opened : let a = c.args in Opened a.s a.p a.area.now =
     let e = enters in
-    record { measures = e.0; step = omega arith; reading = omega arith; bytes = λ i. (c.slice_known-1.given i).fits; reads = e.3 } in
+    record { measures = e.0; step = omega arith; reading = omega arith; bytes = λ i. let b : Fits w8 (get_or c.args.area.now i 0) = search rules in b.fits; reads = e.3 } in
     let long : let a = c.args in (leb (client_size a.s) (length (record_of a.p a.area.now)) && leb (room_size a.s) (length a.room.now)) ≡ true =
-    let a = c.args in both_long a.s a.own a.p a.area.now a.room.now ∙ (enters).1 in
+    let a = c.args in both_long a.s a.own a.p a.area.now a.room.now ∙ enters.1 in
     let a = c.args in
-    ends_three _ _ (update-freezing a.s a.own a.p a.area.now (opened) (enters).2 a.room.now (long) c.if-p-eq-UPDATING.true)
+    ends_three _ _ (update-freezing a.s a.own a.p a.area.now opened enters.2 a.room.now long c.if-p-eq-UPDATING.true)
 
 pub returns-then-p-eq-RAISING : goal.returns-then-p-eq-RAISING
 returns-then-p-eq-RAISING c =
@@ -52,11 +53,11 @@ returns-then-p-eq-RAISING c =
     gated_open a.s a.p a.area.now (leb (area_size a.s) (length a.area.now) && leb (room_size a.s) (length a.room.now)) l.result (ltb a.own a.s.m) l.ensures c.admit-g.result c.admit-g.ensures c.in_default.is in
     let opened : let a = c.args in Opened a.s a.p a.area.now =
     let e = enters in
-    record { measures = e.0; step = omega arith; reading = omega arith; bytes = λ i. (c.slice_known-1.given i).fits; reads = e.3 } in
+    record { measures = e.0; step = omega arith; reading = omega arith; bytes = λ i. let b : Fits w8 (get_or c.args.area.now i 0) = search rules in b.fits; reads = e.3 } in
     let long : let a = c.args in (leb (client_size a.s) (length (record_of a.p a.area.now)) && leb (room_size a.s) (length a.room.now)) ≡ true =
-    let a = c.args in both_long a.s a.own a.p a.area.now a.room.now ∙ (enters).1 in
+    let a = c.args in both_long a.s a.own a.p a.area.now a.room.now ∙ enters.1 in
     let a = c.args in
-    ends_three _ _ (update-picking a.s a.own a.p a.area.now (opened) (enters).2 a.room.now (long) c.if-p-eq-RAISING.true)
+    ends_three _ _ (update-picking a.s a.own a.p a.area.now opened enters.2 a.room.now long c.if-p-eq-RAISING.true)
 
 pub returns : goal.returns
 returns c =
@@ -66,8 +67,8 @@ returns c =
     gated_open a.s a.p a.area.now (leb (area_size a.s) (length a.area.now) && leb (room_size a.s) (length a.room.now)) l.result (ltb a.own a.s.m) l.ensures c.admit-g.result c.admit-g.ensures c.in_default.is in
     let opened : let a = c.args in Opened a.s a.p a.area.now =
     let e = enters in
-    record { measures = e.0; step = omega arith; reading = omega arith; bytes = λ i. (c.slice_known-1.given i).fits; reads = e.3 } in
+    record { measures = e.0; step = omega arith; reading = omega arith; bytes = λ i. let b : Fits w8 (get_or c.args.area.now i 0) = search rules in b.fits; reads = e.3 } in
     let long : let a = c.args in (leb (client_size a.s) (length (record_of a.p a.area.now)) && leb (room_size a.s) (length a.room.now)) ≡ true =
-    let a = c.args in both_long a.s a.own a.p a.area.now a.room.now ∙ (enters).1 in
+    let a = c.args in both_long a.s a.own a.p a.area.now a.room.now ∙ enters.1 in
     let a = c.args in
-    rw c.refuse-2.ensures (ends_three _ _ (update_other a.s a.own a.p a.area.now (opened) (enters).2 a.room.now (long) c.if-p-eq-UPDATING.false c.if-p-eq-RAISING.false))
+    rw c.refuse-2.ensures (ends_three _ _ (update_other a.s a.own a.p a.area.now opened enters.2 a.room.now long c.if-p-eq-UPDATING.false c.if-p-eq-RAISING.false))

@@ -17,20 +17,20 @@ pub pointers_if-requires-2 : goal.pointers_if-requires-2
 pointers_if-requires-2 c =
     let one : let a = c.args in Goes a.t.now a.at c.in-Sound.written (after (pointer_by a.s a.rule) (Field.pointers 1) (a.map % 2) (drop a.at a.t.now)) =
     formed_sound _ _ _ _ _ c.pointers_if.ensures c.in-Sound.is in
-    (c.requires.0, (one).to)
+    (c.requires.0, one.to)
 
 pub returns-in_default-pointers_if : goal.returns-in_default-pointers_if
 returns-in_default-pointers_if c =
     let one : let a = c.args in Goes a.t.now a.at c.in-Sound.written (after (pointer_by a.s a.rule) (Field.pointers 1) (a.map % 2) (drop a.at a.t.now)) =
     formed_sound _ _ _ _ _ c.pointers_if.ensures c.in-Sound.is in
     let a = c.args in
-    broken-frozen a.s (pointer_by a.s a.rule) a.t.now a.at a.map c.in-Sound.written (one).left (formed_broken _ _ _ _ c.pointers_if-2.ensures c.in_default-pointers_if.is)
+    broken-frozen a.s (pointer_by a.s a.rule) a.t.now a.at a.map c.in-Sound.written one.left (formed_broken _ _ _ _ c.pointers_if-2.ensures c.in_default-pointers_if.is)
 
 pub indices_if-requires : goal.indices_if-requires
 indices_if-requires c =
     let two : let a = c.args in let at = c.in-Sound.written in Goes a.t.now at c.in-Sound-pointers_if.frozen (after (pointer_by a.s a.rule) (Field.pointers a.s.m) (a.map / 2 % 2) (drop at a.t.now)) =
     formed_sound _ _ _ _ _ c.pointers_if-2.ensures c.in-Sound-pointers_if.is in
-    ((passed c.args.s c.requires.0).clients.1, (two).to)
+    ((passed c.args.s c.requires.0).clients.1, two.to)
 
 pub returns-in_default-indices_if : goal.returns-in_default-indices_if
 returns-in_default-indices_if c =
@@ -39,13 +39,13 @@ returns-in_default-indices_if c =
     let two : let a = c.args in let at = c.in-Sound.written in Goes a.t.now at c.in-Sound-pointers_if.frozen (after (pointer_by a.s a.rule) (Field.pointers a.s.m) (a.map / 2 % 2) (drop at a.t.now)) =
     formed_sound _ _ _ _ _ c.pointers_if-2.ensures c.in-Sound-pointers_if.is in
     let a = c.args in
-    broken-indices a.s (pointer_by a.s a.rule) a.t.now a.at a.map c.in-Sound.written c.in-Sound-pointers_if.frozen (one).left (two).left (formed_broken _ _ _ _ (c.indices_if.ensures _) c.in_default-indices_if.is)
+    broken-indices a.s (pointer_by a.s a.rule) a.t.now a.at a.map c.in-Sound.written c.in-Sound-pointers_if.frozen one.left two.left (formed_broken _ _ _ _ (c.indices_if.ensures _) c.in_default-indices_if.is)
 
 pub indices_if-requires-2 : goal.indices_if-requires-2
 indices_if-requires-2 c =
     let three : let a = c.args in let at = c.in-Sound-pointers_if.frozen in Goes a.t.now at c.in-Sound-indices_if.indices (after (pointer_by a.s a.rule) (Field.indices a.s.m) (a.map / 2 / 2 % 2) (drop at a.t.now)) =
     formed_sound _ _ _ _ _ (c.indices_if.ensures _) c.in-Sound-indices_if.is in
-    (omega arith, (three).to)
+    (omega arith, three.to)
 
 pub returns-in_default-indices_if-2 : goal.returns-in_default-indices_if-2
 returns-in_default-indices_if-2 c =
@@ -56,7 +56,7 @@ returns-in_default-indices_if-2 c =
     let three : let a = c.args in let at = c.in-Sound-pointers_if.frozen in Goes a.t.now at c.in-Sound-indices_if.indices (after (pointer_by a.s a.rule) (Field.indices a.s.m) (a.map / 2 / 2 % 2) (drop at a.t.now)) =
     formed_sound _ _ _ _ _ (c.indices_if.ensures _) c.in-Sound-indices_if.is in
     let a = c.args in
-    broken-index a.s (pointer_by a.s a.rule) a.t.now a.at a.map c.in-Sound.written c.in-Sound-pointers_if.frozen c.in-Sound-indices_if.indices (one).left (two).left (three).left
+    broken-index a.s (pointer_by a.s a.rule) a.t.now a.at a.map c.in-Sound.written c.in-Sound-pointers_if.frozen c.in-Sound-indices_if.indices one.left two.left three.left
     (formed_broken _ _ _ _ (c.indices_if-2.ensures _) c.in_default-indices_if-2.is)
 
 pub returns : goal.returns

@@ -18,11 +18,11 @@ pub returns-then-v-own : goal.returns-then-v-own
 returns-then-v-own c =
     let keeps : let a = c.args in proper_front a.s a.v a.map ≡ true =
     let p = c.proper in sym p.ensures ∙ c.if-not-proper.false in
-    let a = c.args in front_own a.s a.v a.map a.own (keeps) c.if-v-own.true
+    let a = c.args in front_own a.s a.v a.map a.own keeps c.if-v-own.true
 
 pub returns : goal.returns
 returns c =
     let keeps : let a = c.args in proper_front a.s a.v a.map ≡ true =
     let p = c.proper in sym p.ensures ∙ c.if-not-proper.false in
     let a = c.args in
-    c.is_none.ensures ∙ front-other a.s a.v a.map a.own (keeps) c.if-v-own.false
+    c.is_none.ensures ∙ front-other a.s a.v a.map a.own keeps c.if-v-own.false

@@ -1,3 +1,4 @@
+use Rattle.std.proofs.Common.{Fits, w8, get_or, rules}
 use mathlib.Core.Path.{◌≡◌, sym, ap, ◌∙◌}
 use mathlib.Core.Bool.{Bool, cond}
 use mathlib.Core.Option.{some, none}
@@ -19,13 +20,13 @@ pub returns-then-t-at-ne-ROW_MAP : goal.returns-then-t-at-ne-ROW_MAP
 returns-then-t-at-ne-ROW_MAP c =
     let a = c.args in
     none_read (read_row a.s (drop a.at a.t.now))
-    (row_other a.s a.t.now (λ i. (c.shared_slice_known-1.given i).fits) a.at c.requires.2 c.if-t-at-ne-ROW_MAP.true)
+    (row_other a.s a.t.now (λ i. let b : Fits w8 (get_or c.args.t.now i 0) = search rules in b.fits) a.at c.requires.2 c.if-t-at-ne-ROW_MAP.true)
 
 pub returns-in_default : goal.returns-in_default
 returns-in_default c =
     let a = c.args in
     none_read (read_row a.s (drop a.at a.t.now))
-    (row_broken a.s a.t.now (λ i. (c.shared_slice_known-1.given i).fits) a.at c.requires.2 c.if-t-at-ne-ROW_MAP.false
+    (row_broken a.s a.t.now (λ i. let b : Fits w8 (get_or c.args.t.now i 0) = search rules in b.fits) a.at c.requires.2 c.if-t-at-ne-ROW_MAP.false
     (own_parted_broken a.s a.own a.t.now (a.at + 1) 15 c.own_fields.result c.own_fields.ensures c.in_default.is))
 
 pub zero_run-requires : goal.zero_run-requires
@@ -34,10 +35,10 @@ zero_run-requires c =
     let a = c.args in
     let f = c.own_fields in own_parted_sound a.s a.own a.t.now (a.at + 1) 15 f.result f.ensures c.in-Sound.e c.in-Sound.owned c.in-Sound.is in
     let ended : let a = c.args in Ended a.s (read_pointer a.s) a.t.now (a.at + 1) 15 c.in-Sound.e =
-    (owned).0 in
+    owned.0 in
     let a = c.args in
     let z : a.size ≡ row_size a.s = c.requires.1 in
-    let w = row_ends a.s a.t.now (λ i. (c.shared_slice_known-1.given i).fits) a.at c.requires.2 c.in-Sound.e c.if-t-at-ne-ROW_MAP.false (ended) in
+    let w = row_ends a.s a.t.now (λ i. let b : Fits w8 (get_or c.args.t.now i 0) = search rules in b.fits) a.at c.requires.2 c.in-Sound.e c.if-t-at-ne-ROW_MAP.false ended in
     (omega (arith, w), omega arith)
 
 pub returns-then-not-zero_run : goal.returns-then-not-zero_run
@@ -46,13 +47,13 @@ returns-then-not-zero_run c =
     let a = c.args in
     let f = c.own_fields in own_parted_sound a.s a.own a.t.now (a.at + 1) 15 f.result f.ensures c.in-Sound.e c.in-Sound.owned c.in-Sound.is in
     let ended : let a = c.args in Ended a.s (read_pointer a.s) a.t.now (a.at + 1) 15 c.in-Sound.e =
-    (owned).0 in
+    owned.0 in
     let left : let a = c.args in rest (read_row a.s (drop a.at a.t.now)) ≡ cond c.zero_run.result (some (drop (a.at + row_size a.s) a.t.now)) none =
     let a = c.args in
     let t = a.t.now in
     let from = c.in-Sound.e.index in
     let z : row_size a.s ≡ a.size = sym c.requires.1 in
-    row_left a.s t (λ i. (c.shared_slice_known-1.given i).fits) a.at c.requires.2 c.in-Sound.e c.if-t-at-ne-ROW_MAP.false (ended)
+    row_left a.s t (λ i. let b : Fits w8 (get_or c.args.t.now i 0) = search rules in b.fits) a.at c.requires.2 c.in-Sound.e c.if-t-at-ne-ROW_MAP.false ended
     ∙ ap (λ (x : Bool). cond x (some (drop (a.at + row_size a.s) t)) none)
     (ap (λ (k : ℕ). all (λ b. eqb b 0) (take (a.at + k - from) (drop from t))) z ∙ sym c.zero_run.ensures) in
     let a = c.args in
@@ -65,18 +66,18 @@ returns c =
     let a = c.args in
     let f = c.own_fields in own_parted_sound a.s a.own a.t.now (a.at + 1) 15 f.result f.ensures c.in-Sound.e c.in-Sound.owned c.in-Sound.is in
     let ended : let a = c.args in Ended a.s (read_pointer a.s) a.t.now (a.at + 1) 15 c.in-Sound.e =
-    (owned).0 in
+    owned.0 in
     let left : let a = c.args in rest (read_row a.s (drop a.at a.t.now)) ≡ cond c.zero_run.result (some (drop (a.at + row_size a.s) a.t.now)) none =
     let a = c.args in
     let t = a.t.now in
     let from = c.in-Sound.e.index in
     let z : row_size a.s ≡ a.size = sym c.requires.1 in
-    row_left a.s t (λ i. (c.shared_slice_known-1.given i).fits) a.at c.requires.2 c.in-Sound.e c.if-t-at-ne-ROW_MAP.false (ended)
+    row_left a.s t (λ i. let b : Fits w8 (get_or c.args.t.now i 0) = search rules in b.fits) a.at c.requires.2 c.in-Sound.e c.if-t-at-ne-ROW_MAP.false ended
     ∙ ap (λ (x : Bool). cond x (some (drop (a.at + row_size a.s) t)) none)
     (ap (λ (k : ℕ). all (λ b. eqb b 0) (take (a.at + k - from) (drop from t))) z ∙ sym c.zero_run.ensures) in
     let a = c.args in
     let r = left ∙ ap (λ (x : Bool). cond x (some (drop (a.at + row_size a.s) a.t.now)) none) (c.if-not-zero_run.false) in (
       r,
-      (owned).1
-          ∙ row_holds a.s a.own a.t.now a.at _ (λ i. (c.shared_slice_known-1.given i).fits) r,
+      owned.1
+          ∙ row_holds a.s a.own a.t.now a.at _ (λ i. let b : Fits w8 (get_or c.args.t.now i 0) = search rules in b.fits) r,
     )

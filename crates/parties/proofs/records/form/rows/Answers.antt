@@ -76,7 +76,7 @@ loop-i-preserved c =
           ∙ ap (λ (b : Bool). l.all && b) (held_turn a.s l.i (drop l.at a.t.now) t (drop (l.at + row_size a.s) a.t.now) w.0)
           ∙ ap (λ (b : Bool). l.all && (b && holds (own_rows (l.i + 1)) (later (l.at + row_size a.s)))) (sym w.1)
           ∙ grouped l.all o (holds (own_rows (l.i + 1)) (later (l.at + row_size a.s)))
-          ∙ ap (λ (b : Bool). b && holds (own_rows (l.i + 1)) (later (l.at + row_size a.s))) (sym (both))
+          ∙ ap (λ (b : Bool). b && holds (own_rows (l.i + 1)) (later (l.at + row_size a.s))) (sym both)
           ∙ ap (λ (k : ℕ). c.if-all.all && holds (own_rows (l.i + 1)) (later (l.at + k))) (sym z),
     )
 

@@ -24,7 +24,7 @@ returns-then-l-t c =
     let a = c.args in
     let f = c.field_ends in parted_sound a.s Rule.Length a.t.now 1 (get_or a.t.now 0 0) f.result f.ensures c.in-Sound.l c.in-Sound.is in
     let a = c.args in
-    record_long a.s a.t.now c.if-t-lt1.false c.if-map-ge-MAPS.false c.in-Sound.l (walked) c.if-l-t.true
+    record_long a.s a.t.now c.if-t-lt1.false c.if-map-ge-MAPS.false c.in-Sound.l walked c.if-l-t.true
 
 pub returns-in_default-own_fields : goal.returns-in_default-own_fields
 returns-in_default-own_fields c =
@@ -33,7 +33,7 @@ returns-in_default-own_fields c =
     let f = c.field_ends in parted_sound a.s Rule.Length a.t.now 1 (get_or a.t.now 0 0) f.result f.ensures c.in-Sound.l c.in-Sound.is in
     let a = c.args in
     let f = c.own_fields in
-    record_rule a.s a.t.now c.if-t-lt1.false c.if-map-ge-MAPS.false c.in-Sound.l (walked) c.if-l-t.false
+    record_rule a.s a.t.now c.if-t-lt1.false c.if-map-ge-MAPS.false c.in-Sound.l walked c.if-l-t.false
     (own_parted_broken a.s a.own a.t.now 1 (get_or a.t.now 0 0) f.result f.ensures c.in_default-own_fields.is)
 
 pub returns : goal.returns
@@ -50,7 +50,7 @@ returns c =
         c.if-t-lt1.false,
         c.if-map-ge-MAPS.false,
         p,
-        record_ends a.s a.t.now c.if-t-lt1.false c.if-map-ge-MAPS.false c.in-Sound.l (walked) c.if-l-t.false e p,
+        record_ends a.s a.t.now c.if-t-lt1.false c.if-map-ge-MAPS.false c.in-Sound.l walked c.if-l-t.false e p,
       ),
       w.1,
     )
