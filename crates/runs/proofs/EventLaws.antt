@@ -1,7 +1,8 @@
 -- The parts of an event: what its tests tell, and what its answers put under way.
 use mathlib.Core.Path.{◌≡◌, refl, sym, ap, subst, ◌∙◌}
 use mathlib.Core.Bool.{Bool, true, false, cond, not, ◌&&◌, false≢true}
-use mathlib.Core.Logic.{◌⊎◌, inl, inr}
+use mathlib.Core.Logic.{◌⊎◌, inl, inr, ◌≢◌}
+use Rattle.parties.specs.declared.Refusal.{Refusal}
 use mathlib.Core.List.{List, [], ◌∷◌, ◌++◌}
 use Prim.Native.Nat.{ℕ, zero, suc, ◌+◌, ◌-◌, ◌*◌, ◌≤◌, ◌<◌, min}
 use native.Mathlib.Decide.{dec_le}
@@ -11,8 +12,6 @@ use borrow.Author.Tests.{lt-leb, le-leb, leb-true, ne_eqb}
 use lib.Dec.{leb, ltb, eqb}
 use lib.ListN.{length, take, drop, get_or}
 use lib.Seq.{drop-cons, get_or-drop, take_all, take-length}
-use types.Run.{OneOf, miss}
-use denote.Enum.Declared.{tag_of}
 use Rattle.parties.specs.declared.Measures.{Measures}
 use Rattle.parties.specs.protocol.Measures.{passes}
 use Rattle.parties.specs.Sizes.{sized, Sized}
@@ -32,7 +31,6 @@ use Rattle.parties.specs.records.Answer.{number}
 use Rattle.parties.specs.Answer.{served}
 use Rattle.parties.specs.declared.ClientAnswer.{ClientAnswer}
 use Rattle.parties.specs.client.Answer.{answered}
-use Rattle.parties.specs.contracts.ClientAnswer.{the_type}
 use Rattle.parties.specs.declared.Refusal.{Refusal}
 use Rattle.parties.specs.declared.Service.{Service}
 use Rattle.runs.specs.declared.answer.Happened.{Happened}
@@ -50,8 +48,8 @@ use Rattle.runs.proofs.SentLaws.{piece-within, room_small, rows-small}
 
 -- ---- a client's answer
 
-pub not_refused : (a : ClientAnswer) → OneOf (1 ∷ 2 ∷ 3 ∷ 4 ∷ 5 ∷ 6 ∷ 7 ∷ 8 ∷ 9 ∷ 10 ∷ []) (tag_of the_type a) → false ≡ is_refused (answered a)
-not_refused (ClientAnswer.Refused r) k = absurd (miss (1 ∷ 2 ∷ 3 ∷ 4 ∷ 5 ∷ 6 ∷ 7 ∷ 8 ∷ 9 ∷ 10 ∷ []) 0 tt k)
+pub not_refused : (a : ClientAnswer) → ((r : Refusal) → a ≢ ClientAnswer.Refused r) → false ≡ is_refused (answered a)
+not_refused (ClientAnswer.Refused r) k = absurd (k r refl)
 not_refused ClientAnswer.Waits k = refl
 not_refused ClientAnswer.Scan k = refl
 not_refused (ClientAnswer.Update len) k = refl

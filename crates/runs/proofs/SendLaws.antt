@@ -1,15 +1,14 @@
 -- Laws of what a client's answer sends: its call, its message to a node, and the messages to all nodes.
 use mathlib.Core.Path.{◌≡◌, refl, sym, ap, ◌∙◌}
-use mathlib.Core.Bool.{Bool, true, false, cond}
+use mathlib.Core.Bool.{Bool, true, false}
 use mathlib.Core.List.{List, [], ◌∷◌, ◌++◌, append-nil}
+use mathlib.Core.Logic.{◌≢◌}
 use mathlib.Core.Option.{Option, some, none}
 use Prim.Native.Nat.{ℕ, zero, suc, ◌+◌, ◌-◌, ◌*◌, ◌<◌, ◌≤◌, min}
 use native.Mathlib.Nat.{mul-le-mul, suc-mul, mul-le-mul_right}
 use native.Mathlib.Numerals.{add-one}
 use native.Mathlib.Decide.{dec_lt}
 use native.Mathlib.Omega.{arith}
-use denote.Enum.Declared.{tag_of}
-use types.Run.{OneOf, miss}
 use lib.ListN.{length, take, drop, length-append, length-take, length-drop}
 use lib.Seq.{take_all}
 use Rattle.parties.specs.Sizes.{Sized}
@@ -23,7 +22,6 @@ use Rattle.parties.specs.protocol.ClientEvents.{room_size, message_to}
 use Rattle.parties.proofs.protocol.formats.MeasureLaws.{passed}
 use Rattle.parties.specs.declared.ClientAnswer.{ClientAnswer}
 use Rattle.parties.specs.client.Answer.{answered}
-use Rattle.parties.specs.contracts.ClientAnswer.{the_type}
 use Rattle.parties.proofs.records.SpliceLaws.{many-append}
 use Rattle.runs.specs.Parcels.{Parcel, write_parcel, write_parcels, Appended}
 use Rattle.runs.specs.Sent.{call, to_node, call_by, message_in, messages_by, longest_call, longest_message, needed}
@@ -91,21 +89,18 @@ module _ (c : ℕ) (a : ClientAnswer) (room : List ℕ) where
   update-sent len to e f = rw e (ap (λ (b : List ℕ). call c (1 ∷ b) ∷ []) (least_taken len to room f))
 
 -- the answers that are no call
-abbrev callless : List ℕ
-callless = 0 ∷ 1 ∷ 4 ∷ 5 ∷ 6 ∷ 7 ∷ 8 ∷ 9 ∷ 10 ∷ []
-
-pub no_call : (c : ℕ) (a : ClientAnswer) (room : List ℕ) → OneOf callless (tag_of the_type a) → [] ≡ call_by c (answered a) room
-no_call c (ClientAnswer.Refused r) room k = refl
-no_call c ClientAnswer.Waits room k = refl
-no_call c ClientAnswer.Scan room k = absurd (miss callless 2 tt k)
-no_call c (ClientAnswer.Update len) room k = absurd (miss callless 3 tt k)
-no_call c (ClientAnswer.Stores v len) room k = refl
-no_call c (ClientAnswer.Requests v nodes) room k = refl
-no_call c (ClientAnswer.Deposited v len) room k = refl
-no_call c ClientAnswer.Empty room k = refl
-no_call c (ClientAnswer.Page v len) room k = refl
-no_call c ClientAnswer.Spent room k = refl
-no_call c ClientAnswer.Failed room k = refl
+pub no_call : (c : ℕ) (a : ClientAnswer) (room : List ℕ) → a ≢ ClientAnswer.Scan → ((len : ℕ) → a ≢ ClientAnswer.Update len) → [] ≡ call_by c (answered a) room
+no_call c (ClientAnswer.Refused r) room k u = refl
+no_call c ClientAnswer.Waits room k u = refl
+no_call c ClientAnswer.Scan room k u = absurd (k refl)
+no_call c (ClientAnswer.Update len) room k u = absurd (u len refl)
+no_call c (ClientAnswer.Stores v len) room k u = refl
+no_call c (ClientAnswer.Requests v nodes) room k u = refl
+no_call c (ClientAnswer.Deposited v len) room k u = refl
+no_call c ClientAnswer.Empty room k u = refl
+no_call c (ClientAnswer.Page v len) room k u = refl
+no_call c ClientAnswer.Spent room k u = refl
+no_call c ClientAnswer.Failed room k u = refl
 
 -- ---- a message
 
@@ -130,22 +125,20 @@ module _ (s : Measures) (c i : ℕ) (a : ClientAnswer) (room : List ℕ) where
   free-sent v len to e f = rw e (ap (λ (m : List ℕ). to_node c i m ∷ []) (append-nil (take to room) ∙ least_taken len to room f))
 
 -- the answers with no message
-abbrev silent : List ℕ
-silent = 0 ∷ 1 ∷ 2 ∷ 3 ∷ 7 ∷ 8 ∷ 9 ∷ 10 ∷ []
-
-pub no_message : (s : Measures) (c i : ℕ) (a : ClientAnswer) (room : List ℕ) → OneOf silent (tag_of the_type a)
+pub no_message : (s : Measures) (c i : ℕ) (a : ClientAnswer) (room : List ℕ) → ((v : Version) (len : ℕ) → a ≢ ClientAnswer.Stores v len)
+    → ((v : Version) (nodes : ℕ) → a ≢ ClientAnswer.Requests v nodes) → ((v : Version) (len : ℕ) → a ≢ ClientAnswer.Deposited v len)
     → [] ≡ message_in c i (message_to s (answered a) room i)
-no_message s c i (ClientAnswer.Refused r) room k = refl
-no_message s c i ClientAnswer.Waits room k = refl
-no_message s c i ClientAnswer.Scan room k = refl
-no_message s c i (ClientAnswer.Update len) room k = refl
-no_message s c i (ClientAnswer.Stores v len) room k = absurd (miss silent 4 tt k)
-no_message s c i (ClientAnswer.Requests v nodes) room k = absurd (miss silent 5 tt k)
-no_message s c i (ClientAnswer.Deposited v len) room k = absurd (miss silent 6 tt k)
-no_message s c i ClientAnswer.Empty room k = refl
-no_message s c i (ClientAnswer.Page v len) room k = refl
-no_message s c i ClientAnswer.Spent room k = refl
-no_message s c i ClientAnswer.Failed room k = refl
+no_message s c i (ClientAnswer.Refused r) room k q d = refl
+no_message s c i ClientAnswer.Waits room k q d = refl
+no_message s c i ClientAnswer.Scan room k q d = refl
+no_message s c i (ClientAnswer.Update len) room k q d = refl
+no_message s c i (ClientAnswer.Stores v len) room k q d = absurd (k v len refl)
+no_message s c i (ClientAnswer.Requests v nodes) room k q d = absurd (q v nodes refl)
+no_message s c i (ClientAnswer.Deposited v len) room k q d = absurd (d v len refl)
+no_message s c i ClientAnswer.Empty room k q d = refl
+no_message s c i (ClientAnswer.Page v len) room k q d = refl
+no_message s c i ClientAnswer.Spent room k q d = refl
+no_message s c i ClientAnswer.Failed room k q d = refl
 
 -- ---- how long they are
 

@@ -1,5 +1,5 @@
 -- An event on memory of any bytes, damaged ones too, and on a list of parcels: what its party makes of its part of the memory, and what is then under way.
-use Rattle.std.specs.Prelude.{◌≡◌, Bool, true, false, List, [], ◌∷◌, ◌++◌, ℕ, zero, suc, ◌+◌, ◌-◌, ◌≤◌, take, drop}
+use Rattle.std.specs.Prelude.{◌≡◌, Bool, true, false, List, [], ◌∷◌, ◌++◌, ℕ, zero, suc, ◌+◌, ◌-◌, take, drop}
 use Rattle.parties.specs.declared.Measures.{Measures}
 use Rattle.parties.specs.protocol.ClientEvents.{ClientEnd, start_deposit, start_reading, update_answer, scan_answer, client_message}
 use Rattle.parties.specs.protocol.DirectoryEvents.{directory_update, directory_scan}
@@ -12,7 +12,7 @@ use Rattle.parties.specs.client.Answer.{answered}
 use Rattle.title.specs.Memory.{directory_in, table_at, table_in, record_at, record_in, PutBack}
 use Rattle.runs.specs.declared.answer.Happened.{Happened}
 use Rattle.runs.specs.declared.answer.EventEnd.{EventEnd}
-use Rattle.runs.specs.Parcels.{Parcel, call_kind, return_kind, to_node_kind, to_client_kind, no_node, Stands, NoneStands, Appended, Removed}
+use Rattle.runs.specs.Parcels.{call_kind, return_kind, to_node_kind, to_client_kind, no_node, Stands, NoneStands, Appended, Removed}
 use Rattle.runs.specs.Sent.{plain, filled, sent}
 
 -- what is lent, before and after; where an event has no room or no output, [] stands for it
