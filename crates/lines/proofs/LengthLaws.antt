@@ -1,5 +1,5 @@
 -- How long a printed line is, and at most.
-use mathlib.Core.Path.{◌≡◌, ap, ◌∙◌}
+use mathlib.Core.Path.{◌≡◌, sym, ap, ◌∙◌}
 use mathlib.Core.List.{List, [], ◌∷◌}
 use Prim.Native.Nat.{ℕ, zero, suc, ◌+◌, ◌*◌, ◌/◌, ◌^◌, ◌<◌, ◌≤◌}
 use native.Mathlib.Decide.{dec_lt}
@@ -7,17 +7,17 @@ use native.Mathlib.Nat.{pow-suc}
 use native.Mathlib.Omega.{arith}
 use borrow.Author.Tests.{lt-ltb, le-ltb}
 use lib.ListN.{length, length-append}
-use Rattle.io.specs.Digits.{last_digits, IsDigitCount}
+use Rattle.std.specs.Prelude.{decimal}
 use Rattle.lines.specs.Text.{decimal_within, decimal_of}
 use Rattle.lines.specs.Sentences.{spaced_number, shown, header_line, refused_line, deposited_line, nothing_line, page_line}
-use Rattle.lines.proofs.TextLaws.{hex-length, decimal_digits}
+use Rattle.lines.proofs.TextLaws.{hex-length, decimal_printed}
 
 -- ---- how long it is
 
-pub spaced_size : (k n : ℕ) (l : List ℕ) → k ≡ length l → l ≡ last_digits 10 k n → IsDigitCount 10 1 n k → k + 1 ≡ length (spaced_number n)
+pub spaced_size : (n : ℕ) (l : List ℕ) → n < 2 ^ 64 → l ≡ decimal n → length l + 1 ≡ length (spaced_number n)
 unfolding spaced_number
-spaced_size k n l e f g =
-    let h : k ≡ length (decimal_of n) = e ∙ ap length (f ∙ decimal_digits k n g) in omega arith
+spaced_size n l h e =
+    let d : length l ≡ length (decimal_of n) = ap length (e ∙ sym (decimal_printed n h)) in omega arith
 
 pub header_size : (m n k t f : ℕ) → length (header_line m n k t f)
     ≡ 4 + length (spaced_number m) + length (spaced_number n) + length (spaced_number k) + length (spaced_number t) + length (spaced_number f)

@@ -1,14 +1,15 @@
 -- Laws of bytes put into a text.
 use mathlib.Core.Path.{◌≡◌, refl, sym, ap, ◌∙◌}
 use mathlib.Core.List.{List, [], ◌∷◌, ◌++◌, append_assoc}
-use Prim.Native.Nat.{ℕ, zero, suc, ◌+◌, ◌*◌, ◌/◌, ◌%◌, ◌^◌, ◌<◌, ◌≤◌}
-use native.Mathlib.Nat.{add-zero, one-le-pow, pow-suc}
-use native.Mathlib.Numerals.{add-one, unary_clauses}
+use Prim.Native.Nat.{ℕ, suc, ◌+◌, ◌*◌, ◌/◌, ◌%◌, ◌^◌, ◌<◌, ◌≤◌}
+use native.Mathlib.Nat.{add-zero}
+use native.Mathlib.Numerals.{add-one}
 use native.Mathlib.Omega.{arith}
 use borrow.Author.Tests.{lt-ltb, le-ltb, lt-leb, le-leb}
 use lib.ListN.{length, get_or, take, drop, set, length-append, length-take, length-drop, take-append-drop}
 use lib.Seq.{take-suc, take_all, drop-cons, set_at, take_at, drop_at, length-take-le, drop-drop}
-use Rattle.io.specs.Digits.{hex_digit_ascii, last_digits, IsDigitCount}
+use Rattle.std.specs.Prelude.{decimal}
+use Rattle.std.proofs.lemmas.Fmt.{AppendsLastDigit, decimal_from_appends, length-decimal-le_succ}
 use Rattle.lines.specs.Text.{over, written, put_at, decimal_within, decimal_of, hex_digit, hex_of}
 
 pub over_none : (t : List ℕ) (at : ℕ) → over t at [] ≡ t
@@ -124,33 +125,14 @@ hex_full t at b h = put_full t at (hex_of b) (omega (arith, hex-length b))
 
 -- ---- decimal
 
--- a last digit
-glyph_small : (d : ℕ) → d < 10 → hex_digit_ascii d ≡ 48 + d
-glyph_small d h = simp (lt-ltb d 10 h)
-
--- the fewest digits of a number are those of its decimal form
-digits_within : (k n most : ℕ) → IsDigitCount 10 1 n k → n < most → last_digits 10 k n ≡ decimal_within most n
+-- the decimal form is the one that is printed
+last_digits : AppendsLastDigit decimal_within
 unfolding decimal_within
-digits_within zero n most f h = absurd (omega (arith, f.0))
-digits_within (suc k) n zero f h = absurd (omega arith)
-digits_within (suc zero) n (suc most) f h =
-    let l : n < 10 = f.1 in
-    let e : n % 10 ≡ n = omega arith in
-    simp (lt-ltb n 10 l) (ap (λ (d : ℕ). d ∷ []) (glyph_small (n % 10) (omega arith) ∙ ap (λ (d : ℕ). 48 + d) e))
-digits_within (suc (suc k)) n (suc most) f h =
-    let p : 10 ^ suc k ≡ 10 ^ k * 10 = pow-suc 10 k in
-    let q : 10 ^ suc (suc k) ≡ 10 ^ suc k * 10 = pow-suc 10 (suc k) in
-    let o : 1 ≤ 10 ^ k = one-le-pow k 10 (omega arith) in
-    let a : n < 10 ^ suc (suc k) = f.1 in
-    let b : 10 ^ k * 10 ≤ n = simp unary_clauses at (f.2 (omega arith)) in
-    let t : 10 ≤ n = omega arith in
-    let g : IsDigitCount 10 1 (n / 10) (suc k) = (omega arith, omega arith, λ _. simp unary_clauses (omega arith)) in
-    simp (le-ltb n 10 t)
-    (λ i. digits_within (suc k) (n / 10) most g (omega arith) i ++ (glyph_small (n % 10) (omega arith) i ∷ []))
+last_digits = record { one = λ k n h. simp (lt-ltb n 10 h) refl; more = λ k n h. simp (le-ltb n 10 h) refl }
 
-pub decimal_digits : (k n : ℕ) → IsDigitCount 10 1 n k → last_digits 10 k n ≡ decimal_of n
-decimal_digits k n f = digits_within k n (suc n) f (omega arith)
+pub decimal_printed : (n : ℕ) → n < 2 ^ 64 → decimal_of n ≡ decimal n
+decimal_printed n h = decimal_from_appends decimal_within last_digits (suc n) n h (rw (← add-one n) (length-decimal-le_succ n h))
 
-pub decimal_put : (t : List ℕ) (at k n : ℕ) (l s : List ℕ) (r : ℕ) → IsDigitCount 10 1 n k → l ≡ last_digits 10 k n → written s r ≡ put_at t at l
+pub decimal_put : (t : List ℕ) (at n : ℕ) (l s : List ℕ) (r : ℕ) → n < 2 ^ 64 → l ≡ decimal n → written s r ≡ put_at t at l
     → written s r ≡ put_at t at (decimal_of n)
-decimal_put t at k n l s r f e p = p ∙ ap (put_at t at) (e ∙ decimal_digits k n f)
+decimal_put t at n l s r h e p = p ∙ ap (put_at t at) (e ∙ sym (decimal_printed n h))

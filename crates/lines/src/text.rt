@@ -3,6 +3,8 @@ ghost use Rattle.std.specs.Prelude.{◌≡◌, [], ◌∷◌, ◌+◌, ◌*◌, 
 ghost use Rattle.lines.specs.Text.{over, written, put_at, put_line, decimal_of, hex_digit, hex_of};
 ghost use Rattle.lines.specs.Sentences.{spaced_number, shown, header_line, refused_line, deposited_line, nothing_line, page_line, Adds};
 
+use itoa::Buffer;
+
 // Bytes that fit.
 fn copy(text: &mut [u8], at: usize, b: &[u8])
     requires { at + length b.now ≤ length text.old }
@@ -75,9 +77,8 @@ pub fn hex(text: &mut [u8], at: usize, b: &[u8]) -> usize
 pub fn decimal(text: &mut [u8], at: usize, x: u64) -> usize
     ensures { written text.new result ≡ put_at text.old at (decimal_of x) }
 {
-    let mut digits = [0u8; 20];
-    let n = io::decimal(x, &mut digits);
-    bytes(text, at, &digits[..n])
+    let mut digits = Buffer::new();
+    bytes(text, at, digits.format(x).as_bytes())
 }
 
 // A number after a space.
@@ -102,8 +103,8 @@ fn show(text: &mut [u8], at: usize, b: &[u8]) -> usize
 fn width(x: u64) -> usize
     ensures { (result ≡ length (spaced_number x)) × (result ≤ 21) }
 {
-    let mut digits = [0u8; 20];
-    io::decimal(x, &mut digits) + 1
+    let mut digits = Buffer::new();
+    digits.format(x).len() + 1
 }
 
 // Whether a page fits into so many bytes.

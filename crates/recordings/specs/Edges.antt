@@ -2,7 +2,7 @@
 use Rattle.std.specs.Prelude.{◌≡◌, List, [], ◌∷◌, ℕ, ◌<◌, ◌≤◌, length}
 use Rattle.recordings.specs.Planes.{planes_of, samples_of}
 use Rattle.recordings.specs.Answer.{Outcome}
-use Rattle.recordings.specs.Arrange.{ArrangeEnd, planes, samples}
+use Rattle.recordings.specs.Arrange.{planes, samples}
 
 pub record Edges : Type 0 where
   -- two samples of 24 bits: all first bytes, then all second, then all third

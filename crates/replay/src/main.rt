@@ -3,9 +3,10 @@
 
 use crate::run::{Run, line, start};
 use crate::space::{Input, Memory, Page, Post};
-use libc::STDIN_FILENO;
 use lines::read::{Reading, begin, ended, next};
 use runs::least::least;
+use std::io;
+use std::io::{Read, Write};
 
 mod command;
 mod report;
@@ -20,63 +21,74 @@ struct Script {
 }
 
 // A byte of the script.
-fn feed(x: Script, b: u8, memory: &mut Memory, post: &mut Post, page: &mut Page) -> Script {
+fn feed<W: Write>(
+    writer: &mut W,
+    x: Script,
+    b: u8,
+    memory: &mut Memory,
+    post: &mut Post,
+    page: &mut Page,
+) -> io::Result<Script> {
     let r = x.reading;
     let y = x.run;
     if b != 10 {
         let reading = next(r, b, page);
-        return Script { run: y, reading };
+        return Ok(Script { run: y, reading });
     }
-    let run = line(y, ended(r), memory, post, page);
-    Script {
+    let run = line(writer, y, ended(r), memory, post, page)?;
+    Ok(Script {
         run,
         reading: begin(),
-    }
+    })
 }
 
 // The first so many bytes of the input.
-fn feed_all(
+fn feed_all<W: Write>(
+    writer: &mut W,
     x: Script,
     input: &Input,
     n: usize,
     memory: &mut Memory,
     post: &mut Post,
     page: &mut Page,
-) -> Script {
+) -> io::Result<Script> {
     let mut y = x;
     let end = least(n, input.len());
     for i in 0..end {
-        y = feed(y, input[i], memory, post, page);
+        y = feed(writer, y, input[i], memory, post, page)?;
     }
-    y
+    Ok(y)
 }
 
 // The input's next bytes.
-fn more(input: &mut Input) -> usize {
-    let got = libc::read(STDIN_FILENO, input);
-    io::count(got, input)
+fn more<R: Read>(reader: &mut R, input: &mut Input) -> io::Result<usize> {
+    reader.read(input)
 }
 
 // All of the script; the turns are more than any input has.
-fn feed_input(
+fn feed_input<R: Read, W: Write>(
+    reader: &mut R,
+    writer: &mut W,
     x: Script,
     input: &mut Input,
     memory: &mut Memory,
     post: &mut Post,
     page: &mut Page,
-) -> Script {
+) -> io::Result<Script> {
     let mut y = x;
     for turn in 0..u64::MAX {
-        let n = more(input);
+        let n = more(reader, input)?;
         if n == 0 {
-            return y;
+            return Ok(y);
         }
-        y = feed_all(y, input, n, memory, post, page);
+        y = feed_all(writer, y, input, n, memory, post, page)?;
     }
-    y
+    Ok(y)
 }
 
-fn main() {
+fn main(rt: HostRuntime) -> io::Result<()> {
+    let reader = &mut rt.stdin();
+    let writer = &mut rt.stdout();
     let mut memory: Memory = [0; 40960];
     let mut post: Post = [0; 262144];
     let mut page: Page = [0; 1100];
@@ -85,7 +97,16 @@ fn main() {
         run: start(),
         reading: begin(),
     };
-    let y = feed_input(x, &mut input, &mut memory, &mut post, &mut page);
+    let y = feed_input(
+        reader,
+        writer,
+        x,
+        &mut input,
+        &mut memory,
+        &mut post,
+        &mut page,
+    )?;
     // a last line may lack its line feed, and an empty one asks for nothing
-    feed(y, 10, &mut memory, &mut post, &mut page);
+    feed(writer, y, 10, &mut memory, &mut post, &mut page)?;
+    Ok(())
 }

@@ -9,6 +9,8 @@ use parties::records::nodes::{add_node, count, has_node};
 use runs::answer::EventEnd;
 use runs::event;
 use runs::least::least;
+use std::io;
+use std::io::Write;
 use title::fresh::fresh;
 use title::{Part, table_part};
 
@@ -53,76 +55,76 @@ fn refusal(s: Measures) -> usize {
 }
 
 // A run begins anew with each `config`.
-fn config(s: Measures, memory: &mut Memory) -> Run {
+fn config<W: Write>(writer: &mut W, s: Measures, memory: &mut Memory) -> io::Result<Run> {
     let r = refusal(s);
     if 0 < r {
-        say_one(b"config: refused %\n", r);
-        return start();
+        say_one(writer, b"config: refused %\n", r)?;
+        return Ok(start());
     }
     fresh(s, memory);
-    report::header(s);
-    Run {
+    report::header(writer, s)?;
+    Ok(Run {
         stage: 1,
         measures: s,
         liars: 0,
         used: 0,
-    }
+    })
 }
 
-fn liar(x: Run, i: usize) -> Run {
+fn liar<W: Write>(writer: &mut W, x: Run, i: usize) -> io::Result<Run> {
     let s = x.measures;
     if x.stage == 2 {
-        say(b"error: liars come before the first event\n");
-        return x;
+        say(writer, b"error: liars come before the first event\n")?;
+        return Ok(x);
     }
     if i < 1 || s.n < i {
-        say_one(b"liar %: refused 3\n", i);
-        return x;
+        say_one(writer, b"liar %: refused 3\n", i)?;
+        return Ok(x);
     }
     let liars = add_node(x.liars, i);
     if s.t < count(liars) {
-        say(b"error: no more than t liars\n");
-        return x;
+        say(writer, b"error: no more than t liars\n")?;
+        return Ok(x);
     }
-    say_one(b"liar %: set\n", i);
-    Run {
+    say_one(writer, b"liar %: set\n", i)?;
+    Ok(Run {
         stage: 1,
         measures: s,
         liars,
         used: 0,
-    }
+    })
 }
 
 // A node's table; after a `config` the memory has it.
-fn table(s: Measures, i: usize, memory: &[u8]) {
+fn table<W: Write>(writer: &mut W, s: Measures, i: usize, memory: &[u8]) -> io::Result<()> {
     let part = table_part(s, i, memory.len());
     match part {
-        Part::Refused(_) => {}
-        Part::Within(from, to) => report::holds(i, &memory[from..to], s.f),
+        Part::Refused(_) => Ok(()),
+        Part::Within(from, to) => report::holds(writer, i, &memory[from..to], s.f),
     }
 }
 
-fn show(s: Measures, i: usize, memory: &[u8]) {
+fn show<W: Write>(writer: &mut W, s: Measures, i: usize, memory: &[u8]) -> io::Result<()> {
     if i < 1 || s.n < i {
-        return say_one(b"show %: refused 3\n", i);
+        return say_one(writer, b"show %: refused 3\n", i);
     }
-    table(s, i, memory)
+    table(writer, s, i, memory)
 }
 
 // Only a liar lies, and the page has to have all of the bytes.
-fn fits(liars: u16, e: Event, most: usize) -> bool {
+fn fits<W: Write>(writer: &mut W, liars: u16, e: Event, most: usize) -> io::Result<bool> {
     let Event::Lie(i, _, n) = e else {
-        return true;
+        return Ok(true);
     };
     if !has_node(liars, i) {
-        say_one(b"error: node % is no liar\n", i);
-        return false;
+        say_one(writer, b"error: node % is no liar\n", i)?;
+        return Ok(false);
     }
     if most <= n {
-        say(b"error: too many bytes\n");
-        return false;
+        say(writer, b"error: too many bytes\n")?;
+        return Ok(false);
     }
-    true
+    Ok(true)
 }
 
 fn happens(
@@ -154,10 +156,17 @@ fn happens(
 }
 
 // What the room and the page out hold is shown at once, so each event has its own.
-fn act(x: Run, e: Event, memory: &mut Memory, post: &mut Post, page: &Page) -> Run {
+fn act<W: Write>(
+    writer: &mut W,
+    x: Run,
+    e: Event,
+    memory: &mut Memory,
+    post: &mut Post,
+    page: &Page,
+) -> io::Result<Run> {
     let s = x.measures;
-    if !fits(x.liars, e, page.len()) {
-        return x;
+    if !fits(writer, x.liars, e, page.len())? {
+        return Ok(x);
     }
     let mut room: Room = [0; 6400];
     let mut out: Page = [0; 1100];
@@ -165,13 +174,13 @@ fn act(x: Run, e: Event, memory: &mut Memory, post: &mut Post, page: &Page) -> R
         s, x.liars, x.used, e, memory, &mut room, &mut out, post, page,
     );
     let what = t.what;
-    report::event(s, e, what, &room, &out);
-    Run {
+    report::event(writer, s, e, what, &room, &out)?;
+    Ok(Run {
         stage: 2,
         measures: s,
         liars: x.liars,
         used: t.used,
-    }
+    })
 }
 
 // Whether a run has to have begun.
@@ -185,25 +194,32 @@ fn of_run(what: Command) -> bool {
 }
 
 // A line of a script.
-pub fn line(x: Run, l: Line, memory: &mut Memory, post: &mut Post, page: &Page) -> Run {
+pub fn line<W: Write>(
+    writer: &mut W,
+    x: Run,
+    l: Line,
+    memory: &mut Memory,
+    post: &mut Post,
+    page: &Page,
+) -> io::Result<Run> {
     let s = x.measures;
     let what = asked(l);
     if x.stage == 0 && of_run(what) {
-        say(b"error: config comes first\n");
-        return x;
+        say(writer, b"error: config comes first\n")?;
+        return Ok(x);
     }
     match what {
-        Command::Nothing => x,
+        Command::Nothing => Ok(x),
         Command::Other => {
-            say(b"error: not a line of a script\n");
-            x
+            say(writer, b"error: not a line of a script\n")?;
+            Ok(x)
         }
-        Command::Config(new) => config(new, memory),
-        Command::Liar(i) => liar(x, i),
+        Command::Config(new) => config(writer, new, memory),
+        Command::Liar(i) => liar(writer, x, i),
         Command::Show(i) => {
-            show(s, i, memory);
-            x
+            show(writer, s, i, memory)?;
+            Ok(x)
         }
-        Command::Event(e) => act(x, e, memory, post, page),
+        Command::Event(e) => act(writer, x, e, memory, post, page),
     }
 }

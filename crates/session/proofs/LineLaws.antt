@@ -2,13 +2,12 @@
 use mathlib.Core.Path.{◌≡◌, refl, sym, ap, ◌∙◌}
 use mathlib.Core.Bool.{Bool, true, false, cond, ◌&&◌}
 use mathlib.Core.List.{List, [], ◌∷◌, ◌++◌}
+use mathlib.Core.Logic.{◌≢◌}
 use Prim.Native.Nat.{ℕ, ◌+◌, ◌-◌, ◌*◌, ◌<◌, ◌≤◌, min}
 use native.Mathlib.Decide.{dec_le}
 use native.Mathlib.Nat.{mul-le-mul}
 use native.Mathlib.Omega.{arith}
 use borrow.Author.Tests.{ltb-true, lt-leb, le-leb, lt-ltb, le-ltb}
-use denote.Enum.Declared.{tag_of}
-use types.Run.{OneOf, miss}
 use lib.Dec.{leb, ltb}
 use lib.ListN.{length, take}
 use lib.Seq.{take_all, length-take-le}
@@ -36,7 +35,6 @@ use Rattle.runs.proofs.StartLaws.{deposit-long}
 use Rattle.lines.specs.declared.command.Command.{Command}
 use Rattle.lines.specs.declared.read.Reading.{Reading}
 use Rattle.lines.specs.declared.read.Line.{Line}
-use Rattle.lines.specs.contracts.command.Command.{the_type}
 use Rattle.lines.specs.Line.{Kept}
 use Rattle.lines.specs.Read.{ended_of, Read}
 use Rattle.lines.specs.Command.{Asked, Asks, stand_line, asked_of, given}
@@ -157,12 +155,9 @@ module _ (r : Command) (page : List ℕ) (x : Measures) (l : Lengths) (memory te
       → First (given r page) x l memory text memory' text' y len
   first-config s e w = rw e w
 
-abbrev no_config : List ℕ
-no_config = 1 ∷ 2 ∷ 3 ∷ []
-
 pub first-other : (r : Command) (page : List ℕ) (x : Measures) (l : Lengths) (memory text memory' text' : List ℕ) (y : Session) (len : ℕ)
-    → OneOf no_config (tag_of the_type r) → Replies (refuses 4 memory) x text memory' text' y len → First (given r page) x l memory text memory' text' y len
-first-other (Command.Config m n k t f) page x l memory text memory' text' y len o w = absurd (miss no_config 0 tt o)
+    → ((m n k t f : ℕ) → r ≢ Command.Config m n k t f) → Replies (refuses 4 memory) x text memory' text' y len → First (given r page) x l memory text memory' text' y len
+first-other (Command.Config m n k t f) page x l memory text memory' text' y len o w = absurd (o m n k t f refl)
 first-other (Command.Read c) page x l memory text memory' text' y len o w = w
 first-other (Command.Deposit c n) page x l memory text memory' text' y len o w = w
 first-other Command.Other page x l memory text memory' text' y len o w = w
@@ -176,14 +171,11 @@ module _ (r : Command) (page : List ℕ) (s : Measures) (x y : Desk) where
   pub later-deposits : (c n : ℕ) → r ≡ Command.Deposit c n → Operates s c (StartsDeposit s c x.used (take n page) x.lent) x y → Later (given r page) s x y
   later-deposits c n e o = rw e o
 
-abbrev no_operation : List ℕ
-no_operation = 0 ∷ 3 ∷ []
-
-pub later-other : (r : Command) (page : List ℕ) (s : Measures) (x y : Desk) → OneOf no_operation (tag_of the_type r) → Refuses 4 x y → Later (given r page) s x y
-later-other (Command.Config m n k t f) page s x y o z = z
-later-other (Command.Read c) page s x y o z = absurd (miss no_operation 1 tt o)
-later-other (Command.Deposit c n) page s x y o z = absurd (miss no_operation 2 tt o)
-later-other Command.Other page s x y o z = z
+pub later-other : (r : Command) (page : List ℕ) (s : Measures) (x y : Desk) → ((c : ℕ) → r ≢ Command.Read c) → ((c n : ℕ) → r ≢ Command.Deposit c n) → Refuses 4 x y → Later (given r page) s x y
+later-other (Command.Config m n k t f) page s x y o d z = z
+later-other (Command.Read c) page s x y o d z = absurd (o c refl)
+later-other (Command.Deposit c n) page s x y o d z = absurd (d c n refl)
+later-other Command.Other page s x y o d z = z
 
 pub refused_again : (x : Lent) (text text' : List ℕ) (n k used used' len : ℕ) → len ≡ k → used' ≡ used → written text' k ≡ put_line text (refused_line n)
     → Refuses n (desk x used text 0) (desk x used' text' len)

@@ -1,10 +1,9 @@
 -- Laws of the line that tells how an operation ended.
 use mathlib.Core.Path.{◌≡◌, refl, sym, ap}
-use mathlib.Core.List.{List, [], ◌∷◌}
+use mathlib.Core.List.{List}
 use mathlib.Core.Option.{Option, some, none}
+use mathlib.Core.Logic.{◌≢◌}
 use Prim.Native.Nat.{ℕ, min}
-use denote.Enum.Declared.{tag_of}
-use types.Run.{OneOf, miss}
 use lib.ListN.{length, take}
 use Rattle.lines.specs.Text.{written, put_line}
 use Rattle.lines.specs.Sentences.{refused_line, deposited_line, nothing_line, page_line}
@@ -12,9 +11,7 @@ use Rattle.parties.specs.declared.Version.{Version}
 use Rattle.parties.specs.records.Answer.{number}
 use Rattle.parties.specs.declared.Refusal.{Refusal}
 use Rattle.parties.specs.declared.ClientAnswer.{ClientAnswer}
-use Rattle.parties.specs.contracts.ClientAnswer.{the_type as the-client-type}
 use Rattle.runs.specs.declared.answer.Happened.{Happened}
-use Rattle.runs.specs.contracts.answer.Happened.{the_type}
 use Rattle.runs.proofs.SendLaws.{least_taken}
 use Rattle.session.specs.Say.{client_line, happened_line, put_told}
 
@@ -54,31 +51,27 @@ module _ (c : ℕ) (what : Happened) (out : List ℕ) where
   happened_client a text after r e x = rw e x
 
 -- the answers with no line
-abbrev silent : List ℕ
-silent = 1 ∷ 2 ∷ 3 ∷ 4 ∷ 5 ∷ []
+pub client_silent : (c : ℕ) (a : ClientAnswer) (out : List ℕ) → ((r : Refusal) → a ≢ ClientAnswer.Refused r)
+    → ((v : Version) (len : ℕ) → a ≢ ClientAnswer.Deposited v len) → a ≢ ClientAnswer.Empty → ((v : Version) (len : ℕ) → a ≢ ClientAnswer.Page v len)
+    → a ≢ ClientAnswer.Spent → a ≢ ClientAnswer.Failed → client_line c a out ≡ none
+client_silent c (ClientAnswer.Refused r) out f d e p s w = absurd (f r refl)
+client_silent c ClientAnswer.Waits out f d e p s w = refl
+client_silent c ClientAnswer.Scan out f d e p s w = refl
+client_silent c (ClientAnswer.Update len) out f d e p s w = refl
+client_silent c (ClientAnswer.Stores v len) out f d e p s w = refl
+client_silent c (ClientAnswer.Requests v nodes) out f d e p s w = refl
+client_silent c (ClientAnswer.Deposited v len) out f d e p s w = absurd (d v len refl)
+client_silent c ClientAnswer.Empty out f d e p s w = absurd (e refl)
+client_silent c (ClientAnswer.Page v len) out f d e p s w = absurd (p v len refl)
+client_silent c ClientAnswer.Spent out f d e p s w = absurd (s refl)
+client_silent c ClientAnswer.Failed out f d e p s w = absurd (w refl)
 
-pub client_silent : (c : ℕ) (a : ClientAnswer) (out : List ℕ) → OneOf silent (tag_of the-client-type a) → client_line c a out ≡ none
-client_silent c (ClientAnswer.Refused r) out k = absurd (miss silent 0 tt k)
-client_silent c ClientAnswer.Waits out k = refl
-client_silent c ClientAnswer.Scan out k = refl
-client_silent c (ClientAnswer.Update len) out k = refl
-client_silent c (ClientAnswer.Stores v len) out k = refl
-client_silent c (ClientAnswer.Requests v nodes) out k = refl
-client_silent c (ClientAnswer.Deposited v len) out k = absurd (miss silent 6 tt k)
-client_silent c ClientAnswer.Empty out k = absurd (miss silent 7 tt k)
-client_silent c (ClientAnswer.Page v len) out k = absurd (miss silent 8 tt k)
-client_silent c ClientAnswer.Spent out k = absurd (miss silent 9 tt k)
-client_silent c ClientAnswer.Failed out k = absurd (miss silent 10 tt k)
-
-abbrev quiet : List ℕ
-quiet = 1 ∷ 2 ∷ 4 ∷ []
-
-pub happened_silent : (c : ℕ) (a : Happened) (out : List ℕ) → OneOf quiet (tag_of the_type a) → happened_line c a out ≡ none
-happened_silent c (Happened.Refused r) out k = absurd (miss quiet 0 tt k)
-happened_silent c Happened.Nothing out k = refl
-happened_silent c Happened.Taken out k = refl
-happened_silent c (Happened.ByClient a) out k = absurd (miss quiet 3 tt k)
-happened_silent c (Happened.ByServer a) out k = refl
+pub happened_silent : (c : ℕ) (a : Happened) (out : List ℕ) → ((r : Refusal) → a ≢ Happened.Refused r) → ((b : ClientAnswer) → a ≢ Happened.ByClient b) → happened_line c a out ≡ none
+happened_silent c (Happened.Refused r) out f b = absurd (f r refl)
+happened_silent c Happened.Nothing out f b = refl
+happened_silent c Happened.Taken out f b = refl
+happened_silent c (Happened.ByClient a) out f b = absurd (b a refl)
+happened_silent c (Happened.ByServer a) out f b = refl
 
 -- nothing is told
 pub untold : (o : Option (List ℕ)) (text : List ℕ) → o ≡ none → written text 0 ≡ put_told text o

@@ -11,7 +11,7 @@ use lib.ListN.{length, take, drop, get_or, length-append, length-drop, drop_of_l
 use lib.Seq.{take-suc, take_all, length-take-le, drop_at, drop-drop}
 use Rattle.parties.specs.declared.Measures.{Measures}
 use Rattle.parties.specs.protocol.Measures.{passes}
-use Rattle.parties.specs.protocol.Answer.{Served, refuses, serves}
+use Rattle.parties.specs.protocol.Answer.{refuses, serves}
 use Rattle.parties.specs.protocol.Run.{Event}
 use Rattle.parties.specs.protocol.Claim.{Lent as Given}
 use Rattle.parties.specs.declared.Service.{Service}
@@ -167,10 +167,10 @@ drop_more left most a b h e =
     let m : left + (most - left) ≡ most = omega arith in
     ap (λ (n : ℕ). drop n a) (sym m) ∙ sym (drop-drop (most - left) left a) ∙ ap (drop (most - left)) e ∙ drop-drop (most - left) left b ∙ ap (λ (n : ℕ). drop n b) m
 
-parts_fed : (x y : Held) (input before : List ℕ) (most left : ℕ) → FeedsParts x input most y before left → Fed x input most y before left
-parts_fed x y input before most left FeedsParts.unfed = record { bytes = []; count = omega arith; feeds = FeedsAll.begun; same = refl; rest = refl }
-parts_fed x z input after most left (FeedsParts.part y w before b rest n h u g l f) =
-    let d = parts_fed x y input before most rest h in
+parts_fed : (x : Held) (input : List ℕ) (most : ℕ) (y : Held) (before : List ℕ) (left : ℕ) → FeedsParts x input most y before left → Fed x input most y before left
+parts_fed x input most y before left FeedsParts.unfed = record { bytes = []; count = omega arith; feeds = FeedsAll.begun; same = refl; rest = refl }
+parts_fed x input most z after left (FeedsParts.part y w before b rest n h u g l f) =
+    let d = parts_fed x input most y before rest h in
     let e : length (take n after) ≡ n = length-take-le n after (omega (arith, g.fits, g.same)) in
     record {
       bytes = d.bytes ++ take n after;
@@ -184,7 +184,7 @@ pub input_fed : (x y : Held) (input input' : List ℕ) (most left : ℕ) → Fee
 input_fed x y input input' most left h = go (dec_lt 0 left) (ℕ_discrete y.session.stage 2)
   where
     d : Fed x input most y h.before left
-    d = parts_fed x y input h.before most left h.parts
+    d = parts_fed x input most y h.before left h.parts
 
     go : Dec (0 < left) → Dec (y.session.stage ≡ 2) → Fed x input most y input' left
     go (yes l) (no e) =

@@ -199,6 +199,13 @@ pub data FeedsAll (x : Held) : List ℕ → Held → Type 0 where
   begun : FeedsAll x [] x
   more : (bytes : List ℕ) (b len : ℕ) (y z : Held) → FeedsAll x bytes y → Feeds y b z len → FeedsAll x (bytes ++ (b ∷ [])) z
 
+-- the line of one of them could not be written: the bytes up to that one are fed, and this is what is lent after them
+pub record FeedsSome (x : Held) (bytes : List ℕ) (lent : Lent) (page text : List ℕ) : Type 0 where
+  pub session : Session
+  pub fed : ℕ
+  pub within : fed ≤ length bytes
+  pub feeds : FeedsAll x (take fed bytes) (held session lent page text)
+
 -- a read of standard input, of at most so many bytes: n of them stand at the front of the slice
 -- what it leaves in that many bytes of the slice is free, also where it gives none; the rest is as it was
 pub record Gives (most : ℕ) (input input' : List ℕ) (n : ℕ) : Type 0 where
@@ -220,6 +227,18 @@ pub record FeedsInput (x : Held) (input : List ℕ) (most : ℕ) (y : Held) (inp
   pub unread : (left ≡ 0) ⊎ (y.session.stage ≡ 2) → input' ≡ before
   pub last : 0 < left → (y.session.stage ≡ 2 → ⊥) → Gives left before input' 0
 
+-- a read fails: of the slice it leaves what one leaves that gives none; or a line cannot be written, and then the last part is fed up to its byte
+pub data FeedsPart (x : Held) (input : List ℕ) (most : ℕ) (lent : Lent) (page text : List ℕ) : List ℕ → Type 0 where
+  unread : (y : Session) (before after : List ℕ) (left : ℕ) → FeedsParts x input most (held y lent page text) before left → 0 < left → (y.stage ≡ 2 → ⊥)
+      → Gives left before after 0 → FeedsPart x input most lent page text after
+  unwritten : (y : Held) (before after : List ℕ) (left n : ℕ) → FeedsParts x input most y before left → (y.session.stage ≡ 2 → ⊥) → Gives left before after n
+      → 0 < n → FeedsSome y (take n after) lent page text → FeedsPart x input most lent page text after
+
 pub record Closed (x y : Held) : Type 0 where
   pub len : ℕ
   pub closes : Closes x y len
+
+-- its last line could not be written: it is closed all the same
+pub record Closing (x : Held) (lent : Lent) (page text : List ℕ) : Type 0 where
+  pub session : Session
+  pub closed : Closed x (held session lent page text)

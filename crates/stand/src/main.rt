@@ -4,8 +4,11 @@
 use session::session::start;
 use session::space;
 use session::stream::{end, feed_input};
+use std::io;
 
-fn main() {
+fn main(rt: HostRuntime) -> io::Result<()> {
+    let reader = &mut rt.stdin();
+    let writer = &mut rt.stdout();
     let mut memory_space = space::memory();
     let memory: &mut [u8] = &mut memory_space;
     let mut room_space = space::room();
@@ -18,10 +21,12 @@ fn main() {
     let page: &mut [u8] = &mut page_space;
     let mut text_space = space::text();
     let text: &mut [u8] = &mut text_space;
-    let mut input_space = io::buffer();
+    let mut input_space = [0u8; 4096];
     let input: &mut [u8] = &mut input_space;
     // more bytes than any input has
     let x = feed_input(
+        reader,
+        writer,
         start(),
         usize::MAX,
         input,
@@ -31,6 +36,7 @@ fn main() {
         post,
         page,
         text,
-    );
-    end(x.session, memory, room, out, post, page, text);
+    )?;
+    end(writer, x.session, memory, room, out, post, page, text)?;
+    Ok(())
 }

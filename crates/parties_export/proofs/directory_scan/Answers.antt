@@ -1,0 +1,8 @@
+use mathlib.Core.Path.{ap, ◌∙◌}
+use Rattle.numbers.specs.Code.{code}
+use Rattle.parties_export.proofs.directory_scan.Goals as goal
+
+pub returns : goal.returns
+returns c =
+    let done = c.scan.ensures in
+    (c.service_code.ensures ∙ ap code done.0, done.1)

@@ -1,0 +1,10 @@
+use Prim.Native.Nat.{◌-◌}
+use Rattle.coding.proofs.BytesLaws.{Pasted}
+use Rattle.recordings.proofs.triples.store.Given as goal
+
+-- The first l bytes stand at their place.
+abbrev pub invariant-loop-l : goal.invariant-loop-l
+invariant-loop-l l = Pasted l.initial.out l.at l.v 48 l.out l.l
+
+abbrev pub decreases-loop-l : goal.decreases-loop-l
+decreases-loop-l l = 48 - l.l
