@@ -1,6 +1,8 @@
 // What a line shows of an event.
 use numbers::numbers_of;
 use parties::{ClientAnswer, Phase, Version};
+use std::io;
+use std::io::Write;
 
 #[derive(Clone, Copy)]
 pub struct Effect {
@@ -11,52 +13,57 @@ pub struct Effect {
     pub out: usize,
 }
 
-fn print_version(v: Version) {
+fn print_version<W: Write>(writer: &mut W, v: Version) -> io::Result<()> {
     let q = v.sequence;
-    vectors::number(q.0 as usize);
-    vectors::word(b".");
-    vectors::digit(v.client as usize);
+    vectors::number(writer, q.0 as usize)?;
+    vectors::word(writer, b".")?;
+    vectors::digit(writer, v.client as usize)
 }
 
-fn print_numbered(name: &[u8], n: usize) {
-    vectors::word(name);
-    vectors::number(n);
+fn print_numbered<W: Write>(writer: &mut W, name: &[u8], n: usize) -> io::Result<()> {
+    vectors::word(writer, name)?;
+    vectors::number(writer, n)
 }
 
-fn print_of_version(name: &[u8], v: Version, n: usize) {
-    vectors::word(name);
-    print_version(v);
-    vectors::number(n);
+fn print_of_version<W: Write>(writer: &mut W, name: &[u8], v: Version, n: usize) -> io::Result<()> {
+    vectors::word(writer, name)?;
+    print_version(writer, v)?;
+    vectors::number(writer, n)
 }
 
-fn print_answer(a: ClientAnswer) {
+fn print_answer<W: Write>(writer: &mut W, a: ClientAnswer) -> io::Result<()> {
     match a {
-        ClientAnswer::Refused(r) => print_numbered(b" refused", r.number()),
-        ClientAnswer::Waits => vectors::word(b" waits"),
-        ClientAnswer::Scan => vectors::word(b" scan"),
-        ClientAnswer::Update(n) => print_numbered(b" update", n),
-        ClientAnswer::Stores(v, n) => print_of_version(b" stores", v, n),
-        ClientAnswer::Requests(v, nodes) => print_of_version(b" requests", v, nodes as usize),
-        ClientAnswer::Deposited(v, n) => print_of_version(b" deposited", v, n),
-        ClientAnswer::Empty => vectors::word(b" empty"),
-        ClientAnswer::Page(v, n) => print_of_version(b" page", v, n),
-        ClientAnswer::Spent => vectors::word(b" spent"),
-        ClientAnswer::Failed => vectors::word(b" failed"),
+        ClientAnswer::Refused(r) => print_numbered(writer, b" refused", r.number()),
+        ClientAnswer::Waits => vectors::word(writer, b" waits"),
+        ClientAnswer::Scan => vectors::word(writer, b" scan"),
+        ClientAnswer::Update(n) => print_numbered(writer, b" update", n),
+        ClientAnswer::Stores(v, n) => print_of_version(writer, b" stores", v, n),
+        ClientAnswer::Requests(v, nodes) => print_of_version(
+            writer,
+            b" requests",
+            v,
+            nodes as usize,
+        ),
+        ClientAnswer::Deposited(v, n) => print_of_version(writer, b" deposited", v, n),
+        ClientAnswer::Empty => vectors::word(writer, b" empty"),
+        ClientAnswer::Page(v, n) => print_of_version(writer, b" page", v, n),
+        ClientAnswer::Spent => vectors::word(writer, b" spent"),
+        ClientAnswer::Failed => vectors::word(writer, b" failed"),
     }
 }
 
-fn print(kind: u8, x: Effect) {
-    vectors::digit(kind as usize);
+fn print<W: Write>(writer: &mut W, kind: u8, x: Effect) -> io::Result<()> {
+    vectors::digit(writer, kind as usize)?;
     let a = x.answer;
-    print_answer(a);
+    print_answer(writer, a)?;
     let p = x.phase;
     let reading = p.reading;
-    vectors::number(p.step as usize);
-    vectors::number(reading.0 as usize);
-    vectors::number(x.area);
-    vectors::number(x.room);
-    vectors::number(x.out);
-    vectors::word(b"\n");
+    vectors::number(writer, p.step as usize)?;
+    vectors::number(writer, reading.0 as usize)?;
+    vectors::number(writer, x.area)?;
+    vectors::number(writer, x.room)?;
+    vectors::number(writer, x.out)?;
+    vectors::word(writer, b"\n")
 }
 
 fn same_answer(a: ClientAnswer, b: ClientAnswer) -> bool {
@@ -82,9 +89,10 @@ fn same(x: Effect, y: Effect) -> bool {
 }
 
 // The line of one form; a line of words follows if the other shows anything else.
-pub fn print_agreed(kind: u8, x: Effect, y: Effect) {
-    print(kind, x);
+pub fn print_agreed<W: Write>(writer: &mut W, kind: u8, x: Effect, y: Effect) -> io::Result<()> {
+    print(writer, kind, x)?;
     if !same(x, y) {
-        vectors::word(b"not so in one slice\n");
+        vectors::word(writer, b"not so in one slice\n")?;
     }
+    Ok(())
 }

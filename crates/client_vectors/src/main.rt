@@ -17,7 +17,11 @@ mod line;
 mod records;
 mod space;
 
-fn main() {
+use std::io;
+
+fn main(rt: HostRuntime) -> io::Result<()> {
+    let reader = &mut rt.stdin();
+    let writer = &mut rt.stdout();
     let mut records_space = space::records();
     let records: &mut [u8] = &mut records_space;
     let mut client_space = space::one();
@@ -31,9 +35,10 @@ fn main() {
     vectors::poison(records);
     let mut left = 1000000usize;
     while 0 < left {
-        if !call::next(records, client, bytes, room, out) {
-            return;
+        if !call::next(reader, writer, records, client, bytes, room, out)? {
+            return Ok(());
         }
         left -= 1;
     }
+    Ok(())
 }

@@ -2,22 +2,30 @@
 use crate::input;
 use crate::input::Call;
 use parties::{Measures, Service, directory, node};
+use std::io;
+use std::io::{Read, Write};
 
-fn print(kind: u8, a: Service, table: &[u8], room: &[u8]) {
-    vectors::digit(kind as usize);
+fn print<W: Write>(
+    writer: &mut W,
+    kind: u8,
+    a: Service,
+    table: &[u8],
+    room: &[u8],
+) -> io::Result<()> {
+    vectors::digit(writer, kind as usize)?;
     match a {
         Service::Served(len) => {
-            vectors::word(b" served");
-            vectors::number(len);
+            vectors::word(writer, b" served")?;
+            vectors::number(writer, len)?;
         }
         Service::Refused(r) => {
-            vectors::word(b" refused");
-            vectors::number(r.number());
+            vectors::word(writer, b" refused")?;
+            vectors::number(writer, r.number())?;
         }
     }
-    vectors::number(vectors::checksum(table));
-    vectors::number(vectors::checksum(room));
-    vectors::word(b"\n");
+    vectors::number(writer, vectors::checksum(table))?;
+    vectors::number(writer, vectors::checksum(room))?;
+    vectors::word(writer, b"\n")
 }
 
 fn served(
@@ -61,70 +69,92 @@ fn damage(table: &mut [u8], at: usize, change: u8) {
     }
 }
 
-fn lent(h: Call, table: &mut [u8], message: &[u8], room: &mut [u8]) {
+fn lent<W: Write>(
+    writer: &mut W,
+    h: Call,
+    table: &mut [u8],
+    message: &[u8],
+    room: &mut [u8],
+) -> io::Result<()> {
     vectors::poison(room);
     let a = served(h.kind, h.measures, h.number, table, message, room);
-    print(h.kind, a, table, room);
+    print(writer, h.kind, a, table, room)
 }
 
 // Parts of the slices are lent.
-fn lend(
+fn lend<W: Write>(
+    writer: &mut W,
     h: Call,
     len: usize,
     rooms: usize,
     table: &mut [u8],
     message: &[u8],
     room: &mut [u8],
-) -> bool {
+) -> io::Result<bool> {
     if table.len() < len {
-        return false;
+        return Ok(false);
     }
     if room.len() < rooms {
-        return false;
+        return Ok(false);
     }
-    lent(h, &mut table[..len], message, &mut room[..rooms]);
-    true
+    lent(writer, h, &mut table[..len], message, &mut room[..rooms])?;
+    Ok(true)
 }
 
-fn carry(h: Call, table: &mut [u8], before: &mut [u8], message: &[u8], room: &mut [u8]) -> bool {
+fn carry<W: Write>(
+    writer: &mut W,
+    h: Call,
+    table: &mut [u8],
+    before: &mut [u8],
+    message: &[u8],
+    room: &mut [u8],
+) -> io::Result<bool> {
     put(before, table);
     damage(table, h.place, h.change);
-    let done = lend(h, h.table, h.room, table, message, room);
+    let done = lend(writer, h, h.table, h.room, table, message, room)?;
     if !h.keep {
         put(table, before);
     }
-    done
+    Ok(done)
 }
 
-fn receive(message: &mut [u8], n: usize) -> bool {
+fn receive<R: Read>(reader: &mut R, message: &mut [u8], n: usize) -> io::Result<bool> {
     if message.len() < n {
-        return false;
+        return Ok(false);
     }
-    input::message(&mut message[..n])
+    input::message(reader, &mut message[..n])
 }
 
-fn with_message(
+fn with_message<W: Write>(
+    writer: &mut W,
     h: Call,
     n: usize,
     table: &mut [u8],
     before: &mut [u8],
     message: &[u8],
     room: &mut [u8],
-) -> bool {
+) -> io::Result<bool> {
     if message.len() < n {
-        return false;
+        return Ok(false);
     }
-    carry(h, table, before, &message[..n], room)
+    carry(writer, h, table, before, &message[..n], room)
 }
 
 // False at the end of the input.
-pub fn next(table: &mut [u8], before: &mut [u8], message: &mut [u8], room: &mut [u8]) -> bool {
-    let h = input::head();
+pub fn next<R: Read, W: Write>(
+    reader: &mut R,
+    writer: &mut W,
+    table: &mut [u8],
+    before: &mut [u8],
+    message: &mut [u8],
+    room: &mut [u8],
+) -> io::Result<bool> {
+    let h = input::head(reader)?;
     if !h.more {
-        return false;
+        return Ok(false);
     }
-    if !receive(message, h.message) {
-        return false;
+    if !receive(reader, message, h.message)? {
+        return Ok(false);
     }
-    with_message(h, h.message, table, before, message, room)
+    with_message(writer, h, h.message, table, before, message, room)
 }

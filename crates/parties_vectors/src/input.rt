@@ -1,8 +1,9 @@
 // The head of a call.
 ghost use Rattle.std.specs.Prelude.{◌+◌, ◌≤◌, ◌<◌, length};
 
-use libc::STDIN_FILENO;
 use parties::Measures;
+use std::io;
+use std::io::Read;
 
 #[derive(Clone, Copy)]
 pub struct Call {
@@ -62,17 +63,18 @@ fn parsed(s: &[u8], more: bool) -> Call
 }
 
 // The next head; `more` is false at the end of the input.
-pub fn head() -> Call {
+pub fn head<R: Read>(reader: &mut R) -> io::Result<Call> {
     let mut space = [0u8; 29];
     let s: &mut [u8] = &mut space;
-    let got = io::read_full(STDIN_FILENO, s);
-    parsed(s, got == 29)
+    let got = vectors::fill(reader, s)?;
+    Ok(parsed(s, got == 29))
 }
 
 // A message fills the slice; false at the end of the input.
-pub fn message(s: &mut [u8]) -> bool {
+pub fn message<R: Read>(reader: &mut R, s: &mut [u8]) -> io::Result<bool> {
     if s.len() == 0 {
-        return true;
+        return Ok(true);
     }
-    io::read_full(STDIN_FILENO, s) == s.len()
+    let got = vectors::fill(reader, s)?;
+    Ok(got == s.len())
 }

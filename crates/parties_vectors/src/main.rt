@@ -8,21 +8,26 @@
 mod call;
 mod input;
 
-fn main() {
-    let mut table_space = io::large_buffer();
+use std::io;
+
+fn main(rt: HostRuntime) -> io::Result<()> {
+    let reader = &mut rt.stdin();
+    let writer = &mut rt.stdout();
+    let mut table_space = [0u8; 65536];
     let table: &mut [u8] = &mut table_space;
-    let mut before_space = io::large_buffer();
+    let mut before_space = [0u8; 65536];
     let before: &mut [u8] = &mut before_space;
-    let mut message_space = io::large_buffer();
+    let mut message_space = [0u8; 65536];
     let message: &mut [u8] = &mut message_space;
-    let mut room_space = io::large_buffer();
+    let mut room_space = [0u8; 65536];
     let room: &mut [u8] = &mut room_space;
     vectors::poison(table);
     let mut left = 1000000usize;
     while 0 < left {
-        if !call::next(table, before, message, room) {
-            return;
+        if !call::next(reader, writer, table, before, message, room)? {
+            return Ok(());
         }
         left -= 1;
     }
+    Ok(())
 }

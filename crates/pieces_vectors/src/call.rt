@@ -6,6 +6,8 @@ use crate::{input, print};
 use coding::answer::{JoinAnswer, Refusal, SplitAnswer};
 use coding::join::join;
 use coding::split::{cut, split};
+use std::io;
+use std::io::{Read, Write};
 
 // The arguments of the next call, how much is lent of each slice among them, and the sum of its line so far.
 #[derive(Clone, Copy)]
@@ -106,21 +108,35 @@ fn chained(sum: usize, s: &[u8]) -> usize {
     (sum % 4294967296 * 31 + vectors::checksum(s) % 4294967296) % 4294967296
 }
 
-fn told(mut c: Call, what: u8, a: Answer, given: &[u8], written: &[u8]) -> Call {
+fn told<W: Write>(
+    writer: &mut W,
+    mut c: Call,
+    what: u8,
+    a: Answer,
+    given: &[u8],
+    written: &[u8],
+) -> io::Result<Call> {
     c.sum = chained(chained(c.sum, given), written);
     if 13 <= what {
-        print::digit(a);
-        return c;
+        print::digit(writer, a)?;
+        return Ok(c);
     }
-    print::line(c, what, a, given, written);
+    print::line(writer, c, what, a, given, written)?;
     c.sum = 0;
-    c
+    Ok(c)
 }
 
-fn lent(c: Call, what: u8, given: &[u8], lens: &[u16], written: &mut [u8]) -> Call {
+fn lent<W: Write>(
+    writer: &mut W,
+    c: Call,
+    what: u8,
+    given: &[u8],
+    lens: &[u16],
+    written: &mut [u8],
+) -> io::Result<Call> {
     vectors::poison(written);
     let a = answered(c, what, given, lens, written);
-    told(c, what, a, given, written)
+    told(writer, c, what, a, given, written)
 }
 
 fn least(a: usize, b: usize) -> usize
@@ -130,11 +146,19 @@ fn least(a: usize, b: usize) -> usize
 }
 
 // Parts of the slices are lent.
-fn lend(c: Call, what: u8, given: &[u8], lens: &[u16], written: &mut [u8]) -> Call {
+fn lend<W: Write>(
+    writer: &mut W,
+    c: Call,
+    what: u8,
+    given: &[u8],
+    lens: &[u16],
+    written: &mut [u8],
+) -> io::Result<Call> {
     let bytes = least(c.given, given.len());
     let count = least(c.lens, lens.len());
     let room = least(c.written, written.len());
     lent(
+        writer,
         c,
         what,
         &given[0..bytes],
@@ -150,25 +174,27 @@ fn put_length(lens: &mut [u16], i: usize, x: usize) {
 }
 
 // The next call after a command. What cannot be carried out is passed over.
-pub fn carry(
+pub fn carry<R: Read, W: Write>(
+    reader: &mut R,
+    writer: &mut W,
     mut c: Call,
     what: u8,
     x: usize,
     given: &mut [u8],
     lens: &mut [u16],
     written: &mut [u8],
-) -> Call {
+) -> io::Result<Call> {
     if what == 8 {
-        input::bytes(given, x);
-        return c;
+        input::bytes(reader, given, x)?;
+        return Ok(c);
     }
     if what < 10 {
-        return with_number(c, what, x);
+        return Ok(with_number(c, what, x));
     }
     if what < 16 {
         c.k = x;
-        return lend(c, what, given, lens, written);
+        return lend(writer, c, what, given, lens, written);
     }
     put_length(lens, what as usize - 16, x);
-    c
+    Ok(c)
 }

@@ -1,7 +1,8 @@
 // Commands.
 ghost use Rattle.std.specs.Prelude.{◌+◌, ◌≤◌, ◌<◌, length};
 
-use libc::STDIN_FILENO;
+use std::io;
+use std::io::Read;
 
 #[derive(Clone, Copy)]
 pub struct Command {
@@ -41,18 +42,19 @@ fn parsed(s: &[u8], more: bool) -> Command
 }
 
 // The next command; `more` is false at the end of the input.
-pub fn next() -> Command {
+pub fn next<R: Read>(reader: &mut R) -> io::Result<Command> {
     let mut space = [0u8; 9];
     let s: &mut [u8] = &mut space;
-    let got = io::read_full(STDIN_FILENO, s);
-    parsed(s, got == 9)
+    let got = vectors::fill(reader, s)?;
+    Ok(parsed(s, got == 9))
 }
 
 // The next bytes stand in the slice, if there is room for them: the number's low half is their count, its high half their place.
-pub fn bytes(s: &mut [u8], x: usize) {
+pub fn bytes<R: Read>(reader: &mut R, s: &mut [u8], x: usize) -> io::Result<()> {
     let at = x / 4294967296;
     let end = at + x % 4294967296;
     if end <= s.len() {
-        io::read_full(STDIN_FILENO, &mut s[at..end]);
+        vectors::fill(reader, &mut s[at..end])?;
     }
+    Ok(())
 }

@@ -18,22 +18,27 @@ mod call;
 mod input;
 mod print;
 
-fn main() {
-    let mut given_space = io::large_buffer();
+use std::io;
+
+fn main(rt: HostRuntime) -> io::Result<()> {
+    let reader = &mut rt.stdin();
+    let writer = &mut rt.stdout();
+    let mut given_space = [0u8; 65536];
     let given: &mut [u8] = &mut given_space;
     let mut lens_space = [0u16; 16];
     let lens: &mut [u16] = &mut lens_space;
-    let mut written_space = io::large_buffer();
+    let mut written_space = [0u8; 65536];
     let written: &mut [u8] = &mut written_space;
     let mut c = call::first();
     let mut left = 1000000usize;
     while 0 < left {
-        let m = input::next();
+        let m = input::next(reader)?;
         if !m.more {
-            return;
+            return Ok(());
         }
-        let next = call::carry(c, m.what, m.number, given, lens, written);
+        let next = call::carry(reader, writer, c, m.what, m.number, given, lens, written)?;
         c = next;
         left -= 1;
     }
+    Ok(())
 }

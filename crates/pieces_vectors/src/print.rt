@@ -1,48 +1,54 @@
 // Lines on standard output.
 use crate::call::{Answer, Call};
-use libc::STDOUT_FILENO;
+use std::io;
+use std::io::Write;
 
 // A line shows so many bytes of a slice.
 const FEW: usize = 20;
 
-fn name(c: Call, what: u8) {
+fn name<W: Write>(writer: &mut W, c: Call, what: u8) -> io::Result<()> {
     if what == 10 {
-        vectors::word(b"split");
-        return;
+        return vectors::word(writer, b"split");
     }
     if what == 11 {
-        vectors::word(b"join");
-        return;
+        return vectors::word(writer, b"join");
     }
-    vectors::word(b"cut");
-    vectors::number(c.node);
+    vectors::word(writer, b"cut")?;
+    vectors::number(writer, c.node)
 }
 
-fn arguments(c: Call) {
-    vectors::number(c.n);
-    vectors::number(c.k);
-    vectors::number(c.f);
-    vectors::word(b" ");
-    io::print_hex(STDOUT_FILENO, c.map as u64, 4);
-    vectors::number(c.given);
-    vectors::number(c.lens);
-    vectors::number(c.written);
-    vectors::word(b":");
+fn arguments<W: Write>(writer: &mut W, c: Call) -> io::Result<()> {
+    vectors::number(writer, c.n)?;
+    vectors::number(writer, c.k)?;
+    vectors::number(writer, c.f)?;
+    let map = c.map;
+    write!(writer, " {map:04x}")?;
+    vectors::number(writer, c.given)?;
+    vectors::number(writer, c.lens)?;
+    vectors::number(writer, c.written)?;
+    vectors::word(writer, b":")
 }
 
-pub fn line(c: Call, what: u8, a: Answer, given: &[u8], written: &[u8]) {
-    name(c, what);
-    arguments(c);
-    vectors::number(a.number);
-    vectors::number(a.len);
-    vectors::few(given, FEW);
-    vectors::few(written, FEW);
-    vectors::word(b" sum");
-    vectors::number(c.sum);
-    vectors::word(b"\n");
+pub fn line<W: Write>(
+    writer: &mut W,
+    c: Call,
+    what: u8,
+    a: Answer,
+    given: &[u8],
+    written: &[u8],
+) -> io::Result<()> {
+    name(writer, c, what)?;
+    arguments(writer, c)?;
+    vectors::number(writer, a.number)?;
+    vectors::number(writer, a.len)?;
+    vectors::few(writer, given, FEW)?;
+    vectors::few(writer, written, FEW)?;
+    vectors::word(writer, b" sum")?;
+    vectors::number(writer, c.sum)?;
+    vectors::word(writer, b"\n")
 }
 
-pub fn digit(a: Answer) {
-    vectors::digit(a.number);
-    vectors::word(b" ");
+pub fn digit<W: Write>(writer: &mut W, a: Answer) -> io::Result<()> {
+    vectors::digit(writer, a.number)?;
+    vectors::word(writer, b" ")
 }

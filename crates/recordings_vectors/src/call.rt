@@ -7,6 +7,8 @@ use crate::print;
 use recordings::answer::{Answer, Refusal};
 use recordings::arrange::{planes, samples};
 use recordings::recording::{rearrange, restore};
+use std::io;
+use std::io::Write;
 
 fn document_number(r: Refusal) -> usize
     ensures { result ≡ number_of r }
@@ -35,10 +37,10 @@ fn answered(c: Call, data: &[u8], out: &mut [u8]) -> Answer {
     }
 }
 
-fn lent(c: Call, data: &[u8], out: &mut [u8]) {
+fn lent<W: Write>(writer: &mut W, c: Call, data: &[u8], out: &mut [u8]) -> io::Result<()> {
     vectors::poison(out);
     let a = answered(c, data, out);
-    print::line(c, number(a), data, out);
+    print::line(writer, c, number(a), data, out)
 }
 
 fn least(a: usize, b: usize) -> usize
@@ -48,8 +50,8 @@ fn least(a: usize, b: usize) -> usize
 }
 
 // Parts of the slices are lent.
-pub fn lend(c: Call, data: &[u8], out: &mut [u8]) {
+pub fn lend<W: Write>(writer: &mut W, c: Call, data: &[u8], out: &mut [u8]) -> io::Result<()> {
     let bytes = least(c.data, data.len());
     let room = least(c.out, out.len());
-    lent(c, &data[0..bytes], &mut out[0..room]);
+    lent(writer, c, &data[0..bytes], &mut out[0..room])
 }

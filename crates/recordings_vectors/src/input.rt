@@ -1,7 +1,8 @@
 // Calls.
 ghost use Rattle.std.specs.Prelude.{◌+◌, ◌≤◌, ◌<◌, length};
 
-use libc::STDIN_FILENO;
+use std::io;
+use std::io::Read;
 
 // A head; `more` is false at the end of the input.
 #[derive(Clone, Copy)]
@@ -47,16 +48,17 @@ fn parsed(s: &[u8], more: bool) -> Call
     }
 }
 
-pub fn next() -> Call {
+pub fn next<R: Read>(reader: &mut R) -> io::Result<Call> {
     let mut space = [0u8; 21];
     let s: &mut [u8] = &mut space;
-    let got = io::read_full(STDIN_FILENO, s);
-    parsed(s, got == 21)
+    let got = vectors::fill(reader, s)?;
+    Ok(parsed(s, got == 21))
 }
 
 // The next bytes stand at the front, if there is room for them.
-pub fn bytes(s: &mut [u8], fresh: usize) {
+pub fn bytes<R: Read>(reader: &mut R, s: &mut [u8], fresh: usize) -> io::Result<()> {
     if fresh <= s.len() {
-        io::read_full(STDIN_FILENO, &mut s[0..fresh]);
+        vectors::fill(reader, &mut s[0..fresh])?;
     }
+    Ok(())
 }

@@ -14,19 +14,24 @@ mod call;
 mod input;
 mod print;
 
-fn main() {
-    let mut data_space = io::large_buffer();
+use std::io;
+
+fn main(rt: HostRuntime) -> io::Result<()> {
+    let reader = &mut rt.stdin();
+    let writer = &mut rt.stdout();
+    let mut data_space = [0u8; 65536];
     let data: &mut [u8] = &mut data_space;
-    let mut out_space = io::large_buffer();
+    let mut out_space = [0u8; 65536];
     let out: &mut [u8] = &mut out_space;
     let mut left = 1000000usize;
     while 0 < left {
-        let c = input::next();
+        let c = input::next(reader)?;
         if !c.more {
-            return;
+            return Ok(());
         }
-        input::bytes(data, c.fresh);
-        call::lend(c, data, out);
+        input::bytes(reader, data, c.fresh)?;
+        call::lend(writer, c, data, out)?;
         left -= 1;
     }
+    Ok(())
 }

@@ -1,23 +1,26 @@
 // Lines on standard output.
 use crate::input::Call;
+use std::io;
+use std::io::Write;
 
 // A line shows so many bytes of a slice.
 const FEW: usize = 24;
 
-fn name(which: u8) {
+fn name<W: Write>(writer: &mut W, which: u8) -> io::Result<()> {
     match which {
-        0 => vectors::word(b"planes"),
-        1 => vectors::word(b"samples"),
-        2 => vectors::word(b"rearrange"),
-        _ => vectors::word(b"restore"),
+        0 => vectors::word(writer, b"planes"),
+        1 => vectors::word(writer, b"samples"),
+        2 => vectors::word(writer, b"rearrange"),
+        _ => vectors::word(writer, b"restore"),
     }
 }
 
 // Two of the four take a width.
-fn width(c: Call) {
+fn width<W: Write>(writer: &mut W, c: Call) -> io::Result<()> {
     if c.which < 2 {
-        vectors::number(c.width);
+        vectors::number(writer, c.width)?;
     }
+    Ok(())
 }
 
 // The sum goes on from the data to the output.
@@ -25,16 +28,22 @@ fn sum(data: &[u8], out: &[u8]) -> usize {
     (vectors::checksum(data) % 4294967296 * 31 + vectors::checksum(out) % 4294967296) % 4294967296
 }
 
-pub fn line(c: Call, number: usize, data: &[u8], out: &[u8]) {
-    name(c.which);
-    width(c);
-    vectors::number(data.len());
-    vectors::number(out.len());
-    vectors::word(b":");
-    vectors::number(number);
-    vectors::few(data, FEW);
-    vectors::few(out, FEW);
-    vectors::word(b" sum");
-    vectors::number(sum(data, out));
-    vectors::word(b"\n");
+pub fn line<W: Write>(
+    writer: &mut W,
+    c: Call,
+    number: usize,
+    data: &[u8],
+    out: &[u8],
+) -> io::Result<()> {
+    name(writer, c.which)?;
+    width(writer, c)?;
+    vectors::number(writer, data.len())?;
+    vectors::number(writer, out.len())?;
+    vectors::word(writer, b":")?;
+    vectors::number(writer, number)?;
+    vectors::few(writer, data, FEW)?;
+    vectors::few(writer, out, FEW)?;
+    vectors::word(writer, b" sum")?;
+    vectors::number(writer, sum(data, out))?;
+    vectors::word(writer, b"\n")
 }

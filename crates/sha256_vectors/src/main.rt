@@ -6,38 +6,41 @@
 
 ghost use Rattle.std.specs.Prelude.{◌≤◌};
 
-use libc::STDOUT_FILENO;
+use std::io;
+use std::io::Write;
 
 fn wide(b: u8) -> u64 {
     b as u64
 }
 
-fn word(s: &[u8]) {
-    io::write_all(STDOUT_FILENO, s);
+fn word<W: Write>(writer: &mut W, s: &[u8]) -> io::Result<()> {
+    writer.write_all(s)
 }
 
-fn number(n: usize) {
-    io::print_decimal(STDOUT_FILENO, n as u64);
+fn number<W: Write>(writer: &mut W, n: usize) -> io::Result<()> {
+    write!(writer, "{n}")
 }
 
-fn hex(s: &[u8]) {
+fn hex<W: Write>(writer: &mut W, s: &[u8]) -> io::Result<()> {
     let mut i = 0;
     while i < s.len() {
-        io::print_hex(STDOUT_FILENO, wide(s[i]), 2);
+        let b = wide(s[i]);
+        write!(writer, "{b:02x}")?;
         i += 1;
     }
+    Ok(())
 }
 
 // Ends a line that says what the message is.
-fn end_line(digest: [u8; 32]) {
-    word(b" ");
-    hex(&digest);
-    word(b"\n");
+fn end_line<W: Write>(writer: &mut W, digest: [u8; 32]) -> io::Result<()> {
+    word(writer, b" ")?;
+    hex(writer, &digest)?;
+    word(writer, b"\n")
 }
 
-fn line(name: &[u8], message: &[u8]) {
-    word(name);
-    end_line(coding::digest(message));
+fn line<W: Write>(writer: &mut W, name: &[u8], message: &[u8]) -> io::Result<()> {
+    word(writer, name)?;
+    end_line(writer, coding::digest(message))
 }
 
 // All byte values.
@@ -52,36 +55,43 @@ fn pattern() -> [u8; 5000] {
 }
 
 // The line of the pattern's first n bytes.
-fn first(n: usize)
+fn first<W: Write>(writer: &mut W, n: usize) -> io::Result<()>
     requires { n ≤ 5000 }
 {
     let p = pattern();
-    number(n);
-    end_line(coding::digest(&p[..n]));
+    number(writer, n)?;
+    end_line(writer, coding::digest(&p[..n]))
 }
 
-fn million() {
+fn million<W: Write>(writer: &mut W) -> io::Result<()> {
     let a = [b'a'; 1000000];
-    line(b"a million times a", &a);
+    line(writer, b"a million times a", &a)
 }
 
 // The front of the line of a piece.
-fn place(name: &[u8], version: [u8; 5], node: u8, n: usize) {
-    word(name);
-    hex(&version);
-    word(b" ");
-    io::print_decimal(STDOUT_FILENO, wide(node));
-    word(b" ");
-    number(n);
+fn place<W: Write>(
+    writer: &mut W,
+    name: &[u8],
+    version: [u8; 5],
+    node: u8,
+    n: usize,
+) -> io::Result<()> {
+    word(writer, name)?;
+    hex(writer, &version)?;
+    word(writer, b" ")?;
+    let i = wide(node);
+    write!(writer, "{i}")?;
+    word(writer, b" ")?;
+    number(writer, n)
 }
 
 // The piece is the pattern's first n bytes.
-fn placed(version: [u8; 5], node: u8, n: usize)
+fn placed<W: Write>(writer: &mut W, version: [u8; 5], node: u8, n: usize) -> io::Result<()>
     requires { n ≤ 5000 }
 {
     let p = pattern();
-    place(b"placed ", version, node, n);
-    end_line(coding::digest_placed(version, node, &p[..n]));
+    place(writer, b"placed ", version, node, n)?;
+    end_line(writer, coding::digest_placed(version, node, &p[..n]))
 }
 
 // The pattern behind the node and the version.
@@ -102,20 +112,20 @@ fn node_first(version: [u8; 5], node: u8) -> [u8; 5006] {
     m
 }
 
-fn swapped(version: [u8; 5], node: u8, n: usize)
+fn swapped<W: Write>(writer: &mut W, version: [u8; 5], node: u8, n: usize) -> io::Result<()>
     requires { n ≤ 5000 }
 {
     let m = node_first(version, node);
     let end = 6 + n;
-    place(b"swapped ", version, node, n);
-    end_line(coding::digest(&m[..end]));
+    place(writer, b"swapped ", version, node, n)?;
+    end_line(writer, coding::digest(&m[..end]))
 }
 
-fn bare(n: usize)
+fn bare<W: Write>(writer: &mut W, n: usize) -> io::Result<()>
     requires { n ≤ 5000 }
 {
-    word(b"bare ");
-    first(n);
+    word(writer, b"bare ")?;
+    first(writer, n)
 }
 
 const VERSION: [u8; 5] = [0, 0, 0, 1, 0];
@@ -127,77 +137,80 @@ const NEXT_CLIENT: [u8; 5] = [0, 0, 0, 1, 1];
 const HIGHEST: [u8; 5] = [255, 255, 255, 255, 7];
 
 // One place, and lengths about which a block or the padding begins.
-fn lengths() {
-    placed(VERSION, 1, 0);
-    placed(VERSION, 1, 1);
-    placed(VERSION, 1, 2);
-    placed(VERSION, 1, 48);
-    placed(VERSION, 1, 49);
-    placed(VERSION, 1, 50);
-    placed(VERSION, 1, 51);
-    placed(VERSION, 1, 57);
-    placed(VERSION, 1, 58);
-    placed(VERSION, 1, 59);
-    placed(VERSION, 1, 63);
-    placed(VERSION, 1, 64);
-    placed(VERSION, 1, 65);
-    placed(VERSION, 1, 112);
-    placed(VERSION, 1, 113);
-    placed(VERSION, 1, 114);
-    placed(VERSION, 1, 121);
-    placed(VERSION, 1, 122);
-    placed(VERSION, 1, 123);
-    placed(VERSION, 1, 127);
-    placed(VERSION, 1, 128);
-    placed(VERSION, 1, 1000);
-    placed(VERSION, 1, 4096);
+fn lengths<W: Write>(writer: &mut W) -> io::Result<()> {
+    placed(writer, VERSION, 1, 0)?;
+    placed(writer, VERSION, 1, 1)?;
+    placed(writer, VERSION, 1, 2)?;
+    placed(writer, VERSION, 1, 48)?;
+    placed(writer, VERSION, 1, 49)?;
+    placed(writer, VERSION, 1, 50)?;
+    placed(writer, VERSION, 1, 51)?;
+    placed(writer, VERSION, 1, 57)?;
+    placed(writer, VERSION, 1, 58)?;
+    placed(writer, VERSION, 1, 59)?;
+    placed(writer, VERSION, 1, 63)?;
+    placed(writer, VERSION, 1, 64)?;
+    placed(writer, VERSION, 1, 65)?;
+    placed(writer, VERSION, 1, 112)?;
+    placed(writer, VERSION, 1, 113)?;
+    placed(writer, VERSION, 1, 114)?;
+    placed(writer, VERSION, 1, 121)?;
+    placed(writer, VERSION, 1, 122)?;
+    placed(writer, VERSION, 1, 123)?;
+    placed(writer, VERSION, 1, 127)?;
+    placed(writer, VERSION, 1, 128)?;
+    placed(writer, VERSION, 1, 1000)?;
+    placed(writer, VERSION, 1, 4096)
 }
 
 // A piece at other places, then with its fields in another order, then alone.
-fn places(n: usize)
+fn places<W: Write>(writer: &mut W, n: usize) -> io::Result<()>
     requires { n ≤ 5000 }
 {
-    placed(VERSION, 2, n);
-    placed(NEXT_SEQUENCE, 1, n);
-    placed(NEXT_CLIENT, 1, n);
-    placed(HIGHEST, 16, n);
-    swapped(VERSION, 1, n);
-    bare(n);
+    placed(writer, VERSION, 2, n)?;
+    placed(writer, NEXT_SEQUENCE, 1, n)?;
+    placed(writer, NEXT_CLIENT, 1, n)?;
+    placed(writer, HIGHEST, 16, n)?;
+    swapped(writer, VERSION, 1, n)?;
+    bare(writer, n)
 }
 
-fn main() {
-    line(b"empty", b"");
-    line(b"abc", b"abc");
+fn main(rt: HostRuntime) -> io::Result<()> {
+    let writer = &mut rt.stdout();
+    line(writer, b"empty", b"")?;
+    line(writer, b"abc", b"abc")?;
     line(
+        writer,
         b"56 letters",
         b"abcdbcdecdefdefgefghfghighijhijkijkljklmklmnlmnomnopnopq",
-    );
+    )?;
     line(
+        writer,
         b"112 letters",
         b"abcdefghbcdefghicdefghijdefghijkefghijklfghijklmghijklmnhijklmnoijklmnopjklmnopqklmnopqrlmnopqrsmnopqrstnopqrstu",
-    );
-    first(1);
-    first(55);
-    first(56);
-    first(57);
-    first(63);
-    first(64);
-    first(65);
-    first(119);
-    first(120);
-    first(128);
-    first(1000);
-    first(4096);
-    first(5000);
-    million();
-    lengths();
-    places(1);
-    places(57);
-    places(58);
-    places(59);
-    places(63);
-    places(64);
-    places(121);
-    places(122);
-    places(4096);
+    )?;
+    first(writer, 1)?;
+    first(writer, 55)?;
+    first(writer, 56)?;
+    first(writer, 57)?;
+    first(writer, 63)?;
+    first(writer, 64)?;
+    first(writer, 65)?;
+    first(writer, 119)?;
+    first(writer, 120)?;
+    first(writer, 128)?;
+    first(writer, 1000)?;
+    first(writer, 4096)?;
+    first(writer, 5000)?;
+    million(writer)?;
+    lengths(writer)?;
+    places(writer, 1)?;
+    places(writer, 57)?;
+    places(writer, 58)?;
+    places(writer, 59)?;
+    places(writer, 63)?;
+    places(writer, 64)?;
+    places(writer, 121)?;
+    places(writer, 122)?;
+    places(writer, 4096)
 }

@@ -2,12 +2,13 @@
 // first).
 #![tactic(auto)]
 
-ghost use Rattle.std.specs.Prelude.{◌<◌, ◌≤◌, length};
+ghost use Rattle.std.specs.Prelude.{◌<◌, ◌≤◌, length, IfOk};
 
-use libc::{STDIN_FILENO, STDOUT_FILENO};
 use session::session::start;
 use session::space;
 use session::stream::{end, feed_input};
+use std::io;
+use std::io::{Read, Write};
 
 fn wide(b: u8) -> usize
     ensures { result < 256 }
@@ -16,41 +17,45 @@ fn wide(b: u8) -> usize
 }
 
 // The length of the next session; 2^32 at the end of the input.
-fn size() -> usize
-    ensures { result ≤ 4294967296 }
+fn size<R: Read>(reader: &mut R) -> io::Result<usize>
+    ensures { IfOk result (λ n. n ≤ 4294967296) }
 {
     let mut space = [0u8; 4];
     let s: &mut [u8] = &mut space;
-    if io::read_full(STDIN_FILENO, s) != 4 {
-        return 4294967296;
+    let got = vectors::fill(reader, s)?;
+    if got != 4 {
+        return Ok(4294967296);
     }
-    ((wide(s[0]) * 256 + wide(s[1])) * 256 + wide(s[2])) * 256 + wide(s[3])
+    Ok(((wide(s[0]) * 256 + wide(s[1])) * 256 + wide(s[2])) * 256 + wide(s[3]))
 }
 
 // At most so many bytes of the input, and at most as many as the slice has.
-fn receive(most: usize, input: &mut [u8]) -> usize
-    ensures { (result ≤ most) × (result ≤ length input.new) }
+fn receive<R: Read>(reader: &mut R, most: usize, input: &mut [u8]) -> io::Result<usize>
+    ensures { IfOk result (λ n. (n ≤ most) × (n ≤ length input.new)) }
 {
     if input.len() <= most {
-        return io::read_full(STDIN_FILENO, input);
+        return vectors::fill(reader, input);
     }
-    io::read_full(STDIN_FILENO, &mut input[..most])
+    vectors::fill(reader, &mut input[..most])
 }
 
 // So many bytes are passed over, or as many as there are.
-fn skip(bytes: usize, input: &mut [u8]) {
+fn skip<R: Read>(reader: &mut R, bytes: usize, input: &mut [u8]) -> io::Result<()> {
     let mut left = bytes;
     while 0 < left {
-        let n = receive(left, input);
+        let n = receive(reader, left, input)?;
         if n == 0 {
-            return;
+            return Ok(());
         }
         left -= n;
     }
+    Ok(())
 }
 
 // False at the end of the input.
-fn next(
+fn next<R: Read, W: Write>(
+    reader: &mut R,
+    writer: &mut W,
     input: &mut [u8],
     memory: &mut [u8],
     room: &mut [u8],
@@ -58,18 +63,33 @@ fn next(
     post: &mut [u8],
     page: &mut [u8],
     text: &mut [u8],
-) -> bool {
-    let n = size();
+) -> io::Result<bool> {
+    let n = size(reader)?;
     if 4294967295 < n {
-        return false;
+        return Ok(false);
     }
-    let x = feed_input(start(), n, input, memory, room, out, post, page, text);
-    skip(x.left, input);
-    end(x.session, memory, room, out, post, page, text);
-    io::write_all(STDOUT_FILENO, b"=\n")
+    let x = feed_input(
+        reader,
+        writer,
+        start(),
+        n,
+        input,
+        memory,
+        room,
+        out,
+        post,
+        page,
+        text,
+    )?;
+    skip(reader, x.left, input)?;
+    end(writer, x.session, memory, room, out, post, page, text)?;
+    writer.write_all(b"=\n")?;
+    Ok(true)
 }
 
-fn main() {
+fn main(rt: HostRuntime) -> io::Result<()> {
+    let reader = &mut rt.stdin();
+    let writer = &mut rt.stdout();
     let mut memory_space = space::memory();
     let memory: &mut [u8] = &mut memory_space;
     let mut room_space = space::room();
@@ -82,13 +102,14 @@ fn main() {
     let page: &mut [u8] = &mut page_space;
     let mut text_space = space::text();
     let text: &mut [u8] = &mut text_space;
-    let mut input_space = io::buffer();
+    let mut input_space = [0u8; 4096];
     let input: &mut [u8] = &mut input_space;
     let mut turns = u64::MAX;
     while 0 < turns {
-        if !next(input, memory, room, out, post, page, text) {
-            return;
+        if !next(reader, writer, input, memory, room, out, post, page, text)? {
+            return Ok(());
         }
         turns -= 1;
     }
+    Ok(())
 }

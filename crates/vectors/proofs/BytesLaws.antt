@@ -1,11 +1,5 @@
 -- Laws of bytes to work on, and of their sums.
-use mathlib.Core.Path.{◌≡◌, refl, sym, ap, ◌∙◌}
-use mathlib.Core.List.{List, [], ◌∷◌, ◌++◌}
-use Prim.Native.Nat.{ℕ, ◌+◌, ◌<◌, ◌≤◌}
-use native.Mathlib.Numerals.{add-one}
-use native.Mathlib.Omega.{arith}
-use lib.ListN.{length, get_or, take, drop, set, drop_of_length-le}
-use lib.Seq.{take_all, take-suc-set, drop-cons}
+use Rattle.std.proofs.Common.{◌≡◌, refl, sym, ap, ◌∙◌, List, [], ◌∷◌, ◌++◌, ℕ, ◌+◌, ◌<◌, ◌≤◌, add-one, arith, length, get_or, take, drop, set, drop_of_length-le, take_all, take-suc-set, drop-cons}
 use Rattle.vectors.specs.Bytes.{poison_at, poison_of, summed, checksum_from}
 
 pub poison_none : (s : List ℕ) → take 0 s ≡ poison_of 0
@@ -25,6 +19,6 @@ unfolding checksum_from
 sum_more s i h b l e =
     rw (add-one i, e) (sym (ap (checksum_from h) (drop-cons s i 0 l)))
 
-pub sum-all : (s : List ℕ) (i h : ℕ) → length s ≤ i → checksum_from h (drop i s) ≡ h
+pub sum_all : (s : List ℕ) (i h : ℕ) → length s ≤ i → checksum_from h (drop i s) ≡ h
 unfolding checksum_from
-sum-all s i h l = ap (checksum_from h) (drop_of_length-le s l)
+sum_all s i h l = ap (checksum_from h) (drop_of_length-le s l)

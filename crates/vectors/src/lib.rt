@@ -1,10 +1,12 @@
 // What the programs that execute vectors have in common: bytes to work on, sums of them, and printing.
 #![tactic(auto)]
 
-ghost use Rattle.std.specs.Prelude.{◌≡◌, ◌<◌, length};
+ghost use Rattle.std.specs.Prelude.{◌≡◌, ◌<◌, ◌++◌, ◌≤◌, length, take, IfOk, OnOk, codes, decimal};
+ghost use Rattle.std.specs.Io.KnownBytes.{Appends, Consumes, IsAtEnd};
 ghost use Rattle.vectors.specs.Bytes.{poison_of, checksum_from};
 
-use libc::STDOUT_FILENO;
+use std::io;
+use std::io::{Read, Write};
 
 // What a slice holds before a call, so that a byte too many or too few shows.
 pub fn poison(s: &mut [u8])
@@ -35,34 +37,59 @@ pub fn checksum(s: &[u8]) -> usize
     h
 }
 
-// These answer nothing, and what reaches standard output is free: `libc` promises of a write no more than how many bytes it may take.
-pub fn word(s: &[u8]) {
-    io::write_all(STDOUT_FILENO, s);
+// Fills a slice from its front, and answers how many bytes that took: fewer than it has only at the end of the input.
+pub fn fill<R: Read>(reader: &mut R, s: &mut [u8]) -> io::Result<usize>
+    ensures within { IfOk result (λ n. n ≤ length s.new) }
+    ensures bytes { IfOk result (λ n. Consumes (R.remaining reader.old) (R.remaining reader.new) (take n s.new)) }
+    ensures end { IfOk result (λ n. n < length s.new → IsAtEnd (R.remaining reader.new)) }
+{
+    let mut done = 0;
+    while done < s.len() {
+        let n = reader.read(&mut s[done..])?;
+        if n == 0 {
+            return Ok(done);
+        }
+        done += n;
+    }
+    Ok(done)
 }
 
-pub fn digit(x: usize) {
-    io::print_decimal(STDOUT_FILENO, x as u64);
+// Each of these answers once all of it is written, or with an error, after a part of it. Of a writer whose bytes are not known, as
+// standard output, this says no more than that.
+pub fn word<W: Write>(writer: &mut W, s: &[u8]) -> io::Result<()>
+    ensures { OnOk result (Appends (W.contents writer.old) (W.contents writer.new) s.now) }
+{
+    writer.write_all(s)
+}
+
+pub fn digit<W: Write>(writer: &mut W, x: usize) -> io::Result<()>
+    ensures { OnOk result (Appends (W.contents writer.old) (W.contents writer.new) (decimal x)) }
+{
+    write!(writer, "{x}")
 }
 
 // A number after a space.
-pub fn number(x: usize) {
-    word(b" ");
-    digit(x);
+pub fn number<W: Write>(writer: &mut W, x: usize) -> io::Result<()>
+    ensures { OnOk result (Appends (W.contents writer.old) (W.contents writer.new) (codes " " ++ decimal x)) }
+{
+    word(writer, b" ")?;
+    digit(writer, x)
 }
 
-fn byte(b: u8) {
-    io::print_hex(STDOUT_FILENO, b as u64, 2);
+fn byte<W: Write>(writer: &mut W, b: u8) -> io::Result<()> {
+    write!(writer, "{b:02x}")
 }
 
 // The bytes after a space, if there are no more than that.
-pub fn few(s: &[u8], most: usize) {
+pub fn few<W: Write>(writer: &mut W, s: &[u8], most: usize) -> io::Result<()> {
     if most < s.len() {
-        return;
+        return Ok(());
     }
-    word(b" ");
+    word(writer, b" ")?;
     let mut i = 0;
     while i < s.len() {
-        byte(s[i]);
+        byte(writer, s[i])?;
         i += 1;
     }
+    Ok(())
 }
