@@ -1,12 +1,10 @@
-use Rattle.std.proofs.Common.{◌≡◌, ◌≤◌, length, take}
+-- The first bytes are fed.
+use Rattle.std.proofs.Common.{◌≤◌, length, take}
 use Rattle.session.specs.Settle.{lend}
 use Rattle.session.specs.Session.{held, FeedsAll}
 use Rattle.session.proofs.stream.feed_all.Given as goal
 
 abbrev pub invariant-loop-i : goal.invariant-loop-i
 invariant-loop-i g l =
-    (l.i ≤ length l.input)
-    × FeedsAll (held l.initial.y (lend l.initial.memory l.initial.post l.initial.room l.initial.out) l.initial.page l.initial.text) (take l.i l.input)
+    FeedsAll (held l.initial.y (lend l.initial.memory l.initial.post l.initial.room l.initial.out) l.initial.page l.initial.text) (take l.i l.input)
     (held l.y (lend l.memory l.post l.room l.out) l.page l.text)
-    × (length l.memory ≡ length l.initial.memory) × (length l.room ≡ length l.initial.room) × (length l.out ≡ length l.initial.out)
-    × (length l.post ≡ length l.initial.post) × (length l.page ≡ length l.initial.page) × (length l.text ≡ length l.initial.text)
