@@ -3,7 +3,7 @@
 
 ghost use Rattle.std.specs.Prelude.{◌≡◌, ◌<◌, ◌++◌, ◌≤◌, length, take, IfOk, OnOk, codes, decimal};
 ghost use Rattle.std.specs.Io.KnownBytes.{Appends, Consumes, IsAtEnd};
-ghost use Rattle.vectors.specs.Bytes.{poison_of, checksum_from};
+ghost use Rattle.vectors.specs.Bytes.{poison_of, checksum_from, hex_pair, few_of};
 
 use std::io;
 use std::io::{Read, Write};
@@ -76,12 +76,16 @@ pub fn number<W: Write>(writer: &mut W, x: usize) -> io::Result<()>
     digit(writer, x)
 }
 
-fn byte<W: Write>(writer: &mut W, b: u8) -> io::Result<()> {
+fn byte<W: Write>(writer: &mut W, b: u8) -> io::Result<()>
+    ensures { OnOk result (Appends (W.contents writer.old) (W.contents writer.new) (hex_pair b)) }
+{
     write!(writer, "{b:02x}")
 }
 
 // The bytes after a space, if there are no more than that.
-pub fn few<W: Write>(writer: &mut W, s: &[u8], most: usize) -> io::Result<()> {
+pub fn few<W: Write>(writer: &mut W, s: &[u8], most: usize) -> io::Result<()>
+    ensures { OnOk result (Appends (W.contents writer.old) (W.contents writer.new) (few_of most s.now)) }
+{
     if most < s.len() {
         return Ok(());
     }
