@@ -1,14 +1,14 @@
 -- Laws of a session: fresh memory begins a run, and each operation goes on with it.
 use mathlib.Core.Path.{◌≡◌, refl, sym, ap, ◌∙◌}
 use mathlib.Core.Bool.{Bool, true}
-use mathlib.Core.Logic.{◌⊎◌, inl, inr}
+use mathlib.Core.Logic.{inl, inr}
 use mathlib.Core.List.{List, [], ◌∷◌, ◌++◌, append-nil, append_assoc}
 use Prim.Native.Nat.{ℕ, zero, suc, ◌+◌, ◌-◌, ◌≤◌, ◌<◌}
 use native.Mathlib.Decide.{ℕ_discrete, dec_le, dec_lt}
 use native.Mathlib.Numerals.{add-one}
 use native.Mathlib.Omega.{arith}
-use lib.ListN.{length, take, drop, get_or, length-append, length-drop, drop_of_length-le}
-use lib.Seq.{take-suc, take_all, length-take-le, drop_at, drop-drop}
+use lib.ListN.{length, take, drop, get_or, length-append}
+use lib.Seq.{take-suc, length-take-le, drop-drop}
 use Rattle.parties.specs.declared.Measures.{Measures}
 use Rattle.parties.specs.protocol.Measures.{passes}
 use Rattle.parties.specs.protocol.Answer.{refuses, serves}
@@ -109,10 +109,6 @@ pub feeds_more : (x y : Held) (lent : Lent) (page text input : List ℕ) (z w : 
 feeds_more x y lent page text input z w i len l h e f =
     rw (add-one i, take-suc input i 0 l, e) (FeedsAll.more (take i input) (get_or input i 0) len y (held z lent page text) h f)
 
-pub feeds_whole : (x y : Held) (input : List ℕ) (i : ℕ) → i ≤ length input → (i < length input → ⊥) → FeedsAll x (take i input) y → FeedsAll x input y
-feeds_whole x y input i l n h =
-    let e : length input ≤ i = omega arith in rw (take_all i input e) at h
-
 feeds_then : (x y : Held) (a b : List ℕ) (z : Held) → FeedsAll x a y → FeedsAll y b z → FeedsAll x (a ++ b) z
 feeds_then x y a b z h FeedsAll.begun = rw (append-nil a) h
 feeds_then x y a b z h (FeedsAll.more bytes c len w v k f) =
@@ -120,37 +116,12 @@ feeds_then x y a b z h (FeedsAll.more bytes c len w v k f) =
 
 -- ---- a read of standard input
 
-pub gives_all : (most n : ℕ) (input input' : List ℕ) → length input ≤ most → n ≤ length input' → length input' ≡ length input → Gives most input input' n
-gives_all most n input input' h l e =
-    let m : length input' ≤ most = omega arith in
-    record { few = omega arith; fits = omega arith; same = e; rest = drop_of_length-le input' m ∙ sym (drop_of_length-le input h) }
-
-pub gives_part : (most n : ℕ) (input part : List ℕ) → length part ≡ length (take most input) → most ≤ length input → n ≤ length part
-    → Gives most input (part ++ drop most input) n
-gives_part most n input part e h l =
-    let m : length part ≡ most = e ∙ length-take-le most input h in
-    record {
-      few = omega arith;
-      fits = omega arith;
-      same = simp (length-append, length-drop) (omega arith);
-      rest = drop_at part (drop most input) most m;
-    }
-
 -- one part more
 pub input_more : (x y z : Held) (input before after : List ℕ) (most left : ℕ) (n : ℕ) → FeedsParts x input most y before left
     → (y.session.stage ≡ 2 → (n ≡ 0) × (after ≡ before)) → ((y.session.stage ≡ 2 → ⊥) → Gives left before after n) → (n ≡ 0 → ⊥) → FeedsAll y (take n after) z
     → FeedsParts x input most z after (left - n)
 input_more x y z input before after most left n h u g l f =
     let d : y.session.stage ≡ 2 → ⊥ = λ e. l (u e).0 in FeedsParts.part y z before after left n h d (g d) (omega (arith, l)) f
-
--- a last read gives none, or nothing is read
-pub input_ends : (x y : Held) (input before after : List ℕ) (most left n : ℕ) → FeedsParts x input most y before left → 0 < left → n ≡ 0
-    → (y.session.stage ≡ 2 → (n ≡ 0) × (after ≡ before)) → ((y.session.stage ≡ 2 → ⊥) → Gives left before after n) → FeedsInput x input most y after left
-input_ends x y input before after most left n h l z u g = record { before = before; parts = h; unread = none; last = λ _ e. rw z at (g e) }
-  where
-    none : (left ≡ 0) ⊎ (y.session.stage ≡ 2) → after ≡ before
-    none (inl e) = absurd (omega arith)
-    none (inr e) = (u e).1
 
 -- ---- all parts together: the bytes that were fed, and what became of the slice
 

@@ -1,5 +1,5 @@
 -- The first bytes are fed.
-use Rattle.std.proofs.Common.{◌≤◌, length, take}
+use Rattle.std.proofs.Common.{take}
 use Rattle.session.specs.Settle.{lend}
 use Rattle.session.specs.Session.{held, FeedsAll}
 use Rattle.session.proofs.stream.feed_all.Given as goal

@@ -1,5 +1,4 @@
 -- Parts are fed, and so many bytes may still be read.
-use Rattle.std.proofs.Common.{◌≡◌}
 use Rattle.session.specs.Settle.{lend}
 use Rattle.session.specs.Session.{held, FeedsParts}
 use Rattle.session.proofs.stream.feed_input.Given as goal
