@@ -1,24 +1,40 @@
 #!/usr/bin/env python3
 """Which arrays splitting keeps: document 02 (d) allows none of more than 16 numbers.
 
-    rt mir coding | python3 bench/arrays.py
+    (cd crates/coding && rt lib) && python3 bench/arrays.py [FILE]
 
-Reads the MIR, which is what is compiled once it is proved, and follows the calls from `split` and from `cut`. Prints the functions that each reaches
-and how many numbers their arrays have, parameters, results and constants among them. Ends with 1 if one has more, or is an array of arrays."""
-import re
+Reads the code of `coding` that is compiled once it is proved, as `rt lib` leaves it, and follows the calls from `split` and from `cut`.
+Prints the functions that each reaches and how many numbers their arrays have, parameters, results and constants among them. Ends with 1
+if one has more, is an array of arrays or has a length that is not written out, or if a function of another crate is reached."""
+import json
+import os
 import sys
 
 LONGEST = 16
+HERE = os.path.dirname(os.path.abspath(__file__))
+FILE = os.path.join(HERE, '../crates/coding/out/rlib/coding.rlib/toolchain/mir.json')
+
+
+def parts(code, name):
+    """What stands under a name, anywhere in the code."""
+    if isinstance(code, dict):
+        for key, value in code.items():
+            if key == name:
+                yield value
+            yield from parts(value, name)
+    elif isinstance(code, list):
+        for value in code:
+            yield from parts(value, name)
 
 
 def functions(mir):
-    """Of each function the lengths of its arrays, and the functions that it calls."""
+    """Of each function the lengths of its arrays, whether one is of arrays, and the functions that it calls."""
     found = {}
-    for part in mir.split('(fn-def "')[1:]:
-        name, body = part.split('"', 1)
-        lengths = {int(n) for n in re.findall(r'\(lenLit (\d+)\)', body)}
-        nested = '(tyArray (tyArray' in body
-        found[name] = lengths, nested, set(re.findall(r'\(fnRef "([^"]+)"\)', body))
+    for name, body in mir:
+        arrays = list(parts(body, 'Array'))
+        lengths = {size.get('Lit') for _, size in arrays} | {size.get('Lit') for _, size in parts(body, 'Repeat')}
+        nested = any(True for element, _ in arrays for _ in parts(element, 'Array'))
+        found[name] = lengths, nested, {called for called, _ in parts(body, 'Fn')}
     return found
 
 
@@ -28,19 +44,22 @@ def reached(found, name):
         name = left.pop()
         if name not in seen:
             seen.add(name)
-            left += found[name][2]
+            left += found[name][2] if name in found else ()
     return seen
 
 
 def main():
-    found, wrong = functions(sys.stdin.read()), False
+    with open(sys.argv[1] if sys.argv[1:] else FILE, encoding='utf-8') as file:
+        found, wrong = functions(json.load(file)), False
     for name in 'coding::split::split', 'coding::split::cut':
         names = reached(found, name)
-        lengths = set().union(*(found[f][0] for f in names))
-        nested = any(found[f][1] for f in names)
-        print('%s reaches %d functions; numbers in an array: %s' % (name, len(names), sorted(lengths)))
+        others = sorted(names - set(found))
+        own = names & set(found)
+        lengths = set().union(*(found[f][0] for f in own))
+        nested = any(found[f][1] for f in own)
+        print('%s reaches %d functions; numbers in an array: %s' % (name, len(names), sorted(lengths, key=str)))
         print('   ', ' '.join(sorted(f.removeprefix('coding::') for f in names)))
-        wrong = wrong or nested or max(lengths) > LONGEST
+        wrong = wrong or nested or None in lengths or max(lengths) > LONGEST or bool(others)
     sys.exit(wrong)
 
 

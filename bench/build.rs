@@ -9,7 +9,8 @@ fn link(variable: &str, archive: &str, out: &Path) {
     let folder = match env::var(variable) {
         Ok(given) => PathBuf::from(given),
         Err(_) => {
-            PathBuf::from(env::var("CARGO_MANIFEST_DIR").unwrap()).join("../target/staticlib")
+            let crates = PathBuf::from(env::var("CARGO_MANIFEST_DIR").unwrap()).join("../crates");
+            crates.join(archive).join("out")
         }
     };
     let name = format!("lib{archive}.a");
