@@ -1,5 +1,4 @@
-// Events at a client by value, over those to which the phase is lent. The prover covers no function that makes a reference to a struct:
-// these six make it, and are walked by hand.
+// Events at a client by value, over those to which the phase is lent.
 ghost use Rattle.std.specs.Prelude.{◌≡◌};
 ghost use Rattle.parties.specs.protocol.ClientEvents.{client_fresh, start_deposit, start_reading, update_answer, scan_answer, client_message};
 ghost use Rattle.parties.specs.client.Answer.{answered};
