@@ -1,5 +1,5 @@
 -- A session of `stand`: what a line prints, and what follows it.
-use Rattle.std.specs.Prelude.{◌≡◌, Bool, true, false, cond, ◌&&◌, ◌⊎◌, List, [], ◌∷◌, ◌++◌, ℕ, ◌+◌, ◌-◌, ◌*◌, ◌<◌, ◌≤◌, leb, ltb, length, take, drop}
+use Rattle.std.specs.Prelude.{◌≡◌, Bool, true, false, cond, ◌&&◌, ◌⊎◌, List, [], ◌∷◌, ◌++◌, ℕ, ◌+◌, ◌-◌, ◌*◌, ◌<◌, ◌≤◌, leb, ltb, length, take, drop, slice_index}
 use Rattle.parties.specs.declared.Measures.{Measures}
 use Rattle.parties.specs.protocol.Measures.{passes}
 use Rattle.parties.specs.protocol.ClientEvents.{room_size}
@@ -199,12 +199,16 @@ pub data FeedsAll (x : Held) : List ℕ → Held → Type 0 where
   begun : FeedsAll x [] x
   more : (bytes : List ℕ) (b len : ℕ) (y z : Held) → FeedsAll x bytes y → Feeds y b z len → FeedsAll x (bytes ++ (b ∷ [])) z
 
--- the line of one of them could not be written: the bytes up to that one are fed, and this is what is lent after them
+-- the line that is due at one of them could not be written: all before it are fed, and it is the last; this is what is lent after it
 pub record FeedsSome (x : Held) (bytes : List ℕ) (lent : Lent) (page text : List ℕ) : Type 0 where
   pub session : Session
+  pub before : Held
   pub fed : ℕ
-  pub within : fed ≤ length bytes
-  pub feeds : FeedsAll x (take fed bytes) (held session lent page text)
+  pub len : ℕ
+  pub within : fed < length bytes
+  pub feeds : FeedsAll x (take fed bytes) before
+  pub last : Feeds before (slice_index bytes fed) (held session lent page text) len
+  pub due : (0 < len) × (len ≤ length text)
 
 -- a read of standard input, of at most so many bytes: n of them stand at the front of the slice
 -- what it leaves in that many bytes of the slice is free, also where it gives none; the rest is as it was
@@ -238,7 +242,9 @@ pub record Closed (x y : Held) : Type 0 where
   pub len : ℕ
   pub closes : Closes x y len
 
--- its last line could not be written: it is closed all the same
+-- its last line is due and could not be written: it is closed all the same
 pub record Closing (x : Held) (lent : Lent) (page text : List ℕ) : Type 0 where
   pub session : Session
-  pub closed : Closed x (held session lent page text)
+  pub len : ℕ
+  pub closes : Closes x (held session lent page text) len
+  pub due : (0 < len) × (len ≤ length text)

@@ -1,5 +1,5 @@
 // A session from a reader's bytes to a writer.
-ghost use Rattle.std.specs.Prelude.{◌≡◌, ◌≤◌, length, take, IfOk, OnOk, OnErr};
+ghost use Rattle.std.specs.Prelude.{◌≡◌, ◌<◌, ◌≤◌, length, take, IfOk, OnOk, OnErr};
 ghost use Rattle.std.specs.Io.KnownBytes.{Appends};
 ghost use Rattle.session.specs.Settle.{lend};
 ghost use Rattle.session.specs.Session.{held, FeedsAll, FeedsSome, Gives, FeedsInput, FeedsPart, Closed, Closing};
@@ -12,8 +12,10 @@ use std::io::{Read, Write};
 fn put<W: Write>(writer: &mut W, a: Answer, text: &[u8]) -> io::Result<Session>
     ensures session { IfOk result (λ y. y ≡ a.session) }
     ensures line { OnOk result (a.len ≤ length text.now → Appends (W.contents writer.old) (W.contents writer.new) (take a.len text.now)) }
+    ensures due { OnErr result ((0 < a.len) × (a.len ≤ length text.now)) }
 {
-    if a.len <= text.len() {
+    // Of no bytes a writer need not say that they are written.
+    if 0 < a.len && a.len <= text.len() {
         writer.write_all(&text[..a.len])?;
     }
     Ok(a.session)

@@ -1,5 +1,5 @@
--- A byte more is fed also where its line cannot be written.
-use Rattle.std.proofs.Common.{◌+◌, refl, arith}
+-- A byte more is fed, also where its line cannot be written.
+use Rattle.std.proofs.Common.{arith}
 use Rattle.std.proofs.lemmas.Result.{err_from_is_err_and}
 use Rattle.session.specs.Session.{FeedsAll}
 use Rattle.session.proofs.SessionLaws.{feeds_more}
@@ -17,7 +17,11 @@ returns-in_err-y-clause-some g c =
     rw p.1
     (record {
       session = c.feed-a.result.session;
-      fed = c.loop-i.i + 1;
-      within = omega arith;
-      feeds = feeds_more _ _ _ _ _ _ _ _ _ _ (omega arith) c.loop-i.invariant refl c.feed-a.ensures;
+      before = _;
+      fed = c.loop-i.i;
+      len = c.feed-a.result.len;
+      within = c.loop-i-test.true;
+      feeds = c.loop-i.invariant;
+      last = c.feed-a.ensures;
+      due = c.in_err-y.ensures.due;
     })
