@@ -268,8 +268,8 @@ fn carry_update(
     requires { PostRoomy s (length post.old) used × Stands s call_kind c no_node used post.old at end × (taggedWith (body post.old at end) ≡ true) }
     ensures { (length post.new ≡ length post.old)
         × ((honest : ℕ → Bool) → Carried s honest (carryEvent c room.old) used
-        (record { memory = memory.entry.now; post = post.old; room = room.old; out = [] })
-        (record { memory = memory.exit.now; post = post.new; room = room.new; out = [] }) result) }
+        (record { memory = memory.old; post = post.old; room = room.old; out = [] })
+        (record { memory = memory.new; post = post.new; room = room.new; out = [] }) result) }
 {
     let from = at + 8;
     let a = update(s, c, memory, &post[from..end]);
@@ -302,8 +302,8 @@ fn carry_scan(
     requires { PostRoomy s (length post.old) used × Stands s call_kind c no_node used post.old at end × (taggedWith (body post.old at end) ≡ false) }
     ensures { (length post.new ≡ length post.old)
         × ((honest : ℕ → Bool) → Carried s honest (carryEvent c room.old) used
-        (record { memory = memory.entry.now; post = post.old; room = room.old; out = [] })
-        (record { memory = memory.exit.now; post = post.new; room = room.new; out = [] }) result) }
+        (record { memory = memory.old; post = post.old; room = room.old; out = [] })
+        (record { memory = memory.new; post = post.new; room = room.new; out = [] }) result) }
 {
     let a = scan(s, memory, room);
     serves(
@@ -335,8 +335,8 @@ fn hand_updated(
     requires { PostRoomy s (length post.old) used × Stands s return_kind c no_node used post.old at end × (taggedWith (body post.old at end) ≡ false) }
     ensures { (length post.new ≡ length post.old)
         × ((honest : ℕ → Bool) → Carried s honest (handEvent c room.old) used
-        (record { memory = memory.entry.now; post = post.old; room = room.old; out = [] })
-        (record { memory = memory.exit.now; post = post.new; room = room.new; out = [] }) result) }
+        (record { memory = memory.old; post = post.old; room = room.old; out = [] })
+        (record { memory = memory.new; post = post.new; room = room.new; out = [] }) result) }
 {
     let a = updated(s, c, memory, room);
     takes(s, c, a, room, post, used, at, end)
@@ -356,8 +356,8 @@ fn hand_rows(
     requires { PostRoomy s (length post.old) used × Stands s return_kind c no_node used post.old at end × (taggedWith (body post.old at end) ≡ true) }
     ensures { (length post.new ≡ length post.old)
         × ((honest : ℕ → Bool) → Carried s honest (handEvent c room.old) used
-        (record { memory = memory.entry.now; post = post.old; room = room.old; out = [] })
-        (record { memory = memory.exit.now; post = post.new; room = room.new; out = [] }) result) }
+        (record { memory = memory.old; post = post.old; room = room.old; out = [] })
+        (record { memory = memory.new; post = post.new; room = room.new; out = [] }) result) }
 {
     let from = at + 8;
     let a = scanned(s, c, memory, &post[from..end], room);
@@ -379,8 +379,8 @@ fn bring_honest(
     requires { PostRoomy s (length post.old) used × Stands s to_node_kind c i used post.old at end }
     ensures { (length post.new ≡ length post.old)
         × ((honest : ℕ → Bool) → honest i ≡ true → Carried s honest (bringEvent c i room.old) used
-        (record { memory = memory.entry.now; post = post.old; room = room.old; out = [] })
-        (record { memory = memory.exit.now; post = post.new; room = room.new; out = [] }) result) }
+        (record { memory = memory.old; post = post.old; room = room.old; out = [] })
+        (record { memory = memory.new; post = post.new; room = room.new; out = [] }) result) }
 {
     let from = at + 7;
     let a = to_node(s, i, memory, &post[from..end], room);
@@ -403,8 +403,8 @@ fn bring_dishonest(
     requires { PostRoomy s (length post.old) used × Stands s to_node_kind c i used post.old at end }
     ensures { (length post.new ≡ length post.old)
         × ((honest : ℕ → Bool) → honest i ≡ false → Carried s honest (bringEvent c i room.old) used
-        (record { memory = memory.entry.now; post = post.old; room = room.old; out = [] })
-        (record { memory = memory.exit.now; post = post.new; room = room.new; out = [] }) result) }
+        (record { memory = memory.old; post = post.old; room = room.old; out = [] })
+        (record { memory = memory.new; post = post.new; room = room.new; out = [] }) result) }
 {
     let left = remove(post, used, at, end);
     EventEnd {
@@ -429,8 +429,8 @@ fn deliver_message(
     requires { PostRoomy s (length post.old) used × Stands s to_client_kind c i used post.old at end }
     ensures { (length post.new ≡ length post.old)
         × ((honest : ℕ → Bool) → Carried s honest (deliverEvent i c room.old out.old) used
-        (record { memory = memory.entry.now; post = post.old; room = room.old; out = out.old })
-        (record { memory = memory.exit.now; post = post.new; room = room.new; out = out.new }) result) }
+        (record { memory = memory.old; post = post.old; room = room.old; out = out.old })
+        (record { memory = memory.new; post = post.new; room = room.new; out = out.new }) result) }
 {
     let from = at + 7;
     let a = to_client(s, c, i, memory, &post[from..end], room, out);
@@ -447,8 +447,8 @@ pub fn deposit(
     used: usize,
 ) -> EventEnd
     ensures { (honest : ℕ → Bool) → Happens s honest (depositEvent c page.now) used
-        (record { memory = memory.entry.now; post = post.old; room = []; out = [] })
-        (record { memory = memory.exit.now; post = post.new; room = []; out = [] }) result }
+        (record { memory = memory.old; post = post.old; room = []; out = [] })
+        (record { memory = memory.new; post = post.new; room = []; out = [] }) result }
 {
     match clearance(s, c, 1, memory.len(), true, post, used) {
         Clear::Ends(e) => e,
@@ -470,8 +470,8 @@ pub fn reading(
     used: usize,
 ) -> EventEnd
     ensures { (honest : ℕ → Bool) → Happens s honest (readingEvent c room.old) used
-        (record { memory = memory.entry.now; post = post.old; room = room.old; out = [] })
-        (record { memory = memory.exit.now; post = post.new; room = room.new; out = [] }) result }
+        (record { memory = memory.old; post = post.old; room = room.old; out = [] })
+        (record { memory = memory.new; post = post.new; room = room.new; out = [] }) result }
 {
     let enough = sizes::room(s) <= room.len();
     match clearance(s, c, 1, memory.len(), enough, post, used) {
@@ -493,8 +493,8 @@ pub fn carry(
     used: usize,
 ) -> EventEnd
     ensures { (honest : ℕ → Bool) → Happens s honest (carryEvent c room.old) used
-        (record { memory = memory.entry.now; post = post.old; room = room.old; out = [] })
-        (record { memory = memory.exit.now; post = post.new; room = room.new; out = [] }) result }
+        (record { memory = memory.old; post = post.old; room = room.old; out = [] })
+        (record { memory = memory.new; post = post.new; room = room.new; out = [] }) result }
 {
     match look_ahead(s, CALL, c, NO_NODE, post, used) {
         Ahead::Ends(e) => e,
@@ -518,8 +518,8 @@ pub fn hand(
     used: usize,
 ) -> EventEnd
     ensures { (honest : ℕ → Bool) → Happens s honest (handEvent c room.old) used
-        (record { memory = memory.entry.now; post = post.old; room = room.old; out = [] })
-        (record { memory = memory.exit.now; post = post.new; room = room.new; out = [] }) result }
+        (record { memory = memory.old; post = post.old; room = room.old; out = [] })
+        (record { memory = memory.new; post = post.new; room = room.new; out = [] }) result }
 {
     match look_ahead(s, RETURN, c, NO_NODE, post, used) {
         Ahead::Ends(e) => e,
@@ -545,8 +545,8 @@ pub fn bring(
     used: usize,
 ) -> EventEnd
     ensures { Happens s (honest_in liars) (bringEvent c i room.old) used
-        (record { memory = memory.entry.now; post = post.old; room = room.old; out = [] })
-        (record { memory = memory.exit.now; post = post.new; room = room.new; out = [] }) result }
+        (record { memory = memory.old; post = post.old; room = room.old; out = [] })
+        (record { memory = memory.new; post = post.new; room = room.new; out = [] }) result }
 {
     match look_ahead(s, TO_NODE, c, i, post, used) {
         Ahead::Ends(e) => e,
@@ -572,8 +572,8 @@ pub fn deliver(
     used: usize,
 ) -> EventEnd
     ensures { (honest : ℕ → Bool) → Happens s honest (deliverEvent i c room.old out.old) used
-        (record { memory = memory.entry.now; post = post.old; room = room.old; out = out.old })
-        (record { memory = memory.exit.now; post = post.new; room = room.new; out = out.new }) result }
+        (record { memory = memory.old; post = post.old; room = room.old; out = out.old })
+        (record { memory = memory.new; post = post.new; room = room.new; out = out.new }) result }
 {
     match look_ahead(s, TO_CLIENT, c, i, post, used) {
         Ahead::Ends(e) => e,
@@ -596,8 +596,8 @@ fn lie_dishonest(
     used: usize,
 ) -> EventEnd
     ensures { (honest : ℕ → Bool) → honest i ≡ false → Happens s honest (lieEvent i c bytes.now room.old out.old) used
-        (record { memory = memory.entry.now; post = post.old; room = room.old; out = out.old })
-        (record { memory = memory.exit.now; post = post.new; room = room.new; out = out.new }) result }
+        (record { memory = memory.old; post = post.old; room = room.old; out = out.old })
+        (record { memory = memory.new; post = post.new; room = room.new; out = out.new }) result }
 {
     let enough = message_slices(s, room.len(), out.len());
     match clearance(s, c, i, memory.len(), enough, post, used) {
@@ -623,8 +623,8 @@ pub fn lie(
     used: usize,
 ) -> EventEnd
     ensures { Happens s (honest_in liars) (lieEvent i c bytes.now room.old out.old) used
-        (record { memory = memory.entry.now; post = post.old; room = room.old; out = out.old })
-        (record { memory = memory.exit.now; post = post.new; room = room.new; out = out.new }) result }
+        (record { memory = memory.old; post = post.old; room = room.old; out = out.old })
+        (record { memory = memory.new; post = post.new; room = room.new; out = out.new }) result }
 {
     if has_node(liars, i) {
         return lie_dishonest(s, c, i, bytes, memory, room, out, post, used);

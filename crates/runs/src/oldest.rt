@@ -16,8 +16,8 @@ pub fn oldest(
     used: usize,
 ) -> EventEnd
     ensures { Oldest s used
-        (record { memory = memory.entry.now; post = post.old; room = room.old; out = out.old })
-        (record { memory = memory.exit.now; post = post.new; room = room.new; out = out.new }) result }
+        (record { memory = memory.old; post = post.old; room = room.old; out = out.old })
+        (record { memory = memory.new; post = post.new; room = room.new; out = out.new }) result }
 {
     match ready(s, post.len(), used) {
         Readiness::No(x) => EventEnd {

@@ -1,6 +1,6 @@
 // A session from a reader's bytes to a writer.
 ghost use Rattle.std.specs.Prelude.{◌≡◌, ◌<◌, ◌≤◌, length, take, IfOk, OnOk, OnErr};
-ghost use Rattle.std.specs.Io.KnownBytes.{Appends};
+ghost use Rattle.std.specs.Io.KnownBytes.{Appends, Consumes, IsAtEnd};
 ghost use Rattle.session.specs.Settle.{lend};
 ghost use Rattle.session.specs.Session.{held, FeedsAll, FeedsSome, Gives, FeedsInput, FeedsPart, Closed, Closing};
 
@@ -50,6 +50,8 @@ pub fn feed_all<W: Write>(
 fn more<R: Read>(reader: &mut R, stage: u8, most: usize, input: &mut [u8]) -> io::Result<usize>
     ensures gives { IfOk result (λ n. (n ≤ most) × (n ≤ length input.new) × (stage ≡ 2 → (n ≡ 0) × (input.new ≡ input.old))
         × ((stage ≡ 2 → ⊥) → Gives most input.old input.new n)) }
+    ensures bytes { IfOk result (λ n. Consumes (R.remaining reader.old) (R.remaining reader.new) (take n input.new)) }
+    ensures end { IfOk result (λ n. n ≡ 0 → 0 < most → 0 < length input.new → (stage ≡ 2 → ⊥) → IsAtEnd (R.remaining reader.new)) }
     ensures fails { OnErr result ((stage ≡ 2 → ⊥) × Gives most input.old input.new 0) }
 {
     if stage == 2 {

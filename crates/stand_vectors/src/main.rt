@@ -2,7 +2,7 @@
 // first).
 #![tactic(auto)]
 
-ghost use Rattle.std.specs.Prelude.{◌<◌, ◌≤◌, length, IfOk};
+ghost use Rattle.std.specs.Prelude.{◌≡◌, ◌<◌, ◌≤◌, length, IfOk, OnErr};
 
 use session::session::start;
 use session::space;
@@ -31,7 +31,8 @@ fn size<R: Read>(reader: &mut R) -> io::Result<usize>
 
 // At most so many bytes of the input, and at most as many as the slice has.
 fn receive<R: Read>(reader: &mut R, most: usize, input: &mut [u8]) -> io::Result<usize>
-    ensures { IfOk result (λ n. (n ≤ most) × (n ≤ length input.new)) }
+    ensures within { IfOk result (λ n. (n ≤ most) × (n ≤ length input.new)) }
+    ensures same { OnErr result (length input.new ≡ length input.old) }
 {
     if input.len() <= most {
         return vectors::fill(reader, input);

@@ -1,7 +1,7 @@
 // What the programs that execute vectors have in common: bytes to work on, sums of them, and printing.
 #![tactic(auto)]
 
-ghost use Rattle.std.specs.Prelude.{◌≡◌, ◌<◌, ◌++◌, ◌≤◌, length, take, IfOk, OnOk, codes, decimal};
+ghost use Rattle.std.specs.Prelude.{◌≡◌, ◌<◌, ◌++◌, ◌≤◌, length, take, IfOk, OnOk, OnErr, codes, decimal};
 ghost use Rattle.std.specs.Io.KnownBytes.{Appends, Consumes, IsAtEnd};
 ghost use Rattle.vectors.specs.Bytes.{poison_of, checksum_from, hex_pair, few_of};
 
@@ -37,11 +37,13 @@ pub fn checksum(s: &[u8]) -> usize
     h
 }
 
-// Fills a slice from its front, and answers how many bytes that took: fewer than it has only at the end of the input.
+// Fills a slice from its front, and answers how many bytes that took: fewer than it has only at the end of the input. An error leaves the
+// slice its length; what stands in it is free then, and so is how far the reader came.
 pub fn fill<R: Read>(reader: &mut R, s: &mut [u8]) -> io::Result<usize>
     ensures within { IfOk result (λ n. n ≤ length s.new) }
     ensures bytes { IfOk result (λ n. Consumes (R.remaining reader.old) (R.remaining reader.new) (take n s.new)) }
     ensures end { IfOk result (λ n. n < length s.new → IsAtEnd (R.remaining reader.new)) }
+    ensures same { OnErr result (length s.new ≡ length s.old) }
 {
     let mut done = 0;
     while done < s.len() {
