@@ -1,16 +1,17 @@
 // One call, and its line.
 ghost use Rattle.std.specs.Prelude.{◌≤◌, length};
 
-use crate::input::Call;
+use crate::input::{Call, Event, Kind};
 use crate::records::{damage, save};
-use crate::{forms, input, line};
+use crate::{forms, line};
 use std::io;
-use std::io::{Read, Write};
+use std::io::Write;
 
 // Both forms of an event; `client` has the record that the second leaves.
 fn both<W: Write>(
     writer: &mut W,
     h: Call,
+    event: Event,
     records: &[u8],
     client: &mut [u8],
     bytes: &[u8],
@@ -19,9 +20,9 @@ fn both<W: Write>(
 ) -> io::Result<()>
     requires { 5 ≤ length client.old }
 {
-    let x = forms::by_value(h, records, client, bytes, room, out);
-    let y = forms::in_one_slice(h, records, client, bytes, room, out);
-    line::print_agreed(writer, h.kind, x, y)
+    let x = forms::by_value(h, event, records, client, bytes, room, out);
+    let y = forms::in_one_slice(h, event, records, client, bytes, room, out);
+    line::print_agreed(writer, event, x, y)
 }
 
 // The record is as before the call if it is not kept: a change is undone by itself.
@@ -36,22 +37,22 @@ fn carry<W: Write>(
 ) -> io::Result<()>
     requires { 5 ≤ length client.old }
 {
-    if h.kind == 7 {
+    let Kind::Event(event) = h.kind else {
         save(records, h.record, bytes);
         return Ok(());
-    }
+    };
     damage(records, h.record, h.place, h.change);
-    both(writer, h, records, client, bytes, room, out)?;
+    both(writer, h, event, records, client, bytes, room, out)?;
     if h.keep {
         save(records, h.record, client);
-        return Ok(());
+    } else {
+        damage(records, h.record, h.place, h.change);
     }
-    damage(records, h.record, h.place, h.change);
     Ok(())
 }
 
-// Parts of the slices are lent.
-fn lend<W: Write>(
+// Parts of the slices are lent; a call that asks for more than there is, or has no phase, is passed over.
+pub fn lend<W: Write>(
     writer: &mut W,
     h: Call,
     records: &mut [u8],
@@ -60,60 +61,19 @@ fn lend<W: Write>(
     room: &mut [u8],
     out: &mut [u8],
 ) -> io::Result<()> {
-    let clients = h.client;
-    let lens = h.bytes;
-    let rooms = h.room;
-    let outs = h.out;
-    if clients < 5 {
+    if h.client < 5 || client.len() < h.client || bytes.len() < h.bytes {
         return Ok(());
     }
-    if client.len() < clients {
-        return Ok(());
-    }
-    if bytes.len() < lens {
-        return Ok(());
-    }
-    if room.len() < rooms {
-        return Ok(());
-    }
-    if out.len() < outs {
+    if room.len() < h.room || out.len() < h.out {
         return Ok(());
     }
     carry(
         writer,
         h,
         records,
-        &mut client[..clients],
-        &bytes[..lens],
-        &mut room[..rooms],
-        &mut out[..outs],
+        &mut client[..h.client],
+        &bytes[..h.bytes],
+        &mut room[..h.room],
+        &mut out[..h.out],
     )
-}
-
-fn receive<R: Read>(reader: &mut R, bytes: &mut [u8], n: usize) -> io::Result<bool> {
-    if bytes.len() < n {
-        return Ok(false);
-    }
-    input::bytes(reader, &mut bytes[..n])
-}
-
-// False at the end of the input.
-pub fn next<R: Read, W: Write>(
-    reader: &mut R,
-    writer: &mut W,
-    records: &mut [u8],
-    client: &mut [u8],
-    bytes: &mut [u8],
-    room: &mut [u8],
-    out: &mut [u8],
-) -> io::Result<bool> {
-    let h = input::head(reader)?;
-    if !h.more {
-        return Ok(false);
-    }
-    if !receive(reader, bytes, h.bytes)? {
-        return Ok(false);
-    }
-    lend(writer, h, records, client, bytes, room, out)?;
-    Ok(true)
 }

@@ -1,12 +1,11 @@
 // One event in two forms: by value, and with the record in one slice.
 ghost use Rattle.std.specs.Prelude.{◌≤◌, length};
 
-use crate::input;
-use crate::input::Call;
+use crate::input::{Call, Event};
 use crate::line::Effect;
 use crate::records::load;
 use parties::client::{record, turn};
-use parties::{ClientAnswer, Phase, ReadingIndex, Turned};
+use parties::{ClientAnswer, Phase, ReadingIndex, Refusal, Turned};
 
 // The step and reading index of a record.
 fn phase(client: &[u8]) -> Phase
@@ -14,66 +13,56 @@ fn phase(client: &[u8]) -> Phase
 {
     Phase {
         step: client[0],
-        reading: ReadingIndex(input::four(client, 1) as u32),
+        reading: ReadingIndex(vectors::four(client, 1) as u32),
     }
 }
 
 fn by_turn(
     h: Call,
+    event: Event,
     p: Phase,
     area: &mut [u8],
     bytes: &[u8],
     room: &mut [u8],
     out: &mut [u8],
-) -> Turned {
-    if h.kind == 1 {
-        return turn::fresh_client(p, h.measures, area);
+) -> Result<Turned, Refusal> {
+    match event {
+        Event::Fresh => turn::fresh_client(p, h.measures, area),
+        Event::Deposit => turn::start_deposit(p, h.measures, h.own, area, bytes),
+        Event::Read => turn::start_reading(p, h.measures, h.own, area, room),
+        Event::Updated => turn::update_answer(p, h.measures, h.own, area, room),
+        Event::Scanned => turn::scan_answer(p, h.measures, h.own, area, bytes, room),
+        Event::Message(_) => turn::message(p, h.measures, h.own, h.node, area, bytes, room, out),
     }
-    if h.kind == 2 {
-        return turn::start_deposit(p, h.measures, h.own, area, bytes);
-    }
-    if h.kind == 3 {
-        return turn::start_reading(p, h.measures, h.own, area, room);
-    }
-    if h.kind == 4 {
-        return turn::update_answer(p, h.measures, h.own, area, room);
-    }
-    if h.kind == 5 {
-        return turn::scan_answer(p, h.measures, h.own, area, bytes, room);
-    }
-    turn::message(p, h.measures, h.own, h.node, area, bytes, room, out)
 }
 
 fn by_record(
     h: Call,
+    event: Event,
     client: &mut [u8],
     bytes: &[u8],
     room: &mut [u8],
     out: &mut [u8],
-) -> ClientAnswer {
-    if h.kind == 1 {
-        return record::fresh(h.measures, client);
+) -> Result<ClientAnswer, Refusal> {
+    match event {
+        Event::Fresh => record::fresh(h.measures, client),
+        Event::Deposit => record::deposit(h.measures, h.own, client, bytes),
+        Event::Read => record::read(h.measures, h.own, client, room),
+        Event::Updated => record::updated(h.measures, h.own, client, room),
+        Event::Scanned => record::scanned(h.measures, h.own, client, bytes, room),
+        Event::Message(_) => record::receive(h.measures, h.own, h.node, client, bytes, room, out),
     }
-    if h.kind == 2 {
-        return record::deposit(h.measures, h.own, client, bytes);
-    }
-    if h.kind == 3 {
-        return record::read(h.measures, h.own, client, room);
-    }
-    if h.kind == 4 {
-        return record::updated(h.measures, h.own, client, room);
-    }
-    if h.kind == 5 {
-        return record::scanned(h.measures, h.own, client, bytes, room);
-    }
-    record::receive(h.measures, h.own, h.node, client, bytes, room, out)
 }
 
-fn shown(t: Turned, client: &[u8], room: &[u8], out: &[u8]) -> Effect
+fn shown(
+    answer: Result<ClientAnswer, Refusal>,
+    phase: Phase,
+    client: &[u8],
+    room: &[u8],
+    out: &[u8],
+) -> Effect
     requires { 5 ≤ length client.now }
 {
-    let answer = t.answer;
-    let phase = t.phase;
     Effect {
         answer,
         phase,
@@ -90,25 +79,10 @@ fn ready(h: Call, records: &[u8], client: &mut [u8], room: &mut [u8], out: &mut 
     vectors::poison(out);
 }
 
-fn value(h: Call, client: &mut [u8], bytes: &[u8], room: &mut [u8], out: &mut [u8]) -> Turned
-    requires { 5 ≤ length client.old }
-{
-    by_turn(h, phase(client), &mut client[5..], bytes, room, out)
-}
-
-fn slice(h: Call, client: &mut [u8], bytes: &[u8], room: &mut [u8], out: &mut [u8]) -> Turned
-    requires { 5 ≤ length client.old }
-{
-    let answer = by_record(h, client, bytes, room, out);
-    Turned {
-        phase: phase(client),
-        answer,
-    }
-}
-
-// The phase goes by value: of the record only the area is after the event.
+// The phase goes by value: of the record only the area is after the event. A refusal leaves the phase.
 pub fn by_value(
     h: Call,
+    event: Event,
     records: &[u8],
     client: &mut [u8],
     bytes: &[u8],
@@ -118,13 +92,17 @@ pub fn by_value(
     requires { 5 ≤ length client.old }
 {
     ready(h, records, client, room, out);
-    let t = value(h, client, bytes, room, out);
-    shown(t, client, room, out)
+    let p = phase(client);
+    match by_turn(h, event, p, &mut client[5..], bytes, room, out) {
+        Ok(t) => shown(Ok(t.answer), t.phase, client, room, out),
+        Err(r) => shown(Err(r), p, client, room, out),
+    }
 }
 
 // The record is one slice.
 pub fn in_one_slice(
     h: Call,
+    event: Event,
     records: &[u8],
     client: &mut [u8],
     bytes: &[u8],
@@ -134,6 +112,6 @@ pub fn in_one_slice(
     requires { 5 ≤ length client.old }
 {
     ready(h, records, client, room, out);
-    let t = slice(h, client, bytes, room, out);
-    shown(t, client, room, out)
+    let answer = by_record(h, event, client, bytes, room, out);
+    shown(answer, phase(client), client, room, out)
 }

@@ -1,14 +1,32 @@
 // The head of a call. Of the record its phase is lent, and of its area as much as the head says.
-ghost use Rattle.std.specs.Prelude.{◌+◌, ◌≤◌, ◌<◌, length};
+ghost use Rattle.std.specs.Prelude.{◌≤◌, length};
 
 use parties::Measures;
-use std::io;
 use std::io::Read;
+use std::{fmt, io};
+use vectors::{four, two};
 
-#[derive(Clone, Copy)]
+// An event at a client. A kind that is no other event's is a message's.
+#[derive(Debug, Clone, Copy, PartialEq, Eq)]
+pub enum Event {
+    Fresh,
+    Deposit,
+    Read,
+    Updated,
+    Scanned,
+    Message(u8),
+}
+
+// What a call is: an event, or bytes for the front of the record.
+#[derive(Debug, Clone, Copy, PartialEq, Eq)]
+pub enum Kind {
+    Event(Event),
+    Front,
+}
+
+#[derive(Debug, Clone, Copy, PartialEq, Eq)]
 pub struct Call {
-    pub more: bool,
-    pub kind: u8,
+    pub kind: Kind,
     pub keep: bool,
     pub record: u8,
     pub measures: Measures,
@@ -22,71 +40,65 @@ pub struct Call {
     pub bytes: usize,
 }
 
-fn wide(b: u8) -> usize
-    ensures { result < 256 }
-{
-    b as usize
-}
-
-fn two(s: &[u8], at: usize) -> usize
-    requires { at + 2 ≤ length s.now }
-    ensures { result < 65536 }
-{
-    wide(s[at]) * 256 + wide(s[at + 1])
-}
-
-pub fn four(s: &[u8], at: usize) -> usize
-    requires { at + 4 ≤ length s.now }
-    ensures { result < 4294967296 }
-{
-    two(s, at) * 65536 + two(s, at + 2)
-}
-
-fn measures(s: &[u8]) -> Measures
-    requires { 38 ≤ length s.now }
-{
-    Measures {
-        m: two(s, 3),
-        n: two(s, 5),
-        k: two(s, 7),
-        t: two(s, 9),
-        f: two(s, 11),
+impl From<u8> for Kind {
+    fn from(kind: u8) -> Kind {
+        match kind {
+            1 => Kind::Event(Event::Fresh),
+            2 => Kind::Event(Event::Deposit),
+            3 => Kind::Event(Event::Read),
+            4 => Kind::Event(Event::Updated),
+            5 => Kind::Event(Event::Scanned),
+            7 => Kind::Front,
+            _ => Kind::Event(Event::Message(kind)),
+        }
     }
 }
 
-fn parsed(s: &[u8], more: bool) -> Call
-    requires { 38 ≤ length s.now }
-{
+impl fmt::Display for Event {
+    fn fmt<W: fmt::Write>(&self, f: &mut fmt::Formatter<W>) -> fmt::Result {
+        match self {
+            Event::Fresh => write!(f, "1"),
+            Event::Deposit => write!(f, "2"),
+            Event::Read => write!(f, "3"),
+            Event::Updated => write!(f, "4"),
+            Event::Scanned => write!(f, "5"),
+            Event::Message(kind) => write!(f, "{kind}"),
+        }
+    }
+}
+
+fn parsed(s: [u8; 38]) -> Call {
     Call {
-        more,
-        kind: s[0],
+        kind: Kind::from(s[0]),
         keep: s[1] == 1,
         record: s[2],
-        measures: measures(s),
-        own: two(s, 13),
-        node: two(s, 15),
-        client: 5 + four(s, 17),
-        room: four(s, 21),
-        out: four(s, 25),
-        place: four(s, 29),
+        measures: Measures {
+            m: two(&s, 3),
+            n: two(&s, 5),
+            k: two(&s, 7),
+            t: two(&s, 9),
+            f: two(&s, 11),
+        },
+        own: two(&s, 13),
+        node: two(&s, 15),
+        client: 5 + four(&s, 17),
+        room: four(&s, 21),
+        out: four(&s, 25),
+        place: four(&s, 29),
         change: s[33],
-        bytes: four(s, 34),
+        bytes: four(&s, 34),
     }
 }
 
-// The next head; `more` is false at the end of the input.
-pub fn head<R: Read>(reader: &mut R) -> io::Result<Call> {
-    let mut space = [0u8; 38];
-    let s: &mut [u8] = &mut space;
-    let got = vectors::fill(reader, s)?;
-    Ok(parsed(s, got == 38))
+// The next call; none at the end of the input.
+pub fn next<R: Read>(reader: &mut R) -> io::Result<Option<Call>> {
+    Ok(vectors::head(reader)?.map(parsed))
 }
 
-// The bytes fill the slice; false at the end of the input.
-pub fn bytes<R: Read>(reader: &mut R, s: &mut [u8]) -> io::Result<bool> {
-    if s.len() == 0 {
-        return Ok(true);
+// The next n bytes stand at the front; false at the end of the input, or where there is no room for them.
+pub fn bytes<R: Read>(reader: &mut R, s: &mut [u8], n: usize) -> io::Result<bool> {
+    if s.len() < n {
+        return Ok(false);
     }
-    let got = vectors::fill(reader, s)?;
-    Ok(got == s.len())
+    Ok(vectors::fill(reader, &mut s[..n])? == n)
 }

@@ -22,23 +22,28 @@ use std::io;
 fn main(rt: HostRuntime) -> io::Result<()> {
     let reader = &mut rt.stdin();
     let writer = &mut rt.stdout();
-    let mut records_space = space::records();
-    let records: &mut [u8] = &mut records_space;
-    let mut client_space = space::one();
-    let client: &mut [u8] = &mut client_space;
-    let mut bytes_space = space::one();
-    let bytes: &mut [u8] = &mut bytes_space;
-    let mut room_space = space::one();
-    let room: &mut [u8] = &mut room_space;
-    let mut out_space = space::one();
-    let out: &mut [u8] = &mut out_space;
-    vectors::poison(records);
-    let mut left = 1000000usize;
-    while 0 < left {
-        if !call::next(reader, writer, records, client, bytes, room, out)? {
+    let mut records = space::records();
+    let mut client = space::one();
+    let mut bytes = space::one();
+    let mut room = space::one();
+    let mut out = space::one();
+    vectors::poison(&mut records);
+    for _ in 0..1000000 {
+        let Some(h) = input::next(reader)? else {
+            return Ok(());
+        };
+        if !input::bytes(reader, &mut bytes, h.bytes)? {
             return Ok(());
         }
-        left -= 1;
+        call::lend(
+            writer,
+            h,
+            &mut records,
+            &mut client,
+            &bytes,
+            &mut room,
+            &mut out,
+        )?;
     }
     Ok(())
 }

@@ -1,5 +1,5 @@
 -- Laws of columns written into areas.
-use Rattle.std.proofs.Common.{◌≡◌, ℕ, ◌+◌, ◌-◌, ◌*◌, ◌/◌, ◌%◌, ◌<◌, ◌≤◌, ◌⊎◌, List, [], ◌++◌, length, get_or, take, drop, sym, refl, ap, ◌∙◌, inl, inr, ⊎_elim, append-nil, not-suc-le-zero, add-zero, mul-le-mul_right, add-mul, div-add-mod', arith, length-append, length-drop, drop_of_length-le, length-take-le, get_or-drop, take_all, get_or-take, get_or-append-add, ext_get_or}
+use Rattle.std.proofs.Common.{◌≡◌, ℕ, ◌+◌, ◌-◌, ◌*◌, ◌/◌, ◌%◌, ◌<◌, ◌≤◌, ◌⊎◌, List, [], ◌++◌, length, get_or, take, drop, sym, refl, ap, ◌∙◌, inl, inr, ⊎_elim, append-nil, not-suc-le-zero, add-zero, mul-le-mul_right, add-mul, div-add-mod', arith, length-append, length-drop, drop_of_length-le, length-take-le, get_or-drop, take_all, get_or-take, get_or-append-add, ext_get_or, zero-add}
 use native.Mathlib.Nat.{mul-add-div_right, div-eq_of_lt}
 use native.Mathlib.Decide.{dec_lt}
 use lib.ListN.{get_or-append}
@@ -222,3 +222,9 @@ columns-rest a c F m v w t u p fits r e x y =
     let d : take (length u - a * F) (drop (a * F) u) ≡ drop (a * F) u = take_all (length u - a * F) (drop (a * F) u) (omega arith) in
     let z : drop (length u - a * F) (drop (a * F) u) ≡ [] = drop_of_length-le (drop (a * F) u) {i = length u - a * F} (omega arith) in
     rw z (rw (append-nil p) (columns-areas a c F m v w t u p fits r e x (rw d at y)))
+
+-- the next columns of all areas, which end at e
+pub columns_next : (n F j m e : ℕ) (v : ℕ → ℕ → ℕ) (r t u : List ℕ) → e ≡ j + m → e ≤ F → Columns n F 0 j v r t
+    → Columns n F j m (λ i l. v i (j + l)) t u → Columns n F 0 e v r u
+columns_next n F j m e v r t u q fits x y =
+    rw q (columns-join n F 0 j m v (λ i l. v i (j + l)) r t u (omega arith) (λ i l. refl) x (rw zero-add y))

@@ -1,5 +1,5 @@
 -- Laws of lists of bytes: what is tabulated, filled from the front, spliced.
-use Rattle.std.proofs.Common.{◌≡◌, ℕ, zero, suc, ◌+◌, ◌-◌, ◌*◌, ◌<◌, ◌≤◌, List, [], ◌∷◌, ◌++◌, map, length, get_or, take, drop, set, replicate, sym, refl, ap, ◌∙◌, ap₂, le_of_eq, not-suc-le-zero, mul-le-mul_right, add-mul, one-mul, zero-add, add-one, arith, length-append, length-set, length-take-le, get_or-drop, get_or-set_other, get_or-take, get_or-set_same, take-suc-set, get_or-append-add, ext_get_or}
+use Rattle.std.proofs.Common.{◌≡◌, ℕ, zero, suc, ◌+◌, ◌-◌, ◌*◌, ◌<◌, ◌≤◌, List, [], ◌∷◌, ◌++◌, map, length, get_or, take, drop, set, replicate, sym, refl, ap, ◌∙◌, ap₂, le_of_eq, not-suc-le-zero, add-mul, one-mul, zero-add, add-one, arith, length-append, length-set, length-take-le, get_or-drop, get_or-set_other, get_or-take, get_or-set_same, take-suc-set, get_or-append-add, ext_get_or}
 use mathlib.Core.List.{map-append}
 use native.Mathlib.Decide.{dec_lt, ℕ_discrete}
 use lib.ListN.{get_or-append, replicate-append-replicate}
@@ -179,6 +179,11 @@ front-more d f u n m v s hd hv e =
         ∙ front-after d f u n s q (omega arith)
         ∙ sym (front-after d f w (n + m) t q (omega arith))
 
+-- the next bytes, which end at e
+pub front_next : (d : List ℕ) (f : ℕ → ℕ) (u w : List ℕ) (n m e : ℕ) (v : List ℕ) → e ≡ n + m → w ≡ paste u n v m → e ≤ length d
+    → m ≤ length v → Front d f u n → ((l : ℕ) → l < m → get_or v l 0 ≡ f (n + l)) → Front d f w e
+front_next d f u w n m e v q o hd hv s b = rw (q, o) (front-more d f u n m v s (rw q at hd) hv b)
+
 -- 16 lanes, of which the first l are filled with f 0, f 1, ..
 pub record Lanes (f : ℕ → ℕ) (v : List ℕ) (l : ℕ) : Type 0 where
   pub within : l ≤ 16
@@ -209,25 +214,8 @@ pub record Strided (f : ℕ → ℕ) (from k : ℕ) (v : List ℕ) (at l : ℕ) 
   pub lanes : Lanes (λ i. f (from + i * k)) v l
   pub place : at ≡ from + l * k
 
-pub strided_none : (f : ℕ → ℕ) (from k : ℕ) (v : List ℕ) → length v ≡ 16 → Strided f from k v from 0
-strided_none f from k v h = record { lanes = lanes_none (λ i. f (from + i * k)) v h; place = omega arith }
-
-module _ (f : ℕ → ℕ) (from k : ℕ) (v : List ℕ) (at l : ℕ) (s : Strided f from k v at l) where
-  pub strided_within : l < 16 → at ≤ from + 15 * k
-  strided_within h =
-      let b : l ≤ 15 = omega arith in
-      let p : at ≡ from + l * k = s.place in omega (arith, mul-le-mul_right k b)
-
-  pub strided_more : (x : ℕ) → x ≡ f at → l < 16 → Strided f from k (set v l x) (at + k) (l + 1)
-  strided_more x e h =
-      let p : at ≡ from + l * k = s.place in
-      record {
-        lanes = lanes_more (λ i. f (from + i * k)) v l s.lanes x (e ∙ ap f p) h;
-        place = omega (arith, stride l k);
-      }
-
-  pub strided_at : (m i : ℕ) → m ≤ l → i < m → get_or v i 0 ≡ f (from + i * k)
-  strided_at = lanes_at (λ i. f (from + i * k)) v l s.lanes
+pub strided_at : (f : ℕ → ℕ) (from k : ℕ) (v : List ℕ) (at l : ℕ) → Strided f from k v at l → (m i : ℕ) → m ≤ l → i < m → get_or v i 0 ≡ f (from + i * k)
+strided_at f from k v at l s = lanes_at (λ i. f (from + i * k)) v l s.lanes
 
 -- a copy of the first m lanes of v, of which l are done
 pub record Pasted (t : List ℕ) (at : ℕ) (v : List ℕ) (m : ℕ) (u : List ℕ) (l : ℕ) : Type 0 where

@@ -1,5 +1,7 @@
 -- Laws of the frame: by position, its length, its columns.
-use Rattle.std.proofs.Common.{◌≡◌, ℕ, zero, suc, ◌+◌, ◌-◌, ◌*◌, ◌/◌, ◌%◌, ◌<◌, ◌≤◌, List, ◌++◌, length, get_or, replicate, sym, ap, ◌∙◌, append_assoc, mod-lt, mul_comm, div-lt_iff_lt-mul, add-mul, one-mul, div-add-mod', arith, length-append, get_or-append-add}
+use Rattle.std.proofs.Common.{◌≡◌, ℕ, zero, suc, ◌+◌, ◌-◌, ◌*◌, ◌/◌, ◌%◌, ◌<◌, ◌≤◌, List, ◌++◌, length, get_or, replicate, sym, refl, ap, ◌∙◌, append_assoc, mod-lt, mul_comm, div-lt_iff_lt-mul, add-mul, one-mul, div-add-mod', arith, length-append, get_or-append-add, w64}
+use Rattle.std.specs.Int.{to_be_bytes}
+use Rattle.std.proofs.Math.Nat.{div-div-eq-div-mul}
 use native.Mathlib.Decide.{dec_lt}
 use lib.ListN.{length-replicate, get_or-append, get_or-eq_default}
 use Rattle.coding.specs.Bytes.{Bytes, four_bytes}
@@ -7,11 +9,19 @@ use Rattle.coding.specs.Pieces.{columns, frame}
 use Rattle.coding.specs.Frame.{frame_byte}
 use Rattle.coding.proofs.BytesLaws.{zeros_at}
 
+-- the length is in the last four bytes that the standard library gives
+pub length_byte : (page : List ℕ) (p : ℕ) → p < 4 → get_or (to_be_bytes w64 (length page)) (4 + p) 0 ≡ frame_byte page p
+length_byte page zero h = simp div-div-eq-div-mul
+length_byte page (suc zero) h = simp div-div-eq-div-mul
+length_byte page (suc (suc zero)) h = refl
+length_byte page (suc (suc (suc zero))) h = refl
+length_byte page (suc (suc (suc (suc p)))) h = absurd (omega arith)
+
 -- past the length stands the page
 pub frame-page : (page : List ℕ) (p : ℕ) → frame_byte page (4 + p) ≡ get_or page p 0
 frame-page page p = let e : 4 + p ≡ suc (suc (suc (suc p))) = omega arith in rw e
 
--- a lane past the length
+-- lane l of a row that starts behind the length
 pub lane_page : (page : List ℕ) (from k l : ℕ) → 4 ≤ from → get_or page (from - 4 + l * k) 0 ≡ frame_byte page (from + l * k)
 lane_page page from k l h =
     let e : from + l * k ≡ 4 + (from - 4 + l * k) = omega arith in

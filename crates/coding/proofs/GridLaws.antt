@@ -1,13 +1,13 @@
 -- The inversion of the grid of powers. Every row is an equation between a polynomial's coefficients, weighed by the left half, and its values
 -- at the points, weighed by the right half; each step keeps the equations, and the last grid's left half is the identity.
-use Rattle.std.proofs.Common.{◌≡◌, ℕ, suc, ◌+◌, ◌<◌, ◌≤◌, List, [], length, get_or, take, set, sym, refl, ap, ◌∙◌, subst, ap₂, not-suc-le-zero, arith, length-set, length-take-le, get_or-set_other, get_or-take, get_or-set_same, eq-eqb, ne_eqb}
+use Rattle.std.proofs.Common.{◌≡◌, ℕ, suc, ◌+◌, ◌<◌, ◌≤◌, List, [], length, get_or, take, sym, refl, ap, ◌∙◌, ap₂, not-suc-le-zero, arith, length-take-le, get_or-take, eq-eqb, ne_eqb}
 use mathlib.Core.Path.{subst⁻¹}
 use native.Mathlib.Decide.{ℕ_discrete, dec_lt}
 use lib.ListN.{get_or-eq_default}
 use lib.Bits.{xor_zero_r, xor_self}
 use Rattle.coding.specs.Field.{◌⊕◌, product, power, inverse, sum}
 use Rattle.coding.specs.Polynomial.{value, roots_at, interpolate}
-use Rattle.coding.specs.Grid.{Distinct, entry, bit, identity, Halves, Powers, Scaled, Added, Cleared, Reduced, Inverts}
+use Rattle.coding.specs.Grid.{Distinct, entry, bit, identity, Halves, Powers, Scaled, Added, Reduced, Inverts}
 use Rattle.coding.proofs.FieldLaws.{product_byte, product_comm, product_assoc, xor_product, product_zero, zero_product}
 use Rattle.coding.proofs.FieldLaws.{product_one, one_product, product-inverse, power_byte}
 use Rattle.coding.specs.Bytes.{Bytes}
@@ -250,42 +250,3 @@ module _ (k : ℕ) (nodes : List ℕ) where
         ap (product (entry m r (16 + s)))
         (rw (get_or-take k nodes s 0 h) at
         (interpolate-value (take k nodes) f (bytes_take k nodes ok.bytes) ok.distinct hf s (omega arith))))
-
--- ---- the loops that fill lists and rows
-
-pub halves_more : (left right : ℕ → ℕ) (t : ℕ) (row : List ℕ) (a b : ℕ) → t < 16 → length row ≡ 32 → Halves t row left right
-    → a ≡ left t → b ≡ right t → Halves (t + 1) (set (set row t a) (16 + t) b) left right
-halves_more left right t row a b l n all ea eb i h =
-    let next = set (set row t a) (16 + t) b in
-    cases (λ j. (get_or next j 0 ≡ left j) × (get_or next (16 + j) 0 ≡ right j)) i t (
-      get_or-set_other (set row t a) (16 + t) t b 0 (λ e. omega arith) ∙ get_or-set_same row t a 0 (omega arith) ∙ ea,
-      get_or-set_same (set row t a) (16 + t) b 0 (omega (arith, length-set row t a)) ∙ eb,
-    )
-    (λ d. (
-      get_or-set_other (set row t a) (16 + t) i b 0 (λ e. omega arith) ∙ get_or-set_other row t i a 0 d ∙ (all i (omega arith)).0,
-      get_or-set_other (set row t a) (16 + t) (16 + i) b 0 (λ e. omega arith)
-          ∙ get_or-set_other row t (16 + i) a 0 (λ e. omega arith)
-          ∙ (all i (omega arith)).1,
-    ))
-
-pub powers_done : (k x s : ℕ) (row : List ℕ) → k ≤ 16 → s < 16 → length row ≡ 32 → ((t : ℕ) → t < k → get_or row t 0 ≡ power x t)
-    → ((t : ℕ) → get_or row (16 + t) 0 ≡ 0) → Powers k x s (set row (16 + s) 1)
-powers_done k x s row lk ls n left right t l = (
-  get_or-set_other row (16 + s) t 1 0 (λ e. omega arith) ∙ left t l,
-  cases (λ i. get_or (set row (16 + s) 1) (16 + i) 0 ≡ identity s i) t s
-      (get_or-set_same row (16 + s) 1 0 (omega arith) ∙ sym (identity-same s))
-      (λ d.
-      get_or-set_other row (16 + s) (16 + t) 1 0 (λ e. d (omega arith))
-      ∙ right t
-      ∙ sym (identity-other s t (λ e. d (sym e)))),
-)
-
-pub rows_reduced : (k c f : ℕ) (m out : List (List ℕ)) (pivot : List ℕ) → c < k → f ≡ inverse (entry m c c) → Scaled k f (get_or m c []) pivot
-    → ((r : ℕ) → r < k → Cleared k c r pivot (get_or m r []) (get_or out r [])) → Reduced k c m out
-rows_reduced k c f m out pivot l ef scaled rows =
-    let e : get_or out c [] ≡ pivot = (rows c l).same refl in
-    record {
-      pivot =
-          subst⁻¹ (Scaled k (inverse (entry m c c)) (get_or m c [])) e (subst (λ (g : ℕ). Scaled k g (get_or m c []) pivot) ef scaled);
-      rows = λ r h d. subst⁻¹ (λ row. Added k (entry m r c) (get_or m r []) row (get_or out r [])) e ((rows r h).other d);
-    }

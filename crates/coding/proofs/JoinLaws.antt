@@ -1,13 +1,15 @@
 -- Laws of joining: the joined frame by position, and the page that the output gets.
-use Rattle.std.proofs.Common.{◌≡◌, ℕ, zero, suc, ◌+◌, ◌-◌, ◌*◌, ◌/◌, ◌%◌, ◌<◌, ◌≤◌, ◌⊎◌, List, ◌++◌, length, get_or, take, drop, sym, ap, ◌∙◌, ap₂, inl, inr, not-suc-le-zero, mul-le-mul_right, mod-lt, suc-mul, div-lt_iff_lt-mul, add-mul, div-add-mod', add-one, arith, length-append, length-drop, length-take-le, get_or-drop, get_or-take, get_or-append-add, ext_get_or}
+use Rattle.std.proofs.Common.{◌≡◌, ℕ, zero, suc, ◌+◌, ◌-◌, ◌*◌, ◌/◌, ◌%◌, ◌<◌, ◌≤◌, ◌⊎◌, List, ◌++◌, length, get_or, take, drop, sym, ap, ◌∙◌, ap₂, inl, inr, not-suc-le-zero, mul-le-mul_right, mod-lt, suc-mul, div-lt_iff_lt-mul, add-mul, div-add-mod', add-one, arith, length-append, length-drop, length-take-le, get_or-drop, get_or-take, get_or-append-add, ext_get_or, take_all, le_refl}
 use native.Mathlib.Decide.{dec_lt}
 use lib.ListN.{get_or-append}
 use Rattle.coding.specs.Field.{◌⊕◌, product, sum}
 use Rattle.coding.specs.Polynomial.{interpolate}
 use Rattle.coding.specs.Bytes.{Bytes}
-use Rattle.coding.specs.Output.{Placed, Stride, byte_in, Weighs}
+use Rattle.coding.specs.Grid.{entry, Inverts}
+use Rattle.coding.specs.Output.{Placed, Stride, byte_in}
 use Rattle.coding.specs.Join.{joined}
 use Rattle.coding.proofs.BytesLaws.{stride}
+use Rattle.coding.proofs.OutputLaws.{placed_then}
 use Rattle.coding.proofs.FieldLaws.{product_comm}
 use Rattle.coding.proofs.PolynomialLaws.{sum_same, interpolate-length, interpolate-bytes}
 
@@ -55,18 +57,18 @@ bytes-joined F room xs (suc n) i = go (bytes-joined F room xs n i) (dec_lt i (le
         (interpolate-bytes xs (byte_in F room n) (i - length (joined F room xs n)))
 
 -- what the nodes' bytes weigh is the frame's byte
-pub weighed : (F k : ℕ) (room nodes row : List ℕ) (columns j r : ℕ) → Bytes room → length (take k nodes) ≡ k → j < columns → r < k
-    → Weighs k nodes r row
-    → sum k (λ s. product (byte_in F room j (get_or nodes s 0)) (get_or row (16 + s) 0)) ≡ get_or (joined F room (take k nodes) columns) (r + j * k) 0
-weighed F k room nodes row columns j r b l hj hr w =
-    let e : j * length (take k nodes) + r ≡ r + j * k = rw l (omega arith) in
-    let h : r < length (take k nodes) = rw l hr in
-    sum_same k (λ s. product (byte_in F room j (get_or nodes s 0)) (get_or row (16 + s) 0))
-    (λ s. product (get_or row (16 + s) 0) (byte_in F room j (get_or nodes s 0)))
-    (λ s _. product_comm (byte_in F room j (get_or nodes s 0)) (get_or row (16 + s) 0))
-    ∙ sym (w (byte_in F room j) (λ i. b ((i - 1) * F + j)))
-    ∙ sym (get_or-joined F room (take k nodes) columns j r hj h)
-    ∙ ap (λ (x : ℕ). get_or (joined F room (take k nodes) columns) x 0) e
+pub weighed : (F : ℕ) (room nodes : List ℕ) (grid : List (List ℕ)) (columns j r : ℕ) → Bytes room → j < columns → r < length nodes
+    → Inverts (length nodes) nodes grid
+    → sum (length nodes) (λ s. product (byte_in F room j (get_or nodes s 0)) (entry grid r (16 + s)))
+    ≡ get_or (joined F room nodes columns) (j * length nodes + r) 0
+weighed F room nodes grid columns j r b hj hr w =
+    let k = length nodes in
+    let t : take k nodes ≡ nodes = take_all k nodes (le_refl k) in
+    sum_same k (λ s. product (byte_in F room j (get_or nodes s 0)) (entry grid r (16 + s)))
+    (λ s. product (entry grid r (16 + s)) (byte_in F room j (get_or nodes s 0)))
+    (λ s _. product_comm (byte_in F room j (get_or nodes s 0)) (entry grid r (16 + s)))
+    ∙ sym (rw t at (w (byte_in F room j) (λ i. b ((i - 1) * F + j)) r hr))
+    ∙ sym (get_or-joined F room nodes columns j r hj hr)
 
 -- a block's stride goes on that of the columns before it
 pub stride_join : (r k j m p : ℕ) → Stride r k (j + m) p → Stride r k j p ⊎ Stride (j * k + r) k m p
@@ -79,6 +81,16 @@ stride_join r k j m p s = go (dec_lt s.0 j)
         let d : s.0 ≡ j + (s.0 - j) = omega arith in
         let e : p ≡ r + (j + (s.0 - j)) * k = s.2 ∙ ap (λ (x : ℕ). r + x * k) d in
         inr (s.0 - j, omega arith, omega (arith, add-mul j (s.0 - j) k))
+
+-- byte r of column j + l of a frame, among those of a block from column j on
+pub block_place : (j l r k : ℕ) → (j + l) * k + r ≡ j * k + r + l * k
+block_place j l r k = omega (arith, add-mul j l k)
+
+-- the next columns of a row are placed, which end at e
+pub row_next : (g : ℕ → ℕ) (len r k j m e : ℕ) (t u w : List ℕ) → e ≡ j + m → Placed g len (Stride r k j) t u
+    → Placed g len (Stride (j * k + r) k m) u w → Placed g len (Stride r k e) t w
+row_next g len r k j m e t u w q x y =
+    rw q (placed_then g len (Stride r k j) (Stride (j * k + r) k m) (Stride r k (j + m)) t u w (stride_join r k j m) x y)
 
 -- the rows below r are placed
 abbrev pub Rows : ℕ → ℕ → ℕ → ℕ → Type 0

@@ -1,12 +1,11 @@
 -- Laws of the nodes that a bit map names.
-use Rattle.std.proofs.Common.{◌≡◌, ℕ, zero, suc, ◌+◌, ◌-◌, ◌*◌, ◌/◌, ◌%◌, ◌^◌, ◌<◌, ◌≤◌, Bool, true, false, cond, ◌&&◌, eqb, ltb, leb, List, [], ◌∷◌, ◌++◌, length, get_or, take, drop, set, sym, refl, ap, ◌∙◌, true≢false, append_assoc, append-nil, not-suc-le-zero, div-lt_iff_lt-mul, add-one, arith, length-append, drop-cons, get_or-take, take-take, take-suc-set, pow_pos, pow_mono, le-ltb, lt-ltb, eq-eqb, ne_eqb, eqb-true, le-leb}
+use Rattle.std.proofs.Common.{◌≡◌, ℕ, zero, suc, ◌+◌, ◌-◌, ◌*◌, ◌/◌, ◌%◌, ◌^◌, ◌<◌, ◌≤◌, Bool, true, false, cond, ◌&&◌, eqb, ltb, leb, List, [], ◌∷◌, ◌++◌, length, get_or, drop, sym, refl, ap, ◌∙◌, true≢false, append_assoc, append-nil, not-suc-le-zero, div-lt_iff_lt-mul, add-one, arith, length-append, drop-cons, pow_pos, pow_mono, le-ltb, lt-ltb, eq-eqb, ne_eqb, eqb-true, le-leb}
 use native.Mathlib.Nat.{zero-div, div-eq_of_lt}
 use native.Mathlib.Decide.{dec_lt, ℕ_discrete}
 use borrow.Author.Tests.{lt-leb}
 use lib.ListN.{get_or-append}
 use lib.Seq.{drop-length, get_or-append_seam}
-use Rattle.coding.specs.declared.nodes.Nodes.{Nodes}
-use Rattle.coding.specs.Nodes.{all, nodes_of, sound, first_length, Named}
+use Rattle.coding.specs.Nodes.{all, nodes_of, sound, first_length}
 
 -- nothing is left of a number below a power once it is shifted by that power
 pub shifted_out : (m n : ℕ) → eqb (m / 2 ^ n) 0 ≡ ltb m (2 ^ n)
@@ -83,22 +82,6 @@ nodes-beyond map n (suc j) h l = go (ℕ_discrete (suc j) n) (nodes-beyond map n
         let b : map < 2 ^ j = omega (arith, pow_mono k) in
         let z : map / 2 ^ j % 2 ≡ 0 = ap (λ (x : ℕ). x % 2) (div-eq_of_lt b) in
         rw (ne_eqb (map / 2 ^ j % 2) 1 (λ e. omega arith)) (append-nil (nodes_of map j) ∙ ih k)
-
-pub named_skip : (map i : ℕ) (nodes : Nodes) → Named map i nodes → eqb (map / 2 ^ i % 2) 1 ≡ false → Named map (i + 1) nodes
-named_skip map i nodes h e =
-    record { many = h.many ∙ ap length (sym (nodes_skip map i e)); first = h.first ∙ sym (nodes_skip map i e) }
-
-pub named_more : (map i : ℕ) (nodes : Nodes) → length nodes.list ≡ 16 → i < 16 → Named map i nodes → eqb (map / 2 ^ i % 2) 1 ≡ true
-    → Named map (i + 1) (record { list = set nodes.list nodes.count (i + 1); count = nodes.count + 1 })
-named_more map i nodes l h n e =
-    let c : nodes.count < length nodes.list = omega (arith, nodes-few map i, n.many) in
-    record {
-      many = omega (arith, n.many, ap length (nodes-more map i e) ∙ length-append (nodes_of map i) ((i + 1) ∷ []));
-      first = rw (add-one nodes.count)
-          (take-suc-set nodes.list nodes.count (i + 1) c
-          ∙ ap (λ (s : List ℕ). s ++ ((i + 1) ∷ [])) n.first
-          ∙ sym (nodes-more map i e));
-    }
 
 -- the nodes are from 1 to n and ascend
 pub nodes-within : (map n s : ℕ) → s < length (nodes_of map n) → (1 ≤ get_or (nodes_of map n) s 0) × (get_or (nodes_of map n) s 0 ≤ n)
@@ -214,6 +197,16 @@ pub all_end : (f : ℕ → Bool) (xs : List ℕ) (s : ℕ) → length xs ≡ s �
 unfolding all
 all_end f xs s h = rw (← h) (ap (all f) (drop-length xs))
 
+-- no piece is sound
+pub sound_none : (F : ℕ) (lens xs : List ℕ) → eqb (length xs) 0 ≡ true → sound F lens xs ≡ true
+unfolding sound
+sound_none F lens [] e = refl
+sound_none F lens (x ∷ xs) e = let z : length (x ∷ xs) ≡ 0 = eqb-true (length (x ∷ xs)) 0 e in absurd (omega arith)
+
+pub some_nodes : (xs : List ℕ) → eqb (length xs) 0 ≡ false → 0 < length xs
+some_nodes [] e = absurd (true≢false e)
+some_nodes (x ∷ xs) e = omega arith
+
 module _ (F : ℕ) (lens xs : List ℕ) (some : 0 < length xs) (len : ℕ) (e : len ≡ get_or lens (get_or xs 0 0 - 1) 0) where
   sound-first : sound F lens xs ≡ (leb 1 len && (leb len F && all (λ i. eqb (get_or lens (i - 1) 0) len) (drop 1 xs)))
   unfolding sound all
@@ -248,10 +241,3 @@ sound-length F lens xs h e = rw (first-length lens xs h) (go (dec_lt (get_or len
     go (yes l) m = absurd (true≢false (sym e ∙ sound_low F lens xs h (get_or lens (get_or xs 0 0 - 1) 0) refl l))
     go (no l) (yes m) = absurd (true≢false (sym e ∙ sound-high F lens xs h (get_or lens (get_or xs 0 0 - 1) 0) refl (omega arith) m))
     go (no l) (no m) = (omega arith, omega arith)
-
--- a list of nodes shows the nodes
-pub listed_at : (map n : ℕ) (nodes : Nodes) → Named map n nodes → (s : ℕ) → s < nodes.count → get_or nodes.list s 0 ≡ get_or (nodes_of map n) s 0
-listed_at map n nodes h s l = sym (get_or-take nodes.count nodes.list s 0 l) ∙ ap (λ (t : List ℕ). get_or t s 0) h.first
-
-pub listed-take : (map n : ℕ) (nodes : Nodes) → Named map n nodes → (k : ℕ) → k ≤ nodes.count → take k nodes.list ≡ take k (nodes_of map n)
-listed-take map n nodes h k l = sym (take-take k nodes.count nodes.list l) ∙ ap (take k) h.first

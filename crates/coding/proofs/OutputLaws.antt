@@ -1,5 +1,5 @@
 -- Laws of frame bytes placed in the output.
-use Rattle.std.proofs.Common.{◌≡◌, ℕ, ◌+◌, ◌*◌, ◌<◌, ◌≤◌, ◌⊎◌, List, length, get_or, set, sym, refl, ap, ◌∙◌, inl, inr, ⊎_elim, not-suc-le-zero, arith, length-set, get_or-set_other, get_or-set_same}
+use Rattle.std.proofs.Common.{◌≡◌, ℕ, ◌+◌, ◌*◌, ◌<◌, ◌≤◌, ◌⊎◌, List, length, get_or, set, sym, refl, ap, ◌∙◌, inl, inr, ⊎_elim, arith, length-set, get_or-set_other, get_or-set_same}
 use native.Mathlib.Decide.{dec_lt, ℕ_discrete}
 use Rattle.coding.specs.Output.{Placed, Stride}
 
@@ -51,10 +51,6 @@ pub record Scatter (v : List ℕ) (m from k len : ℕ) (t u : List ℕ) (l : ℕ
   pub same : length u ≡ length t
   pub placed : (g : ℕ → ℕ) → ((i : ℕ) → i < m → get_or v i 0 ≡ g (from + i * k)) → Placed g len (Stride from k l) t u
 
-pub scatter_none : (v : List ℕ) (m from k len : ℕ) (t : List ℕ) → Scatter v m from k len t t 0
-scatter_none v m from k len t =
-    record { within = omega arith; same = refl; placed = λ g h. placed_none g len (Stride from k 0) t (λ q b s. not-suc-le-zero s.1) }
-
 pub scatter_more : (v : List ℕ) (m from k len : ℕ) (t u : List ℕ) (l : ℕ) (w : List ℕ) → Scatter v m from k len t u l → l < m
     → length w ≡ length u → ((g : ℕ → ℕ) → get_or v l 0 ≡ g (from + l * k) → Placed g len (◌≡◌ (from + l * k)) u w)
     → Scatter v m from k len t w (l + 1)
@@ -65,7 +61,3 @@ scatter_more v m from k len t u l w s h e p =
       placed = λ g z.
           placed_then g len (Stride from k l) (◌≡◌ (from + l * k)) (Stride from k (l + 1)) t u w (stride_more from k l) (s.placed g z) (p g (z l h));
     }
-
-pub scatter_all : (v : List ℕ) (m from k len : ℕ) (t u : List ℕ) (l : ℕ) → Scatter v m from k len t u l → m ≤ l
-    → (g : ℕ → ℕ) → ((i : ℕ) → i < m → get_or v i 0 ≡ g (from + i * k)) → Placed g len (Stride from k m) t u
-scatter_all v m from k len t u l s h = let e : l ≡ m = omega (arith, s.within) in rw e at s.placed

@@ -1,11 +1,13 @@
 -- The digest of a placed piece: what it is a digest of, that a first block has all or the front of that, and that it is 32 bytes.
-use Rattle.std.proofs.Common.{◌≡◌, ℕ, zero, suc, ◌+◌, ◌/◌, ◌<◌, ◌≤◌, List, ◌∷◌, ◌++◌, length, get_or, take, drop, sym, refl, ap, ◌∙◌, arith, length-append, take-append-drop, length-take-le, take_all, get_or-take, take_at, ext_get_or, drop_at}
+use Rattle.std.proofs.Common.{◌≡◌, ℕ, zero, suc, ◌+◌, ◌/◌, ◌<◌, ◌≤◌, List, ◌∷◌, ◌++◌, length, get_or, take, drop, sym, refl, ap, ◌∙◌, arith, length-append, take-append-drop, length-take-le, take_all, get_or-take, take_at, ext_get_or, drop_at, set, replicate, min, ◌-◌, length-set, get_or-set_other, get_or-set_same, get_or-drop}
+use borrow.Rule.Slice.PartMut.{put_mid}
 use native.Mathlib.Decide.{dec_lt}
 use lib.ListN.{get_or-append, get_or-eq_default}
 use lib.Seq.{drop-append-add}
 use Rattle.coding.specs.Bytes.{Bytes}
 use Rattle.coding.specs.Sha256.{◌!◌, H₀, hash, compress, added, joined, padded, sha256}
 use Rattle.coding.specs.Placed.{digest_input, piece_digest}
+use Rattle.coding.proofs.BytesLaws.{zeros_at}
 use Rattle.coding.proofs.Sha256Laws.{beyond, joined_at_lem, length-joined}
 
 length-hash : (m : List ℕ) (i : ℕ) → length (hash H₀ m i) ≡ 8
@@ -80,6 +82,62 @@ module _ (v : List ℕ) (i : ℕ) (x : List ℕ) where
         let rest : drop (length v + 59) (v ++ (i ∷ x)) ≡ drop 58 x = drop-append-add v (i ∷ x) 59 in
         let front : take 64 b ≡ b = take_all 64 b (omega arith) in
         rw (← rest, five, ← front, first-bytes 64 (omega arith) (omega (arith, length_input))) (take-append-drop 64 (v ++ (i ∷ x)))
+
+-- version, node and the front of the piece, stored in a block of zeros
+pub block_law : (v : List ℕ) (i : ℕ) (x u w : List ℕ) (m : ℕ) → length v ≡ 5 → u ≡ v → m ≡ min (length x) 58 → w ≡ take m x
+    → (j : ℕ) → j < 64 → put_mid 6 (6 + m - 6) (set (u ++ replicate 59 0) 5 i) w ! j ≡ digest_input v i x ! j
+block_law v i x u w m five ue me we j h = go (dec_lt j 5) (dec_lt 5 j) (dec_lt j (6 + m))
+  where
+    c : List ℕ
+    c = set (u ++ replicate 59 0) 5 i
+
+    long : length c ≡ 64
+    long = length-set (u ++ replicate 59 0) 5 i ∙ length-append u (replicate 59 0) ∙ rw ue (omega (arith, five))
+
+    front : length (take 6 c) ≡ 6
+    front = length-take-le 6 c (omega (arith, long))
+
+    piece : length w ≡ m
+    piece = rw we (length-take-le m x (omega (arith, me)))
+
+    below : j < 6 → put_mid 6 (6 + m - 6) c w ! j ≡ c ! j
+    below l = get_or-append (take 6 c) _ 0 j (omega (arith, front)) ∙ get_or-take 6 c j 0 l
+
+    behind : 6 ≤ j → put_mid 6 (6 + m - 6) c w ! j ≡ (w ++ drop (6 + m - 6) (drop 6 c)) ! (j - 6)
+    behind l = beyond (take 6 c) _ j (j - 6) (omega (arith, front))
+
+    go : Dec (j < 5) → Dec (5 < j) → Dec (j < 6 + m) → put_mid 6 (6 + m - 6) c w ! j ≡ digest_input v i x ! j
+    go (yes a) b d =
+        below (omega arith)
+        ∙ get_or-set_other (u ++ replicate 59 0) 5 j i 0 (λ q. omega arith)
+        ∙ get_or-append u (replicate 59 0) 0 j (rw ue (omega (arith, five)))
+        ∙ ap (λ (y : List ℕ). y ! j) ue
+        ∙ sym (input_version v i x j (omega (arith, five)))
+    go (no a) (no b) d =
+        let q : j ≡ 5 = omega arith in
+        below (omega arith)
+        ∙ ap (λ (y : ℕ). c ! y) q
+        ∙ get_or-set_same (u ++ replicate 59 0) 5 i 0 (rw (length-append u (replicate 59 0), ue) (omega (arith, five)))
+        ∙ sym (input_node v i x j (omega (arith, five)))
+    go (no a) (yes b) (yes d) =
+        behind (omega arith)
+        ∙ get_or-append w _ 0 (j - 6) (omega (arith, piece))
+        ∙ ap (λ (y : List ℕ). y ! (j - 6)) we
+        ∙ get_or-take m x (j - 6) 0 (omega arith)
+        ∙ sym (input_piece v i x j (j - 6) (omega (arith, five)))
+    go (no a) (yes b) (no d) =
+        let k = j - 6 - m in
+        let p : length x ≤ j - 6 = omega (arith, me) in
+        let q : 6 + (6 + m - 6 + k) ≡ j = omega arith in
+        behind (omega arith)
+        ∙ beyond w _ (j - 6) k (omega (arith, piece))
+        ∙ get_or-drop (6 + m - 6) (drop 6 c) k 0
+        ∙ get_or-drop 6 c (6 + m - 6 + k) 0
+        ∙ ap (λ (y : ℕ). c ! y) q
+        ∙ get_or-set_other (u ++ replicate 59 0) 5 j i 0 (λ e. omega arith)
+        ∙ beyond u (replicate 59 0) j (j - 5) (rw ue (omega (arith, five)))
+        ∙ zeros_at 59 (j - 5)
+        ∙ sym (input_piece v i x j (j - 6) (omega (arith, five)) ∙ get_or-eq_default x 0 p)
 
 pub length-digest : (v : List ℕ) (i : ℕ) (x : List ℕ) → length (piece_digest v i x) ≡ 32
 unfolding piece_digest

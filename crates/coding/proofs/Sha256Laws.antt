@@ -1,5 +1,10 @@
 -- Laws of the definitions of specs/Sha256, over plain numbers and lists, that the functions' proofs cite.
-use Rattle.std.proofs.Common.{◌≡◌, ℕ, zero, suc, ◌+◌, ◌-◌, ◌*◌, ◌/◌, ◌%◌, ◌^◌, ◌<◌, ◌≤◌, List, [], ◌∷◌, ◌++◌, length, take, set, replicate, sym, refl, ap, ◌∙◌, append_assoc, add_assoc, add-one, arith, length-append, length-take-le, get_or-set_other, get_or-take, get_or-set_same, take-suc-set, get_or-append-add, shr-shr}
+use Rattle.std.proofs.Common.{◌≡◌, ℕ, zero, suc, ◌+◌, ◌-◌, ◌*◌, ◌/◌, ◌%◌, ◌^◌, ◌<◌, ◌≤◌, List, [], ◌∷◌, ◌++◌, length, take, drop, set, replicate, sym, refl, ap, ◌∙◌, append_assoc, add_assoc, add-one, arith, length-append, length-take-le, get_or-set_other, get_or-take, get_or-set_same, take-suc-set, get_or-append-add, shr-shr, append-nil, length-drop, length-set, get_or-drop, take_all, take-suc, w32, w64}
+use Rattle.std.specs.Int.{to_be_bytes}
+use Rattle.std.proofs.Math.Nat.{div-div-eq-div-mul}
+use Rattle.std.proofs.lemmas.Slice.{take-put_mid}
+use borrow.Rule.Slice.PartMut.{put_mid}
+use Rattle.coding.proofs.BytesLaws.{zeros_at}
 use Prim.{Dec, yes, no}
 use native.Mathlib.Decide.{dec_lt}
 use lib.ListN.{length-replicate, get_or-replicate, get_or-append, get_or-eq_default}
@@ -8,17 +13,6 @@ use Rattle.coding.specs.Sha256.{◌!◌, bytes, padding, padded, word, words, sc
 -- a store right behind the first i elements
 stored : (l : List ℕ) (i a : ℕ) → i < length l → take (i + 1) (set l i a) ≡ take i l ++ (a ∷ [])
 stored l i a h = rw add-one (take-suc-set l i a h)
-
--- where the elements below j are those of f, and f j is stored at j, the elements below j + 1 are those of f
-pub each_turn : (f : ℕ → ℕ) (l : List ℕ) (j a : ℕ) → j < length l → ((k : ℕ) → k < j → l ! k ≡ f k) → a ≡ f j
-    → (k : ℕ) → k < j + 1 → set l j a ! k ≡ f k
-each_turn f l j a h o e k g = go (dec_lt k j)
-  where
-    go : Dec (k < j) → set l j a ! k ≡ f k
-    go (yes y) = get_or-set_other l j k a 0 (λ q. omega arith) ∙ o k y
-    go (no n) =
-        let q : k ≡ j = omega arith in
-        rw q (get_or-set_same l j a 0 h ∙ e)
 
 pub block_turn : (s m : List ℕ) (at j a : ℕ) → j < length m → take j m ≡ words s at j → a ≡ word s (at + 4 * j)
     → take (j + 1) (set m j a) ≡ words s at (j + 1)
@@ -100,6 +94,27 @@ joined_at_lem (x ∷ h) i g = go (dec_lt i 4) (joined_at_lem h (i - 4))
         let b : i % 4 ≡ (i - 4) % 4 = omega arith in
         rw (a, b) (beyond (bytes 4 x) (joined h) i (i - 4) (omega (arith, length-bytes 4 x)) ∙ r (omega arith))
 
+-- the bytes that the standard library gives
+be_word : (x : ℕ) → to_be_bytes w32 x ≡ bytes 4 x
+unfolding bytes
+be_word x = simp div-div-eq-div-mul
+
+be_length : (x : ℕ) → to_be_bytes w64 x ≡ bytes 8 x
+unfolding bytes
+be_length x = simp div-div-eq-div-mul
+
+joined-append : (a : List ℕ) (x : ℕ) → joined (a ++ (x ∷ [])) ≡ joined a ++ bytes 4 x
+unfolding joined
+joined-append [] x = append-nil (bytes 4 x)
+joined-append (y ∷ a) x = ap (λ (z : List ℕ). bytes 4 y ++ z) (joined-append a x) ∙ sym (append_assoc (bytes 4 y) (joined a) (bytes 4 x))
+
+-- where the words below i stand, and the bytes of word i are stored behind them
+pub joined_turn : (h b ys : List ℕ) (i : ℕ) → i < length h → length b ≡ 32 → 4 * i ≤ 28 → take (4 * i) b ≡ joined (take i h)
+    → ys ≡ to_be_bytes w32 (h ! i) → take (4 * (i + 1)) (put_mid (4 * i) (4 * i + 4 - 4 * i) b ys) ≡ joined (take (i + 1) h)
+joined_turn h b ys i l n f o e =
+    take-put_mid (4 * i) (4 * i + 4 - 4 * i) b ys (4 * (i + 1)) (rw e (omega arith)) (omega arith)
+    ∙ rw (o, e, be_word (h ! i), add-one i, take-suc h i 0 l) (sym (joined-append (take i h) (h ! i)))
+
 pub length-joined : (h : List ℕ) → length (joined h) ≡ 4 * length h
 unfolding joined
 length-joined [] = refl
@@ -146,16 +161,33 @@ module _ (n : ℕ) where
       let b : n % 2 ^ 64 * 8 % 2 ^ 64 ≡ n * 8 % 2 ^ 64 = omega arith in
       rw (a, b)
 
--- what follows the whole blocks of s
-pub rest_law : (s b : List ℕ) (from n : ℕ) → length s ≡ from + n → ((j : ℕ) → j < n → b ! j ≡ s ! (from + j))
-    → ((j : ℕ) → n ≤ j → b ! j ≡ 0) → (j : ℕ) → b ! j ≡ s ! (from + j)
-rest_law s b from n q o z j = go (dec_lt j n)
+-- what follows the whole blocks of s, and zeros
+pub rest_law : (s ys : List ℕ) → ys ≡ take (length s - (length s - length s % 64)) (drop (length s - length s % 64) s)
+    → (j : ℕ) → (ys ++ drop (length s % 64) (replicate 128 0)) ! j ≡ s ! (length s / 64 * 64 + j)
+rest_law s ys e j = go (dec_lt j r)
   where
-    go : Dec (j < n) → b ! j ≡ s ! (from + j)
-    go (yes y) = o j y
+    r : ℕ
+    r = length s % 64
+
+    from : ℕ
+    from = length s - r
+
+    same : ys ≡ drop from s
+    same = e ∙ take_all (length s - from) (drop from s) (omega (arith, length-drop from s))
+
+    long : length ys ≡ r
+    long = ap length same ∙ omega (arith, length-drop from s)
+
+    go : Dec (j < r) → (ys ++ drop r (replicate 128 0)) ! j ≡ s ! (length s / 64 * 64 + j)
+    go (yes y) =
+        let q : from + j ≡ length s / 64 * 64 + j = omega arith in
+        get_or-append ys _ 0 j (omega (arith, long)) ∙ ap (λ (x : List ℕ). x ! j) same ∙ get_or-drop from s j 0 ∙ ap (λ (x : ℕ). s ! x) q
     go (no h) =
-        let e : length s ≤ from + j = omega arith in
-        z j (omega arith) ∙ sym (get_or-eq_default s 0 e)
+        let p : length s ≤ length s / 64 * 64 + j = omega arith in
+        beyond ys _ j (j - r) (omega (arith, long))
+        ∙ get_or-drop r (replicate 128 0) (j - r) 0
+        ∙ zeros_at 128 (r + (j - r))
+        ∙ sym (get_or-eq_default s 0 p)
 
 -- and the padding behind it: all but the length stands once the one bit is stored
 module _ (s : List ℕ) (n e : ℕ) (ends : e ≡ length s % 64 + length (padding n)) where
@@ -183,12 +215,41 @@ module _ (s : List ℕ) (n e : ℕ) (ends : e ≡ length s % 64 + length (paddin
           ∙ get_or-set_same b r 0x80 0 (omega arith)
           ∙ sym (beyond s (padding n) i 0 (omega arith) ∙ padding_one n)
 
-  pub last-length : (j : ℕ) → e ≤ j + 8 → j < e
+  last-length : (j : ℕ) → e ≤ j + 8 → j < e
       → (s ++ padding n) ! (length s / 64 * 64 + j) ≡ (n * 8) % 2 ^ 64 / 2 ^ (8 * (e - 1 - j)) % 256
   last-length j g h =
       let i = j - length s % 64 in
       let r : length s % 64 ≤ j = omega (arith, length-padding n) in
       beyond s (padding n) (length s / 64 * 64 + j) i (omega arith) ∙ padding-length n i (e - 1 - j) (omega arith) (omega arith)
+
+  -- and all once the length does, in the last eight bytes
+  pub last_law : (b ys : List ℕ) → length b ≡ 128 → e ≤ 128 → ((j : ℕ) → b ! j ≡ s ! (length s / 64 * 64 + j))
+      → ys ≡ to_be_bytes w64 ((n * 8) % 2 ^ 64) → (j : ℕ) → j < e
+      → put_mid (e - 8) (e - (e - 8)) (set b (length s % 64) 0x80) ys ! j ≡ (s ++ padding n) ! (length s / 64 * 64 + j)
+  last_law b ys l m o d j h = go (dec_lt j (e - 8))
+    where
+      c : List ℕ
+      c = set b (length s % 64) 0x80
+
+      eight : 8 ≤ e
+      eight = omega (arith, length-padding n)
+
+      front : length (take (e - 8) c) ≡ e - 8
+      front = length-take-le (e - 8) c (rw (length-set b (length s % 64) 0x80) (omega arith))
+
+      go : Dec (j < e - 8) → put_mid (e - 8) (e - (e - 8)) c ys ! j ≡ (s ++ padding n) ! (length s / 64 * 64 + j)
+      go (yes y) =
+          get_or-append (take (e - 8) c) _ 0 j (omega (arith, front))
+          ∙ get_or-take (e - 8) c j 0 y
+          ∙ last_start b l o j y
+      go (no g) =
+          let i = j - (e - 8) in
+          let q : i + (e - 1 - j) + 1 ≡ 8 = omega (arith, eight) in
+          beyond (take (e - 8) c) _ j i (omega (arith, front))
+          ∙ get_or-append ys _ 0 i (rw d (omega (arith, eight)))
+          ∙ ap (λ (x : List ℕ). x ! i) (d ∙ be_length ((n * 8) % 2 ^ 64))
+          ∙ bytes_at 8 ((n * 8) % 2 ^ 64) i (e - 1 - j) q
+          ∙ sym (last-length j (omega arith) h)
 
 -- words of the same bytes are the same
 words_same : (a b : List ℕ) (x y n : ℕ) → ((j : ℕ) → j < 4 * n → a ! (x + j) ≡ b ! (y + j)) → words a x n ≡ words b y n

@@ -16,6 +16,12 @@ unfoldable pub joined : ℕ → List ℕ → List ℕ → ℕ → List ℕ
 joined F room nodes zero = []
 joined F room nodes (suc j) = joined F room nodes j ++ interpolate nodes (λ i. slice_index room ((i - 1) * F + j))
 
+-- a joined frame: the nodes whose pieces it is of, its columns, and its bytes, one column after the other
+pub record JoinedFrame : Type 0 where
+  pub k : ℕ
+  pub columns : ℕ
+  pub bytes : List ℕ
+
 -- the page of a frame: the length must be true, the zeros the fewest, and no other filling
 unfoldable pub page_of : ℕ → List ℕ → Option (List ℕ)
 unfolding all

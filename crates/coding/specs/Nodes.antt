@@ -1,6 +1,5 @@
 -- The nodes that a bit map names, and the lengths of their pieces.
-use Rattle.std.specs.Prelude.{◌≡◌, ℕ, zero, suc, ◌-◌, ◌/◌, ◌%◌, ◌^◌, Bool, true, cond, ◌&&◌, List, [], ◌∷◌, ◌++◌, length, take, ◌==◌, nat_eq, nat_le, slice_index}
-use Rattle.coding.specs.declared.nodes.Nodes.{Nodes}
+use Rattle.std.specs.Prelude.{ℕ, zero, suc, ◌-◌, ◌/◌, ◌%◌, ◌^◌, Bool, true, cond, ◌&&◌, List, [], ◌∷◌, ◌++◌, ◌==◌, nat_eq, nat_le, slice_index}
 
 unfoldable pub all : (ℕ → Bool) → List ℕ → Bool
 all f [] = true
@@ -22,8 +21,3 @@ sound F lens (x ∷ xs) =
 unfoldable pub first_length : List ℕ → List ℕ → ℕ
 first_length lens [] = 0
 first_length lens (x ∷ xs) = slice_index lens (x - 1)
-
--- the first entries of the list are the nodes from 1 to i
-pub record Named (map i : ℕ) (nodes : Nodes) : Type 0 where
-  pub many : nodes.count ≡ length (nodes_of map i)
-  pub first : take nodes.count nodes.list ≡ nodes_of map i

@@ -1,7 +1,5 @@
 -- What the private functions of joining say of the output, which frame bytes from 4 on fill.
-use Rattle.std.specs.Prelude.{◌≡◌, ℕ, ◌+◌, ◌-◌, ◌*◌, ◌<◌, ◌≤◌, List, length, take, slice_index}
-use Rattle.coding.specs.Field.{product, sum}
-use Rattle.coding.specs.Polynomial.{interpolate}
+use Rattle.std.specs.Prelude.{◌≡◌, ℕ, ◌+◌, ◌-◌, ◌*◌, ◌<◌, ◌≤◌, List, length, slice_index}
 
 -- u is t, with frame byte g p at place p - 4 for each p that is done and whose place is below len, and with nothing else changed
 -- but to such a byte
@@ -22,9 +20,3 @@ Within room k F nodes = (s : ℕ) → s < k → (1 ≤ slice_index nodes s) × (
 -- byte j of the piece of node i
 abbrev pub byte_in : ℕ → List ℕ → ℕ → ℕ → ℕ
 byte_in F room j i = slice_index room ((i - 1) * F + j)
-
--- the right half of the row weighs the nodes' values to coefficient r
-abbrev pub Weighs : ℕ → List ℕ → ℕ → List ℕ → Type 0
-Weighs k nodes r row =
-    (f : ℕ → ℕ) → ((x : ℕ) → f x < 256)
-    → slice_index (interpolate (take k nodes) f) r ≡ sum k (λ s. product (slice_index row (16 + s)) (f (slice_index nodes s)))

@@ -1,6 +1,8 @@
-// What splitting and joining answer.
+// What splitting and joining answer when they refuse.
+ghost use Rattle.std.specs.Prelude.{◌≡◌};
+ghost use Rattle.coding.specs.Answer.{number};
 
-#[derive(Clone, Copy)]
+#[derive(Clone, Copy, Debug, PartialEq, Eq)]
 pub enum Refusal {
     Measures,
     Short,
@@ -10,16 +12,18 @@ pub enum Refusal {
     TooFew,
 }
 
-#[derive(Clone, Copy)]
-pub enum SplitAnswer {
-    // The length of each piece.
-    Pieces(usize),
-    Refused(Refusal),
-}
-
-#[derive(Clone, Copy)]
-pub enum JoinAnswer {
-    // The length of the page at the front of the output.
-    Page(usize),
-    Refused(Refusal),
+impl Refusal {
+    // Document 01's number.
+    pub fn number(self) -> usize
+        ensures { result ≡ number self }
+    {
+        match self {
+            Refusal::Measures => 1,
+            Refusal::Short => 2,
+            Refusal::Number => 3,
+            Refusal::Form => 4,
+            Refusal::TooLong => 6,
+            Refusal::TooFew => 9,
+        }
+    }
 }

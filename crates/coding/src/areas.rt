@@ -2,62 +2,26 @@
 ghost use Rattle.std.specs.Prelude.{◌≡◌, ℕ, ◌+◌, ◌<◌, ◌≤◌, length, slice_index};
 ghost use Rattle.std.proofs.Math.Seq.{paste};
 
-// The lanes at a place of the room; the count is known, so that this is one load.
-pub fn load_whole(room: &[u8], at: usize) -> [u8; 16]
-    requires { at + 16 ≤ length room.now }
-    ensures { (l : ℕ) → l < 16 → slice_index result l ≡ slice_index room.now (at + l) }
-{
-    let mut v = [0u8; 16];
-    for l in 0..16 {
-        v[l] = room[at + l];
-    }
-    v
-}
-
-pub fn load_part(room: &[u8], at: usize, m: usize) -> [u8; 16]
+// The m lanes at a place of the room: one instruction where a caller's m is the number 16.
+#[inline(always)]
+pub fn load(room: &[u8], at: usize, m: usize) -> [u8; 16]
     requires { (at + m ≤ length room.now) × (m ≤ 16) }
     ensures { (l : ℕ) → l < m → slice_index result l ≡ slice_index room.now (at + l) }
 {
     let mut v = [0u8; 16];
-    for l in 0..m {
-        v[l] = room[at + l];
-    }
+    v[..m].copy_from_slice(&room[at..at + m]);
     v
 }
 
-pub fn store_whole(room: &mut [u8], at: usize, v: [u8; 16])
-    requires { at + 16 ≤ length room.old }
-    ensures { room.new ≡ paste room.old at v 16 }
-{
-    for l in 0..16 {
-        room[at + l] = v[l];
-    }
-}
-
-pub fn store_part(room: &mut [u8], at: usize, m: usize, v: [u8; 16])
-    requires { (at + m ≤ length room.old) × (m ≤ 16) }
-    ensures { room.new ≡ paste room.old at v m }
-{
-    for l in 0..m {
-        room[at + l] = v[l];
-    }
-}
-
+// A whole block goes apart, since there the store is one instruction.
+#[inline(always)]
 pub fn store(room: &mut [u8], at: usize, m: usize, v: [u8; 16])
     requires { (at + m ≤ length room.old) × (m ≤ 16) }
     ensures { room.new ≡ paste room.old at v m }
 {
     if m == 16 {
-        store_whole(room, at, v);
+        room[at..at + 16].copy_from_slice(&v);
     } else {
-        store_part(room, at, m, v);
+        room[at..at + m].copy_from_slice(&v[..m]);
     }
-}
-
-// The columns of the next block.
-pub fn block(left: usize) -> usize
-    requires { 0 < left }
-    ensures { (0 < result) × (result ≤ 16) × (result ≤ left) }
-{
-    if left < 16 { left } else { 16 }
 }

@@ -1,11 +1,10 @@
-// The field of 256 elements by its two tables. A table is a constant that is copied to the stack where it is named, so whoever
-// multiplies takes a copy once and lends it.
+// The field of 256 elements by its two tables.
 ghost use Rattle.std.specs.Prelude.{◌≡◌, ◌<◌, ◌≢◌, slice_index};
 ghost use Rattle.coding.specs.Field.{product, power, inverse};
-ghost use Rattle.coding.specs.Tables.{exp_table, log_table};
+ghost use Rattle.coding.specs.Tables.{log_table};
 
 // Each entry is twice the last modulo hex 11D, and LOG inverts it: `TableLaws`: `table_rule`.
-const EXP: [u8; 255] = [
+static EXP: [u8; 255] = [
     1, 2, 4, 8, 16, 32, 64, 128, 29, 58, 116, 232, 205, 135, 19, 38, 76, 152, 45, 90, 180, 117,
     234, 201, 143, 3, 6, 12, 24, 48, 96, 192, 157, 39, 78, 156, 37, 74, 148, 53, 106, 212, 181,
     119, 238, 193, 159, 35, 70, 140, 5, 10, 20, 40, 80, 160, 93, 186, 105, 210, 185, 111, 222, 161,
@@ -22,7 +21,7 @@ const EXP: [u8; 255] = [
 ];
 
 // The entry for 0 is 0 and is never used.
-const LOG: [u8; 256] = [
+static LOG: [u8; 256] = [
     0, 0, 1, 25, 2, 50, 26, 198, 3, 223, 51, 238, 27, 104, 199, 75, 4, 100, 224, 14, 52, 141, 239,
     129, 28, 193, 105, 248, 200, 8, 76, 113, 5, 138, 101, 47, 225, 36, 15, 33, 53, 147, 142, 218,
     240, 18, 130, 69, 29, 181, 194, 125, 106, 39, 249, 185, 201, 154, 9, 120, 77, 228, 114, 166, 6,
@@ -38,49 +37,31 @@ const LOG: [u8; 256] = [
     214, 244, 234, 168, 80, 88, 175,
 ];
 
-pub fn exp_table() -> [u8; 255]
-    ensures { result ≡ exp_table }
-{
-    EXP
-}
-
-pub fn log_table() -> [u8; 256]
-    ensures { result ≡ log_table }
-{
-    LOG
-}
-
 // The logarithm of an element other than 0; that of 0 says nothing.
-fn log_of(a: u8, log: &[u8; 256]) -> usize
-    requires { log.now ≡ log_table }
+fn log_of(a: u8) -> usize
     ensures { (result ≡ slice_index log_table a) × (result < 255) }
 {
-    log[a as usize] as usize
+    LOG[a as usize] as usize
 }
 
-fn power_of_two(i: usize, exp: &[u8; 255]) -> u8
-    requires { exp.now ≡ exp_table }
+fn power_of_two(i: usize) -> u8
     ensures { result ≡ power 2 i }
 {
-    exp[i % 255]
+    EXP[i % 255]
 }
 
-pub fn mul(a: u8, b: u8, exp: &[u8; 255], log: &[u8; 256]) -> u8
-    requires { (exp.now ≡ exp_table) × (log.now ≡ log_table) }
+pub fn mul(a: u8, b: u8) -> u8
     ensures { result ≡ product a b }
 {
-    if a == 0 {
+    if a == 0 || b == 0 {
         return 0;
     }
-    if b == 0 {
-        return 0;
-    }
-    power_of_two(log_of(a, log) + log_of(b, log), exp)
+    power_of_two(log_of(a) + log_of(b))
 }
 
-pub fn inv(a: u8, exp: &[u8; 255], log: &[u8; 256]) -> u8
-    requires { (a ≢ 0) × (exp.now ≡ exp_table) × (log.now ≡ log_table) }
+pub fn inv(a: u8) -> u8
+    requires { a ≢ 0 }
     ensures { result ≡ inverse a }
 {
-    power_of_two(255 - log_of(a, log), exp)
+    power_of_two(255 - log_of(a))
 }

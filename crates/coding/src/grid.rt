@@ -1,146 +1,106 @@
 // The grid of the powers of some points, reduced to the identity beside its inverse.
-ghost use Rattle.std.specs.Prelude.{◌≡◌, ℕ, ◌<◌, ◌≤◌, [], take, ◌≢◌, slice_index, slice_index_or};
+ghost use Rattle.std.specs.Prelude.{◌≡◌, ℕ, ◌<◌, ◌≤◌, [], length, ◌≢◌, slice_index, slice_index_or};
 ghost use Rattle.coding.specs.Field.{◌⊕◌, product};
-ghost use Rattle.coding.specs.Tables.{exp_table, log_table};
 ghost use Rattle.coding.specs.Grid.{Distinct, entry, Powers, Scaled, Added, Cleared, Reduced, Inverts};
 
-use super::field::{exp_table, inv, log_table, mul};
+use super::field::{inv, mul};
 
 // The powers of `x` beside row `s` of the identity.
-fn powers(x: u8, s: usize, k: usize, exp: &[u8; 255], log: &[u8; 256]) -> [u8; 32]
-    requires { (s < 16) × (k ≤ 16) × (exp.now ≡ exp_table) × (log.now ≡ log_table) }
+fn powers(x: u8, s: usize, k: usize) -> [u8; 32]
+    requires { (s < 16) × (k ≤ 16) }
     ensures { Powers k x s result }
 {
     let mut row = [0u8; 32];
     let mut power = 1;
-    let mut t = 0;
-    while t < k {
+    for t in 0..k {
         row[t] = power;
-        power = mul(power, x, exp, log);
-        t += 1;
+        power = mul(power, x);
     }
     row[16 + s] = 1;
     row
 }
 
 // Row `s` is of node `s`.
-fn build(nodes: [u8; 16], k: usize, exp: &[u8; 255], log: &[u8; 256]) -> [[u8; 32]; 16]
-    requires { (k ≤ 16) × (exp.now ≡ exp_table) × (log.now ≡ log_table) }
-    ensures { (s : ℕ) → s < k → Powers k (slice_index nodes s) s (slice_index_or result s []) }
+fn build(nodes: &[u8]) -> [[u8; 32]; 16]
+    requires { length nodes.now ≤ 16 }
+    ensures { (s : ℕ) → s < length nodes.now → Powers (length nodes.now) (slice_index nodes.now s) s (slice_index_or result s []) }
 {
     let mut m = [[0u8; 32]; 16];
-    let mut s = 0;
-    while s < k {
-        let row = powers(nodes[s], s, k, exp, log);
-        m[s] = row;
-        s += 1;
+    for s in 0..nodes.len() {
+        m[s] = powers(nodes[s], s, nodes.len());
     }
     m
 }
 
 // The sum of `a` and `f` times `b`.
-fn added(a: u8, f: u8, b: u8, exp: &[u8; 255], log: &[u8; 256]) -> u8
-    requires { (exp.now ≡ exp_table) × (log.now ≡ log_table) }
+fn added(a: u8, f: u8, b: u8) -> u8
     ensures { result ≡ a ⊕ product f b }
 {
-    a ^ mul(f, b, exp, log)
+    a ^ mul(f, b)
 }
 
 // The sum of `row` and `f` times `other`.
-fn add_row(
-    row: [u8; 32],
-    f: u8,
-    other: [u8; 32],
-    k: usize,
-    exp: &[u8; 255],
-    log: &[u8; 256],
-) -> [u8; 32]
-    requires { (k ≤ 16) × (exp.now ≡ exp_table) × (log.now ≡ log_table) }
+fn add_row(row: [u8; 32], f: u8, other: [u8; 32], k: usize) -> [u8; 32]
+    requires { k ≤ 16 }
     ensures { Added k f row other result }
 {
     let mut out = row;
-    let mut t = 0;
-    while t < k {
-        let left = added(row[t], f, other[t], exp, log);
-        let right = added(row[16 + t], f, other[16 + t], exp, log);
-        out[t] = left;
-        out[16 + t] = right;
-        t += 1;
+    for t in 0..k {
+        out[t] = added(row[t], f, other[t]);
+        out[16 + t] = added(row[16 + t], f, other[16 + t]);
     }
     out
 }
 
-fn scale(row: [u8; 32], f: u8, k: usize, exp: &[u8; 255], log: &[u8; 256]) -> [u8; 32]
-    requires { (k ≤ 16) × (exp.now ≡ exp_table) × (log.now ≡ log_table) }
+fn scale(row: [u8; 32], f: u8, k: usize) -> [u8; 32]
+    requires { k ≤ 16 }
     ensures { Scaled k f row result }
 {
-    add_row([0u8; 32], f, row, k, exp, log)
+    add_row([0u8; 32], f, row, k)
 }
 
 // Row `r`, once the row `pivot` has cleared column `c`.
-fn clear(
-    row: [u8; 32],
-    r: usize,
-    pivot: [u8; 32],
-    c: usize,
-    k: usize,
-    exp: &[u8; 255],
-    log: &[u8; 256],
-) -> [u8; 32]
-    requires { (c < 16) × (k ≤ 16) × (exp.now ≡ exp_table) × (log.now ≡ log_table) }
+fn clear(row: [u8; 32], r: usize, pivot: [u8; 32], c: usize, k: usize) -> [u8; 32]
+    requires { (c < 16) × (k ≤ 16) }
     ensures { Cleared k c r pivot row result }
 {
     if r == c {
         return pivot;
     }
-    add_row(row, row[c], pivot, k, exp, log)
+    add_row(row, row[c], pivot, k)
 }
 
-fn clear_rows(
-    m: [[u8; 32]; 16],
-    pivot: [u8; 32],
-    c: usize,
-    k: usize,
-    exp: &[u8; 255],
-    log: &[u8; 256],
-) -> [[u8; 32]; 16]
-    requires { (c < 16) × (k ≤ 16) × (exp.now ≡ exp_table) × (log.now ≡ log_table) }
+fn clear_rows(m: [[u8; 32]; 16], pivot: [u8; 32], c: usize, k: usize) -> [[u8; 32]; 16]
+    requires { (c < 16) × (k ≤ 16) }
     ensures { (r : ℕ) → r < k → Cleared k c r pivot (slice_index_or m r []) (slice_index_or result r []) }
 {
     let mut out = m;
-    let mut r = 0;
-    while r < k {
-        let row = clear(m[r], r, pivot, c, k, exp, log);
-        out[r] = row;
-        r += 1;
+    for r in 0..k {
+        out[r] = clear(m[r], r, pivot, c, k);
     }
     out
 }
 
 // Column `c` becomes the identity's.
-fn reduce(m: [[u8; 32]; 16], c: usize, k: usize, exp: &[u8; 255], log: &[u8; 256]) -> [[u8; 32]; 16]
-    requires { (c < k) × (k ≤ 16) × (entry m c c ≢ 0) × (exp.now ≡ exp_table) × (log.now ≡ log_table) }
+fn reduce(m: [[u8; 32]; 16], c: usize, k: usize) -> [[u8; 32]; 16]
+    requires { (c < k) × (k ≤ 16) × (entry m c c ≢ 0) }
     ensures { Reduced k c m result }
 {
-    let f = inv(m[c][c], exp, log);
-    let pivot = scale(m[c], f, k, exp, log);
-    clear_rows(m, pivot, c, k, exp, log)
+    let f = inv(m[c][c]);
+    let pivot = scale(m[c], f, k);
+    clear_rows(m, pivot, c, k)
 }
 
-// The inverse of the grid of the powers of the first `k` nodes, beside the identity. No pivot is 0: else the polynomial whose
-// roots are the nodes before node `c` would have a further root there.
-pub fn invert(nodes: [u8; 16], k: usize) -> [[u8; 32]; 16]
-    requires { (k ≤ 16) × Distinct (take k nodes) }
-    ensures { Inverts k nodes result }
+// The inverse of the grid of the powers of the nodes, beside the identity. No pivot is 0: else the polynomial whose roots are the
+// nodes before node `c` would have a further root there.
+pub fn invert(nodes: &[u8]) -> [[u8; 32]; 16]
+    requires { (length nodes.now ≤ 16) × Distinct nodes.now }
+    ensures { Inverts (length nodes.now) nodes.now result }
 {
-    let exp = exp_table();
-    let log = log_table();
-    let mut m = build(nodes, k, &exp, &log);
-    let mut c = 0;
-    while c < k {
-        let next = reduce(m, c, k, &exp, &log);
+    let mut m = build(nodes);
+    for c in 0..nodes.len() {
+        let next = reduce(m, c, nodes.len());
         m = next;
-        c += 1;
     }
     m
 }

@@ -1,222 +1,162 @@
 // Joining pieces into their page, which is written into the output only.
-ghost use Rattle.std.specs.Prelude.{◌≡◌, ℕ, ◌+◌, ◌-◌, ◌*◌, ◌^◌, ◌<◌, ◌≤◌, true, length, take, drop, nat_eq, slice_index};
-ghost use Rattle.coding.specs.Field.{product, sum};
-ghost use Rattle.coding.specs.Grid.{Inverts, Distinct};
+ghost use Rattle.std.specs.Prelude.{◌≡◌, ℕ, ◌+◌, ◌-◌, ◌*◌, ◌^◌, ◌<◌, ◌≤◌, true, length, drop, nat_eq, slice_index};
+ghost use Rattle.coding.specs.Grid.{Distinct};
 ghost use Rattle.coding.specs.Bytes.{from_four};
-ghost use Rattle.coding.specs.Output.{Placed, Stride, Within, Weighs, byte_in};
+ghost use Rattle.coding.specs.Output.{Placed, Stride, Within};
 ghost use Rattle.coding.specs.Pieces.{proper};
-ghost use Rattle.coding.specs.Answer.{join_outcome};
+ghost use Rattle.coding.specs.Answer.{outcome};
 ghost use Rattle.coding.specs.Nodes.{all};
 ghost use Rattle.coding.specs.Join.{joined, page_of, page_end, Joins, join as joinEnd};
 
-use crate::answer::{JoinAnswer, Refusal};
-use crate::areas::{block, load_part, load_whole};
+use crate::answer::Refusal;
+use crate::areas::load;
 use crate::grid::invert;
-use crate::lanes::{add, fold, scale, spread};
-use crate::measures::proper_measures;
+use crate::lanes::{fold, spread};
+use crate::measures::measured;
 use crate::nodes::{length_of, named, sound_lengths, within};
 use crate::output::scatter;
+use std::marker::Model;
 
-// Row r of the frame in the 16 columns from j on: the nodes' bytes, weighed. The count is known here, so that a load is one
-// instruction.
-fn weigh_whole(
-    row: [u8; 32],
-    nodes: [u8; 16],
-    k: usize,
-    f: usize,
-    j: usize,
-    room: &[u8],
-) -> [u8; 16]
-    requires { (k ≤ 16) × (f ≤ 4096) × (j + 16 ≤ f) × Within (length room.now) k f nodes }
-    ensures { (l : ℕ) → l < 16 → slice_index result l ≡ sum k (λ s. product (byte_in f room.now (j + l) (slice_index nodes s)) (slice_index row (16 + s))) }
-{
-    let mut sums = [[0u8; 16]; 8];
-    for s in 0..k {
-        let at = (nodes[s] as usize - 1) * f + j;
-        let next = spread(sums, load_whole(room, at), row[16 + s]);
-        sums = next;
-    }
-    fold(sums)
-}
-
-fn weigh_part(
-    row: [u8; 32],
-    nodes: [u8; 16],
-    k: usize,
-    f: usize,
-    j: usize,
-    m: usize,
-    room: &[u8],
-) -> [u8; 16]
-    requires { (k ≤ 16) × (f ≤ 4096) × (m ≤ 16) × (j + m ≤ f) × Within (length room.now) k f nodes }
-    ensures { (l : ℕ) → l < m → slice_index result l ≡ sum k (λ s. product (byte_in f room.now (j + l) (slice_index nodes s)) (slice_index row (16 + s))) }
-{
-    let mut sums = [0u8; 16];
-    for s in 0..k {
-        let at = (nodes[s] as usize - 1) * f + j;
-        let next = add(sums, scale(load_part(room, at, m), row[16 + s]));
-        sums = next;
-    }
-    sums
-}
-
-fn weigh(
-    row: [u8; 32],
-    nodes: [u8; 16],
-    k: usize,
-    f: usize,
-    j: usize,
-    m: usize,
-    room: &[u8],
-) -> [u8; 16]
-    requires { (k ≤ 16) × (f ≤ 4096) × (m ≤ 16) × (j + m ≤ f) × Within (length room.now) k f nodes }
-    ensures { (l : ℕ) → l < m → slice_index result l ≡ sum k (λ s. product (byte_in f room.now (j + l) (slice_index nodes s)) (slice_index row (16 + s))) }
-{
-    if m == 16 {
-        weigh_whole(row, nodes, k, f, j, room)
-    } else {
-        weigh_part(row, nodes, k, f, j, m, room)
-    }
-}
-
-// Row r of the frame, 16 columns at a time.
-fn write_row(
-    row: [u8; 32],
-    r: usize,
-    nodes: [u8; 16],
-    k: usize,
+// The frame whose pieces some nodes have, each in its area of f bytes of the room. It is read by the grid that weighs the pieces, and
+// never laid out.
+#[derive(Drop)]
+struct Frame<'a> {
+    nodes: &'a [u8],
     f: usize,
     columns: usize,
-    len: usize,
-    room: &[u8],
-    out: &mut [u8],
-)
-    requires { (r < k) × (k ≤ 16) × (f ≤ 4096) × (columns ≤ f) × (len ≤ length out.old) × Within (length room.now) k f nodes × Weighs k nodes r row }
-    ensures { Placed (λ p. slice_index (joined f room.now (take k nodes) columns) p) len (Stride r k columns) out.old out.new }
-{
-    let mut j = 0;
-    while j < columns {
-        let m = block(columns - j);
-        let v = weigh(row, nodes, k, f, j, m, room);
-        scatter(v, m, j * k + r, k, len, out);
-        j += m;
-    }
-}
-
-fn write_page(
+    room: &'a [u8],
     grid: [[u8; 32]; 16],
-    nodes: [u8; 16],
-    k: usize,
-    f: usize,
-    columns: usize,
-    len: usize,
-    room: &[u8],
-    out: &mut [u8],
-)
-    requires { (1 ≤ k) × (k ≤ 16) × (f ≤ 4096) × (columns ≤ f) × (len ≤ length out.old) × Within (length room.now) k f nodes × Inverts k nodes grid }
-    ensures { Placed (λ p. slice_index (joined f room.now (take k nodes) columns) p) len (λ p. p < columns * k) out.old out.new }
-{
-    for r in 0..k {
-        write_row(grid[r], r, nodes, k, f, columns, len, room, out);
+}
+
+impl<'a> Model for Frame<'a> {
+    ghost use Rattle.std.specs.Prelude.{◌≤◌, length};
+    ghost use Rattle.coding.specs.Bytes.{Bytes};
+    ghost use Rattle.coding.specs.Grid.{Inverts};
+    ghost use Rattle.coding.specs.Output.{Within};
+    ghost use Rattle.coding.specs.Join.{JoinedFrame, joined};
+
+    ghost Value = { JoinedFrame };
+
+    ghost view = { λ a. record { k = length a.nodes.now; columns = a.columns; bytes = joined a.f a.room.now a.nodes.now a.columns } };
+
+    ghost invariant = { λ a. (1 ≤ length a.nodes.now) × (length a.nodes.now ≤ 16) × (a.f ≤ 4096) × (a.columns ≤ a.f)
+        × Within (length a.room.now) (length a.nodes.now) a.f a.nodes.now × Bytes a.room.now × Inverts (length a.nodes.now) a.nodes.now a.grid };
+}
+
+impl<'a> Frame<'a> {
+    fn size(&self) -> usize
+        ensures { result ≡ length self.now.bytes }
+    {
+        self.columns * self.nodes.len()
     }
-}
 
-// Byte p of the joined frame; its columns are for the contract alone.
-fn joined_byte(
-    grid: [[u8; 32]; 16],
-    nodes: [u8; 16],
-    k: usize,
-    f: usize,
-    columns: usize,
-    p: usize,
-    room: &[u8],
-) -> u8
-    requires { (1 ≤ k) × (k ≤ 16) × (f ≤ 4096) × (columns ≤ f) × (p < columns * k) × Within (length room.now) k f nodes × Inverts k nodes grid }
-    ensures { result ≡ slice_index (joined f room.now (take k nodes) columns) p }
-{
-    let v = weigh(grid[p % k], nodes, k, f, p / k, 1, room);
-    v[0]
-}
-
-// The page's length, as the frame has it.
-fn joined_length(
-    grid: [[u8; 32]; 16],
-    nodes: [u8; 16],
-    k: usize,
-    f: usize,
-    columns: usize,
-    room: &[u8],
-) -> usize
-    requires { (1 ≤ k) × (k ≤ 16) × (f ≤ 4096) × (columns ≤ f) × (4 ≤ columns * k) × Within (length room.now) k f nodes × Inverts k nodes grid }
-    ensures { result ≡ from_four (joined f room.now (take k nodes) columns) }
-{
-    let a = joined_byte(grid, nodes, k, f, columns, 0, room);
-    let b = joined_byte(grid, nodes, k, f, columns, 1, room);
-    let c = joined_byte(grid, nodes, k, f, columns, 2, room);
-    let d = joined_byte(grid, nodes, k, f, columns, 3, room);
-    number_of(a, b, c, d)
-}
-
-fn number_of(a: u8, b: u8, c: u8, d: u8) -> usize
-    ensures { result ≡ ((a * 256 + b) * 256 + c) * 256 + d }
-{
-    ((a as usize * 256 + b as usize) * 256 + c as usize) * 256 + d as usize
-}
-
-// The frame is zero from byte `from` on.
-fn zero_from(
-    grid: [[u8; 32]; 16],
-    nodes: [u8; 16],
-    k: usize,
-    f: usize,
-    columns: usize,
-    from: usize,
-    room: &[u8],
-) -> bool
-    requires { (1 ≤ k) × (k ≤ 16) × (f ≤ 4096) × (columns ≤ f) × (from ≤ columns * k) × Within (length room.now) k f nodes × Inverts k nodes grid }
-    ensures { result ≡ all (λ b. nat_eq b 0) (drop from (joined f room.now (take k nodes) columns)) }
-{
-    let end = columns * k;
-    let mut p = from;
-    while p < end {
-        if joined_byte(grid, nodes, k, f, columns, p, room) != 0 {
-            return false;
+    // Row r in the m columns from j on: the nodes' bytes, weighed.
+    #[inline(always)]
+    fn weighed(&self, r: usize, j: usize, m: usize) -> [u8; 16]
+        requires { (r < self.now.k) × (m ≤ 16) × (j + m ≤ self.now.columns) }
+        ensures { (l : ℕ) → l < m → slice_index result l ≡ slice_index self.now.bytes ((j + l) * self.now.k + r) }
+    {
+        let mut sums = [[0u8; 16]; 8];
+        for s in 0..self.nodes.len() {
+            let at = (usize::from(self.nodes[s]) - 1) * self.f + j;
+            let next = spread(sums, load(self.room, at, m), self.grid[r][16 + s]);
+            sums = next;
         }
-        p += 1;
+        fold(sums)
     }
-    true
+
+    // The same; a whole block goes apart, so that its count is known and a load is one instruction.
+    fn weigh(&self, r: usize, j: usize, m: usize) -> [u8; 16]
+        requires { (r < self.now.k) × (m ≤ 16) × (j + m ≤ self.now.columns) }
+        ensures { (l : ℕ) → l < m → slice_index result l ≡ slice_index self.now.bytes ((j + l) * self.now.k + r) }
+    {
+        if m == 16 {
+            self.weighed(r, j, 16)
+        } else {
+            self.weighed(r, j, m)
+        }
+    }
+
+    // Row r, 16 columns at a time, to its places in the page.
+    fn write_row(&self, r: usize, len: usize, out: &mut [u8])
+        requires { (r < self.now.k) × (len ≤ length out.old) }
+        ensures { Placed (λ p. slice_index self.now.bytes p) len (Stride r self.now.k self.now.columns) out.old out.new }
+    {
+        let k = self.nodes.len();
+        for j in (0..self.columns).step_by(16) {
+            let m = (self.columns - j).min(16);
+            scatter(self.weigh(r, j, m), m, j * k + r, k, len, out);
+        }
+    }
+
+    // The page, once its length is known.
+    fn write_page(&self, len: usize, out: &mut [u8])
+        requires { len ≤ length out.old }
+        ensures { Placed (λ p. slice_index self.now.bytes p) len (λ p. p < length self.now.bytes) out.old out.new }
+    {
+        for r in 0..self.nodes.len() {
+            self.write_row(r, len, out);
+        }
+    }
+
+    fn byte(&self, p: usize) -> u8
+        requires { p < length self.now.bytes }
+        ensures { result ≡ slice_index self.now.bytes p }
+    {
+        let k = self.nodes.len();
+        self.weigh(p % k, p / k, 1)[0]
+    }
+
+    // The page's length, as the frame has it.
+    fn page_length(&self) -> usize
+        requires { 4 ≤ length self.now.bytes }
+        ensures { result ≡ from_four self.now.bytes }
+    {
+        u32::from_be_bytes([self.byte(0), self.byte(1), self.byte(2), self.byte(3)]) as usize
+    }
+
+    fn zero_from(&self, from: usize) -> bool
+        requires { from ≤ length self.now.bytes }
+        ensures { result ≡ all (λ b. nat_eq b 0) (drop from self.now.bytes) }
+    {
+        for p in from..self.size() {
+            if self.byte(p) != 0 {
+                return false;
+            }
+        }
+        true
+    }
 }
 
 // Length and filling are known before any output byte is written.
 fn join_columns(
-    nodes: [u8; 16],
-    k: usize,
+    nodes: &[u8],
     f: usize,
     columns: usize,
     room: &[u8],
     out: &mut [u8],
-) -> JoinAnswer
-    requires { (1 ≤ k) × (k ≤ 16) × (f ≤ 4096) × (columns ≤ f) × (k * f - 4 ≤ length out.old) × Within (length room.now) k f nodes × Distinct (take k nodes) }
-    ensures { (join_outcome result ≡ (page_end (page_of k (joined f room.now (take k nodes) columns)) out.old).outcome)
-        × (out.new ≡ (page_end (page_of k (joined f room.now (take k nodes) columns)) out.old).out) }
+) -> Result<usize, Refusal>
+    requires { (1 ≤ length nodes.now) × (length nodes.now ≤ 16) × (f ≤ 4096) × (columns ≤ f) × (length nodes.now * f - 4 ≤ length out.old) × Within (length room.now) (length nodes.now) f nodes.now × Distinct nodes.now }
+    ensures { (outcome result ≡ (page_end (page_of (length nodes.now) (joined f room.now nodes.now columns)) out.old).outcome)
+        × (out.new ≡ (page_end (page_of (length nodes.now) (joined f room.now nodes.now columns)) out.old).out) }
 {
-    let size = columns * k;
+    let frame = Frame {
+        nodes,
+        f,
+        columns,
+        room,
+        grid: invert(nodes),
+    };
+    let size = frame.size();
     if size < 4 {
-        return JoinAnswer::Refused(Refusal::Form);
+        return Err(Refusal::Form);
     }
-    let grid = invert(nodes, k);
-    let len = joined_length(grid, nodes, k, f, columns, room);
-    if size - 4 < len {
-        return JoinAnswer::Refused(Refusal::Form);
+    let len = frame.page_length();
+    if size - 4 < len || nodes.len() <= size - 4 - len || !frame.zero_from(4 + len) {
+        return Err(Refusal::Form);
     }
-    if k <= size - 4 - len {
-        return JoinAnswer::Refused(Refusal::Form);
-    }
-    if !zero_from(grid, nodes, k, f, columns, 4 + len, room) {
-        return JoinAnswer::Refused(Refusal::Form);
-    }
-    write_page(grid, nodes, k, f, columns, len, room, out);
-    JoinAnswer::Page(len)
+    frame.write_page(len, out);
+    Ok(len)
 }
 
 // The pieces that are present, once measures, slices and bit map are sound.
@@ -228,21 +168,20 @@ fn join_present(
     room: &[u8],
     lens: &[u16],
     out: &mut [u8],
-) -> JoinAnswer
+) -> Result<usize, Refusal>
     requires { (proper n k f ≡ true) × (n * f ≤ length room.now) × (n ≤ length lens.now) × (k * f - 4 ≤ length out.old) × (present < 2 ^ n) }
-    ensures { (join_outcome result ≡ (joinEnd n k f present room.now lens.now out.old).outcome)
+    ensures { (outcome result ≡ (joinEnd n k f present room.now lens.now out.old).outcome)
         × (out.new ≡ (joinEnd n k f present room.now lens.now out.old).out) }
 {
-    let nodes = named(present, n);
-    let list = nodes.list;
-    let count = nodes.count;
-    if !sound_lengths(list, count, f, lens) {
-        return JoinAnswer::Refused(Refusal::Form);
+    let listed = named(present, n);
+    let nodes = listed.as_slice();
+    if !sound_lengths(nodes, f, lens) {
+        return Err(Refusal::Form);
     }
-    if count < k {
-        return JoinAnswer::Refused(Refusal::TooFew);
+    if nodes.len() < k {
+        return Err(Refusal::TooFew);
     }
-    join_columns(list, k, f, length_of(list, 0, lens), room, out)
+    join_columns(&nodes[..k], f, length_of(nodes[0], lens), room, out)
 }
 
 // Joins the pieces that a bit map names into their page. The room is n areas of f bytes; entry i - 1 of the lengths is that of
@@ -255,25 +194,17 @@ pub fn join(
     room: &[u8],
     lens: &[u16],
     out: &mut [u8],
-) -> JoinAnswer
-    ensures { (join_outcome result ≡ (joinEnd n k f present room.now lens.now out.old).outcome)
+) -> Result<usize, Refusal>
+    ensures { (outcome result ≡ (joinEnd n k f present room.now lens.now out.old).outcome)
         × (out.new ≡ (joinEnd n k f present room.now lens.now out.old).out)
-        × Joins n k f present room.now lens.now out.old (join_outcome result) out.new }
+        × Joins n k f present room.now lens.now out.old (outcome result) out.new }
 {
-    if !proper_measures(n, k, f) {
-        return JoinAnswer::Refused(Refusal::Measures);
-    }
-    if room.len() < n * f {
-        return JoinAnswer::Refused(Refusal::Short);
-    }
-    if lens.len() < n {
-        return JoinAnswer::Refused(Refusal::Short);
-    }
-    if out.len() < k * f - 4 {
-        return JoinAnswer::Refused(Refusal::Short);
+    measured(n, k, f)?;
+    if room.len() < n * f || lens.len() < n || out.len() < k * f - 4 {
+        return Err(Refusal::Short);
     }
     if !within(present, n) {
-        return JoinAnswer::Refused(Refusal::Form);
+        return Err(Refusal::Form);
     }
     join_present(n, k, f, present, room, lens, out)
 }

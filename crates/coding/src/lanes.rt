@@ -64,6 +64,7 @@ fn added(v: [u8; 16], w: [u8; 16], c: u8) -> [u8; 16]
 }
 
 // Adds v to the row of each bit that the factor has. Nothing is doubled here, so that all terms together take the doublings of one.
+#[inline(always)]
 pub fn spread(sums: [[u8; 16]; 8], v: [u8; 16], c: u8) -> [[u8; 16]; 8]
     ensures { (l : ℕ) → folded result l ≡ folded sums l ⊕ product (slice_index v l) c }
 {
@@ -78,6 +79,7 @@ pub fn spread(sums: [[u8; 16]; 8], v: [u8; 16], c: u8) -> [[u8; 16]; 8]
 }
 
 // The rows' sum, row b times 2^b, by Horner's rule.
+#[inline(always)]
 pub fn fold(sums: [[u8; 16]; 8]) -> [u8; 16]
     ensures { (l : ℕ) → slice_index result l ≡ folded sums l }
 {

@@ -1,33 +1,27 @@
 // The measures of splitting and joining.
-ghost use Rattle.std.specs.Prelude.{◌≡◌, ◌+◌, ◌^◌, ◌<◌, ◌≤◌};
+ghost use Rattle.std.specs.Prelude.{◌≡◌, ◌+◌, ◌^◌, ◌<◌, ◌≤◌, true, false, OnOk, IfErr};
 ghost use Rattle.coding.specs.Pieces.{proper, columns};
+ghost use Rattle.coding.specs.declared.answer.Refusal.TheVariants.{Measures};
+
+use crate::answer::Refusal;
 
 // Each number is held to its own bound before two are multiplied.
-pub fn proper_measures(n: usize, k: usize, f: usize) -> bool
+fn proper_measures(n: usize, k: usize, f: usize) -> bool
     ensures { result ≡ proper n k f }
 {
-    if n < 1 {
-        return false;
+    1 <= n && n <= 16 && 1 <= k && k <= n && 1 <= f && f <= 4096 && 4 <= k * f
+}
+
+// What is asked of the measures, before all else.
+pub fn measured(n: usize, k: usize, f: usize) -> Result<(), Refusal>
+    ensures ok { OnOk result (proper n k f ≡ true) }
+    ensures err { IfErr result (λ r. (r ≡ Measures) × (proper n k f ≡ false)) }
+{
+    if proper_measures(n, k, f) {
+        Ok(())
+    } else {
+        Err(Refusal::Measures)
     }
-    if 16 < n {
-        return false;
-    }
-    if k < 1 {
-        return false;
-    }
-    if n < k {
-        return false;
-    }
-    if f < 1 {
-        return false;
-    }
-    if 4096 < f {
-        return false;
-    }
-    if k * f < 4 {
-        return false;
-    }
-    true
 }
 
 pub fn piece_length(k: usize, page: usize) -> usize

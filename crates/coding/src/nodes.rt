@@ -1,11 +1,49 @@
 // The nodes that a bit map names: bit i - 1 is node i's.
-ghost use Rattle.std.specs.Prelude.{◌≡◌, ℕ, ◌+◌, ◌-◌, ◌/◌, ◌%◌, ◌^◌, ◌<◌, ◌≤◌, length, take, ◌==◌, nat_lt, slice_index};
-ghost use Rattle.coding.specs.Nodes.{sound, Named};
+ghost use Rattle.std.specs.Prelude.{◌≡◌, ℕ, ◌+◌, ◌-◌, ◌/◌, ◌%◌, ◌^◌, ◌<◌, ◌≤◌, [], ◌∷◌, ◌++◌, length, ◌==◌, nat_lt, slice_index};
+ghost use Rattle.coding.specs.Nodes.{sound, nodes_of};
 
-#[derive(Clone, Copy)]
+use std::marker::Model;
+
+// Up to 16 nodes.
+#[derive(Drop)]
 pub struct Nodes {
-    pub list: [u8; 16],
-    pub count: usize,
+    list: [u8; 16],
+    count: usize,
+}
+
+impl Model for Nodes {
+    ghost use Rattle.std.specs.Prelude.{ℕ, ◌≤◌, List, take};
+
+    ghost Value = { List ℕ };
+
+    ghost view = { λ n. take n.count n.list };
+
+    ghost invariant = { λ n. n.count ≤ 16 };
+}
+
+impl Nodes {
+    fn none() -> Nodes
+        ensures { result ≡ [] }
+    {
+        Nodes {
+            list: [0; 16],
+            count: 0,
+        }
+    }
+
+    fn push(&mut self, node: u8)
+        requires { length self.old < 16 }
+        ensures { self.new ≡ self.old ++ node ∷ [] }
+    {
+        self.list[self.count] = node;
+        self.count += 1;
+    }
+
+    pub fn as_slice(&self) -> &[u8]
+        ensures { result.now ≡ self.now }
+    {
+        &self.list[..self.count]
+    }
 }
 
 fn stands(map: u16, i: usize) -> bool
@@ -20,72 +58,47 @@ pub fn within(map: u16, n: usize) -> bool
     requires { n ≤ 16 }
     ensures { result ≡ nat_lt map (2 ^ n) }
 {
-    (map as u32) >> n == 0
-}
-
-// Node i + 1 too, if its bit stands.
-fn with_node(nodes: Nodes, map: u16, i: usize) -> Nodes
-    requires { (i < 16) × Named map i nodes }
-    ensures { Named map (i + 1) result }
-{
-    if !stands(map, i) {
-        return nodes;
-    }
-    let mut list = nodes.list;
-    let count = nodes.count;
-    list[count] = (i + 1) as u8;
-    Nodes {
-        list,
-        count: count + 1,
-    }
+    u32::from(map) >> n == 0
 }
 
 // The nodes from 1 to n, ascending.
 pub fn named(map: u16, n: usize) -> Nodes
     requires { n ≤ 16 }
-    ensures { Named map n result }
+    ensures { result ≡ nodes_of map n }
 {
-    let mut nodes = Nodes {
-        list: [0u8; 16],
-        count: 0,
-    };
+    let mut nodes = Nodes::none();
     for i in 0..n {
-        let next = with_node(nodes, map, i);
-        nodes = next;
+        if stands(map, i) {
+            nodes.push((i + 1) as u8);
+        }
     }
     nodes
 }
 
-// The length of the piece of node number s in the list.
-pub fn length_of(nodes: [u8; 16], s: usize, lens: &[u16]) -> usize
-    requires { (s < 16) × (1 ≤ slice_index nodes s) × (slice_index nodes s ≤ length lens.now) }
-    ensures { result ≡ slice_index lens.now (slice_index nodes s - 1) }
+// The length of a node's piece.
+pub fn length_of(node: u8, lens: &[u16]) -> usize
+    requires { (1 ≤ node) × (node ≤ length lens.now) }
+    ensures { result ≡ slice_index lens.now (node - 1) }
 {
-    let at = nodes[s] as usize - 1;
-    lens[at] as usize
+    usize::from(lens[usize::from(node) - 1])
 }
 
 // The pieces of the nodes have one length, from 1 to f.
-pub fn sound_lengths(nodes: [u8; 16], count: usize, f: usize, lens: &[u16]) -> bool
-    requires { (count ≤ 16) × ((s : ℕ) → s < count → (1 ≤ slice_index nodes s) × (slice_index nodes s ≤ length lens.now)) }
-    ensures { result ≡ sound f lens.now (take count nodes) }
+pub fn sound_lengths(nodes: &[u8], f: usize, lens: &[u16]) -> bool
+    requires { (s : ℕ) → s < length nodes.now → (1 ≤ slice_index nodes.now s) × (slice_index nodes.now s ≤ length lens.now) }
+    ensures { result ≡ sound f lens.now nodes.now }
 {
-    if count == 0 {
+    if nodes.is_empty() {
         return true;
     }
-    let first = length_of(nodes, 0, lens);
-    if first < 1 {
+    let first = length_of(nodes[0], lens);
+    if first < 1 || f < first {
         return false;
     }
-    if f < first {
-        return false;
-    }
-    let mut s = 1;
-    while s < count {
-        if length_of(nodes, s, lens) != first {
+    for s in 1..nodes.len() {
+        if length_of(nodes[s], lens) != first {
             return false;
         }
-        s += 1;
     }
     true
 }

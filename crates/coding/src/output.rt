@@ -7,10 +7,8 @@ fn scatter_inside(v: [u8; 16], from: usize, k: usize, len: usize, out: &mut [u8]
     requires { (4 ≤ from) × (from - 4 + 15 * k < len) × (len ≤ length out.old) × (k ≤ 16) }
     ensures { (g : ℕ → ℕ) → ((l : ℕ) → l < 16 → slice_index v l ≡ g (from + l * k)) → Placed g len (Stride from k 16) out.old out.new }
 {
-    let mut at = from - 4;
     for l in 0..16 {
-        out[at] = v[l];
-        at += k;
+        out[from - 4 + l * k] = v[l];
     }
 }
 
@@ -19,13 +17,9 @@ fn put(x: u8, p: usize, len: usize, out: &mut [u8])
     requires { len ≤ length out.old }
     ensures { (g : ℕ → ℕ) → x ≡ g p → Placed g len (◌≡◌ p) out.old out.new }
 {
-    if p < 4 {
-        return;
+    if 4 <= p && p - 4 < len {
+        out[p - 4] = x;
     }
-    if len <= p - 4 {
-        return;
-    }
-    out[p - 4] = x;
 }
 
 // m lanes to their places, where some are length bytes or filling.
@@ -33,10 +27,8 @@ fn scatter_edge(v: [u8; 16], m: usize, from: usize, k: usize, len: usize, out: &
     requires { (m ≤ 16) × (from < 2 ^ 32) × (len ≤ length out.old) × (k ≤ 16) }
     ensures { (g : ℕ → ℕ) → ((l : ℕ) → l < m → slice_index v l ≡ g (from + l * k)) → Placed g len (Stride from k m) out.old out.new }
 {
-    let mut at = from;
     for l in 0..m {
-        put(v[l], at, len, out);
-        at += k;
+        put(v[l], from + l * k, len, out);
     }
 }
 
@@ -44,13 +36,9 @@ pub fn scatter(v: [u8; 16], m: usize, from: usize, k: usize, len: usize, out: &m
     requires { (m ≤ 16) × (from < 2 ^ 32) × (len ≤ length out.old) × (k ≤ 16) }
     ensures { (g : ℕ → ℕ) → ((l : ℕ) → l < m → slice_index v l ≡ g (from + l * k)) → Placed g len (Stride from k m) out.old out.new }
 {
-    if m == 16 {
-        if 4 <= from {
-            if from - 4 + 15 * k < len {
-                scatter_inside(v, from, k, len, out);
-                return;
-            }
-        }
+    if m == 16 && 4 <= from && from - 4 + 15 * k < len {
+        scatter_inside(v, from, k, len, out);
+    } else {
+        scatter_edge(v, m, from, k, len, out);
     }
-    scatter_edge(v, m, from, k, len, out);
 }

@@ -15,31 +15,15 @@ const PLACE: usize = VERSION + 1;
 // What a block has room for behind them: the front of a piece.
 const FRONT: usize = BLOCK - PLACE;
 
-// Byte j of what is digested, and 0 past it.
-fn placed_byte(version: [u8; 5], node: u8, piece: &[u8], j: usize) -> u8
-    ensures { result ≡ digest_input version node piece.now ! j }
-{
-    if j < VERSION {
-        return version[j];
-    }
-    if j == VERSION {
-        return node;
-    }
-    if j - PLACE < piece.len() {
-        return piece[j - PLACE];
-    }
-    0
-}
-
+// The first 64 bytes of what is digested; zeros stand past its end.
 fn first_block(version: [u8; 5], node: u8, piece: &[u8]) -> [u8; 64]
     ensures { (j : ℕ) → j < 64 → result ! j ≡ digest_input version node piece.now ! j }
 {
     let mut b = [0u8; 64];
-    let mut j = 0;
-    while j < BLOCK {
-        b[j] = placed_byte(version, node, piece, j);
-        j += 1;
-    }
+    b[..VERSION].copy_from_slice(&version);
+    b[VERSION] = node;
+    let front = piece.len().min(FRONT);
+    b[PLACE..PLACE + front].copy_from_slice(&piece[..front]);
     b
 }
 

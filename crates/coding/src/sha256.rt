@@ -3,7 +3,7 @@ ghost use Rattle.std.specs.Prelude.{◌≡◌, ℕ, ◌+◌, ◌*◌, ◌/◌, �
 ghost use Rattle.coding.specs.Sha256 as spec;
 ghost use Rattle.coding.specs.Sha256.{◌!◌};
 
-const K: [u32; 64] = [
+static K: [u32; 64] = [
     0x428a2f98, 0x71374491, 0xb5c0fbcf, 0xe9b5dba5, 0x3956c25b, 0x59f111f1, 0x923f82a4, 0xab1c5ed5,
     0xd807aa98, 0x12835b01, 0x243185be, 0x550c7dc3, 0x72be5d74, 0x80deb1fe, 0x9bdc06a7, 0xc19bf174,
     0xe49b69c1, 0xefbe4786, 0x0fc19dc6, 0x240ca1cc, 0x2de92c6f, 0x4a7484aa, 0x5cb0a9dc, 0x76f988da,
@@ -17,13 +17,6 @@ const K: [u32; 64] = [
 const H0: [u32; 8] = [
     0x6a09e667, 0xbb67ae85, 0x3c6ef372, 0xa54ff53a, 0x510e527f, 0x9b05688c, 0x1f83d9ab, 0x5be0cd19,
 ];
-
-fn rotr(n: u32, x: u32) -> u32
-    requires { (0 < n) × (n < 32) }
-    ensures { result ≡ spec.rotr n x }
-{
-    (x >> n) | (x << (32 - n))
-}
 
 fn ch(x: u32, y: u32, z: u32) -> u32
     ensures { result ≡ spec.Ch x y z }
@@ -40,45 +33,42 @@ fn maj(x: u32, y: u32, z: u32) -> u32
 fn big_sigma0(x: u32) -> u32
     ensures { result ≡ spec.Σ₀ x }
 {
-    rotr(2, x) ^ rotr(13, x) ^ rotr(22, x)
+    x.rotate_right(2) ^ x.rotate_right(13) ^ x.rotate_right(22)
 }
 
 fn big_sigma1(x: u32) -> u32
     ensures { result ≡ spec.Σ₁ x }
 {
-    rotr(6, x) ^ rotr(11, x) ^ rotr(25, x)
+    x.rotate_right(6) ^ x.rotate_right(11) ^ x.rotate_right(25)
 }
 
 fn small_sigma0(x: u32) -> u32
     ensures { result ≡ spec.σ₀ x }
 {
-    rotr(7, x) ^ rotr(18, x) ^ (x >> 3)
+    x.rotate_right(7) ^ x.rotate_right(18) ^ (x >> 3)
 }
 
 fn small_sigma1(x: u32) -> u32
     ensures { result ≡ spec.σ₁ x }
 {
-    rotr(17, x) ^ rotr(19, x) ^ (x >> 10)
-}
-
-fn add(x: u32, y: u32) -> u32
-    ensures { result ≡ (x + y) % 2 ^ 32 }
-{
-    std::num::wrapping_add_u32(x, y)
+    x.rotate_right(17) ^ x.rotate_right(19) ^ (x >> 10)
 }
 
 // T1 of a round.
 fn t1(e: u32, f: u32, g: u32, h: u32, k: u32, w: u32) -> u32
     ensures { result ≡ spec.T₁ e f g h k w }
 {
-    add(add(add(add(h, big_sigma1(e)), ch(e, f, g)), k), w)
+    h.wrapping_add(big_sigma1(e))
+        .wrapping_add(ch(e, f, g))
+        .wrapping_add(k)
+        .wrapping_add(w)
 }
 
 // T2 of a round.
 fn t2(a: u32, b: u32, c: u32) -> u32
     ensures { result ≡ spec.T₂ a b c }
 {
-    add(big_sigma0(a), maj(a, b, c))
+    big_sigma0(a).wrapping_add(maj(a, b, c))
 }
 
 // The working variables after a round in which they were a to h.
@@ -97,50 +87,68 @@ fn turned(
     ensures { result ≡ spec.turned a b c d e f g h k w }
 {
     let x = t1(e, f, g, h, k, w);
-    [add(x, t2(a, b, c)), a, b, c, add(d, x), e, f, g]
+    [
+        x.wrapping_add(t2(a, b, c)),
+        a,
+        b,
+        c,
+        d.wrapping_add(x),
+        e,
+        f,
+        g,
+    ]
+}
+
+fn constant(t: usize) -> u32
+    requires { t < 64 }
+    ensures { result ≡ spec.K ! t }
+{
+    K[t]
 }
 
 // Round t of a block whose schedule is w.
-fn round(v: [u32; 8], w: &[u32; 64], kt: &[u32; 64], t: usize) -> [u32; 8]
-    requires { (kt.now ≡ spec.K) × (t < 64) }
+fn round(v: [u32; 8], w: &[u32; 64], t: usize) -> [u32; 8]
+    requires { t < 64 }
     ensures { result ≡ spec.round v (spec.K ! t) (w.now ! t) }
 {
-    turned(v[0], v[1], v[2], v[3], v[4], v[5], v[6], v[7], kt[t], w[t])
+    turned(
+        v[0],
+        v[1],
+        v[2],
+        v[3],
+        v[4],
+        v[5],
+        v[6],
+        v[7],
+        constant(t),
+        w[t],
+    )
 }
 
 // Eight rounds in one piece, since then no working variable is moved.
-fn eight_rounds(v: [u32; 8], w: &[u32; 64], kt: &[u32; 64], t: usize) -> [u32; 8]
-    requires { (kt.now ≡ spec.K) × (t + 8 ≤ 64) }
+fn eight_rounds(v: [u32; 8], w: &[u32; 64], t: usize) -> [u32; 8]
+    requires { t + 8 ≤ 64 }
     ensures { (h : List ℕ) → v ≡ spec.rounds w.now h t → result ≡ spec.rounds w.now h (t + 8) }
 {
-    let v1 = round(v, w, kt, t);
-    let v2 = round(v1, w, kt, t + 1);
-    let v3 = round(v2, w, kt, t + 2);
-    let v4 = round(v3, w, kt, t + 3);
-    let v5 = round(v4, w, kt, t + 4);
-    let v6 = round(v5, w, kt, t + 5);
-    let v7 = round(v6, w, kt, t + 6);
-    round(v7, w, kt, t + 7)
+    let v1 = round(v, w, t);
+    let v2 = round(v1, w, t + 1);
+    let v3 = round(v2, w, t + 2);
+    let v4 = round(v3, w, t + 3);
+    let v5 = round(v4, w, t + 4);
+    let v6 = round(v5, w, t + 5);
+    let v7 = round(v6, w, t + 6);
+    round(v7, w, t + 7)
 }
 
-fn rounds(h: [u32; 8], w: &[u32; 64], kt: &[u32; 64]) -> [u32; 8]
-    requires { kt.now ≡ spec.K }
+fn rounds(h: [u32; 8], w: &[u32; 64]) -> [u32; 8]
     ensures { result ≡ spec.rounds w.now h 64 }
 {
     let mut v = h;
-    let mut t = 0;
-    while t < 64 {
-        let next = eight_rounds(v, w, kt, t);
+    for i in 0..8 {
+        let next = eight_rounds(v, w, 8 * i);
         v = next;
-        t += 8;
     }
     v
-}
-
-fn wide(b: u8) -> u32
-    ensures { (result ≡ b) × (result < 256) }
-{
-    b as u32
 }
 
 // The word of the four bytes at a place of s.
@@ -148,7 +156,7 @@ fn word(s: &[u8], at: usize) -> u32
     requires { at + 4 ≤ length s.now }
     ensures { result ≡ spec.word s.now at }
 {
-    wide(s[at]) * 16777216 + wide(s[at + 1]) * 65536 + wide(s[at + 2]) * 256 + wide(s[at + 3])
+    u32::from_be_bytes([s[at], s[at + 1], s[at + 2], s[at + 3]])
 }
 
 // The words of the block at a place of s, with room for the schedule's other words.
@@ -157,10 +165,8 @@ fn block(s: &[u8], at: usize) -> [u32; 64]
     ensures { take 16 result ≡ spec.words s.now at 16 }
 {
     let mut m = [0u32; 64];
-    let mut j = 0;
-    while j < 16 {
+    for j in 0..16 {
         m[j] = word(s, at + 4 * j);
-        j += 1;
     }
     m
 }
@@ -169,7 +175,10 @@ fn block(s: &[u8], at: usize) -> [u32; 64]
 fn scheduled(w2: u32, w7: u32, w15: u32, w16: u32) -> u32
     ensures { result ≡ spec.scheduled w2 w7 w15 w16 }
 {
-    add(add(add(small_sigma1(w2), w7), small_sigma0(w15)), w16)
+    small_sigma1(w2)
+        .wrapping_add(w7)
+        .wrapping_add(small_sigma0(w15))
+        .wrapping_add(w16)
 }
 
 // Word t of a schedule whose words before it are in w.
@@ -184,57 +193,43 @@ fn schedule(m: [u32; 64]) -> [u32; 64]
     ensures { result ≡ spec.schedule (take 16 m) 48 }
 {
     let mut w = m;
-    let mut t = 16;
-    while t < 64 {
-        extend(&mut w, t);
-        extend(&mut w, t + 1);
-        extend(&mut w, t + 2);
-        extend(&mut w, t + 3);
-        t += 4;
+    // Four words a turn, which takes less time than one.
+    for i in 4..16 {
+        extend(&mut w, 4 * i);
+        extend(&mut w, 4 * i + 1);
+        extend(&mut w, 4 * i + 2);
+        extend(&mut w, 4 * i + 3);
     }
     w
 }
 
-fn compress(h: [u32; 8], m: [u32; 64], kt: &[u32; 64]) -> [u32; 8]
-    requires { kt.now ≡ spec.K }
+fn compress(h: [u32; 8], m: [u32; 64]) -> [u32; 8]
     ensures { result ≡ spec.compress h (take 16 m) }
 {
     let w = schedule(m);
-    let v = rounds(h, &w, kt);
+    let v = rounds(h, &w);
     [
-        add(v[0], h[0]),
-        add(v[1], h[1]),
-        add(v[2], h[2]),
-        add(v[3], h[3]),
-        add(v[4], h[4]),
-        add(v[5], h[5]),
-        add(v[6], h[6]),
-        add(v[7], h[7]),
+        v[0].wrapping_add(h[0]),
+        v[1].wrapping_add(h[1]),
+        v[2].wrapping_add(h[2]),
+        v[3].wrapping_add(h[3]),
+        v[4].wrapping_add(h[4]),
+        v[5].wrapping_add(h[5]),
+        v[6].wrapping_add(h[6]),
+        v[7].wrapping_add(h[7]),
     ]
 }
 
 // The hash value after the whole blocks of s, from the hash value h on.
-fn blocks(h: [u32; 8], s: &[u8], kt: &[u32; 64]) -> [u32; 8]
-    requires { kt.now ≡ spec.K }
+fn blocks(h: [u32; 8], s: &[u8]) -> [u32; 8]
     ensures { result ≡ spec.hash h s.now (length s.now / 64) }
 {
     let mut g = h;
-    let n = s.len() / 64;
-    let mut i = 0;
-    while i < n {
-        let next = compress(g, block(s, 64 * i), kt);
+    for i in 0..s.len() / 64 {
+        let next = compress(g, block(s, 64 * i));
         g = next;
-        i += 1;
     }
     g
-}
-
-// Byte n of x, counted from the lowest.
-fn byte(x: u64, n: u64) -> u8
-    requires { n < 8 }
-    ensures { result ≡ x / 2 ^ (8 * n) % 256 }
-{
-    ((x >> (8 * n)) % 256) as u8
 }
 
 // How many bytes of a message of n bytes and its padding follow the message's whole blocks.
@@ -244,18 +239,13 @@ fn last_len(n: u64) -> usize
     if n % 64 < 56 { 64 } else { 128 }
 }
 
-// What follows the whole blocks of s, and zeros. It only copies: choosing each byte would take a sixth of a block's time.
+// What follows the whole blocks of s, and zeros.
 fn rest(s: &[u8]) -> [u8; 128]
     ensures { (j : ℕ) → result ! j ≡ s.now ! (length s.now / 64 * 64 + j) }
 {
     let mut b = [0u8; 128];
-    let from = s.len() / 64 * 64;
     let len = s.len() % 64;
-    let mut j = 0;
-    while j < len {
-        b[j] = s[from + j];
-        j += 1;
-    }
+    b[..len].copy_from_slice(&s[s.len() - len..]);
     b
 }
 
@@ -267,11 +257,7 @@ fn last(s: &[u8], n: u64, end: usize) -> [u8; 128]
     let mut b = rest(s);
     // A one bit and seven zeros.
     b[s.len() % 64] = 128;
-    let mut j = end - 8;
-    while j < end {
-        b[j] = byte(n << 3, (end - 1 - j) as u64);
-        j += 1;
-    }
+    b[end - 8..end].copy_from_slice(&(n << 3).to_be_bytes());
     b
 }
 
@@ -279,10 +265,8 @@ fn joined(h: [u32; 8]) -> [u8; 32]
     ensures { result ≡ spec.joined h }
 {
     let mut b = [0u8; 32];
-    let mut j = 0;
-    while j < 32 {
-        b[j] = byte(h[j / 4] as u64, (3 - j % 4) as u64);
-        j += 1;
+    for i in 0..8 {
+        b[4 * i..4 * i + 4].copy_from_slice(&h[i].to_be_bytes());
     }
     b
 }
@@ -292,14 +276,12 @@ fn digest_both(front: &[u8], s: &[u8]) -> [u8; 32]
     requires { length front.now % 64 ≡ 0 }
     ensures { result ≡ spec.sha256 (front.now ++ s.now) }
 {
-    // A constant that is named in a loop is stored anew at each turn, so the table is lent to the rounds from here.
-    let kt = K;
-    let h = blocks(blocks(H0, front, &kt), s, &kt);
+    let h = blocks(blocks(H0, front), s);
     // A sum that wraps changes nothing: the padding has the length modulo 2^64.
-    let n = std::num::wrapping_add_u64(front.len() as u64, s.len() as u64);
+    let n = (front.len() as u64).wrapping_add(s.len() as u64);
     let end = last_len(n);
     let b = last(s, n, end);
-    joined(blocks(h, &b[..end], &kt))
+    joined(blocks(h, &b[..end]))
 }
 
 pub fn digest(s: &[u8]) -> [u8; 32]

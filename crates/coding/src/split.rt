@@ -6,57 +6,47 @@ ghost use Rattle.coding.specs.Field.{◌⊕◌, product};
 ghost use Rattle.coding.specs.Bytes.{tabulate};
 ghost use Rattle.coding.specs.Pieces.{piece_byte, frame};
 ghost use Rattle.coding.specs.Areas.{Columns};
-ghost use Rattle.coding.specs.Answer.{split_outcome};
+ghost use Rattle.coding.specs.Answer.{outcome};
 ghost use Rattle.coding.specs.Split.{split as splitEnd, cut as cutEnd};
 
-use crate::answer::{Refusal, SplitAnswer};
-use crate::areas::{block, load_part, load_whole, store, store_part, store_whole};
+use crate::answer::Refusal;
+use crate::areas::{load, store};
 use crate::frame::{gather, gather_whole};
 use crate::lanes::{add, scale};
-use crate::measures::{piece_length, proper_measures};
+use crate::measures::{measured, piece_length};
 
 // The highest row of a block starts every sum.
 fn start_row(n: usize, f: usize, j: usize, m: usize, row: [u8; 16], room: &mut [u8])
     requires { (j + m ≤ f) × (m ≤ 16) × (n ≤ 16) × (f ≤ 4096) × (n * f ≤ length room.old) }
     ensures { Columns n f j m (λ i l. slice_index row l) room.old room.new }
 {
-    let mut at = j;
     for i in 0..n {
-        store(room, at, m, row);
-        at += f;
+        store(room, i * f + j, m, row);
     }
 }
 
-// One turn of Horner's rule at the point x. The count is known here, so that a load and a store are one instruction each.
-fn turn_whole(x: u8, at: usize, row: [u8; 16], room: &mut [u8])
-    requires { at + 16 ≤ length room.old }
-    ensures { room.new ≡ paste room.old at
-        (tabulate 16 (λ l. product (slice_index room.old (at + l)) x ⊕ slice_index_or row l 0)) 16 }
-{
-    let sums = load_whole(room, at);
-    let next = add(scale(sums, x), row);
-    store_whole(room, at, next);
-}
-
-fn turn_part(x: u8, at: usize, m: usize, row: [u8; 16], room: &mut [u8])
+// One turn of Horner's rule at the point x.
+#[inline(always)]
+fn turned(x: u8, at: usize, m: usize, row: [u8; 16], room: &mut [u8])
     requires { (at + m ≤ length room.old) × (m ≤ 16) }
     ensures { room.new ≡ paste room.old at
         (tabulate m (λ l. product (slice_index room.old (at + l)) x ⊕ slice_index_or row l 0)) m }
 {
-    let sums = load_part(room, at, m);
+    let sums = load(room, at, m);
     let next = add(scale(sums, x), row);
-    store_part(room, at, m, next);
+    store(room, at, m, next);
 }
 
+// The same; a whole block goes apart, so that its count is known and a load is one instruction.
 fn turn(x: u8, at: usize, m: usize, row: [u8; 16], room: &mut [u8])
     requires { (at + m ≤ length room.old) × (m ≤ 16) }
     ensures { room.new ≡ paste room.old at
         (tabulate m (λ l. product (slice_index room.old (at + l)) x ⊕ slice_index_or row l 0)) m }
 {
     if m == 16 {
-        turn_whole(x, at, row, room);
+        turned(x, at, 16, row, room);
     } else {
-        turn_part(x, at, m, row, room);
+        turned(x, at, m, row, room);
     }
 }
 
@@ -66,10 +56,8 @@ fn add_row(first: usize, n: usize, f: usize, j: usize, m: usize, row: [u8; 16], 
     ensures { Columns n f j m (λ i l. product (slice_index room.old (i * f + (j + l))) (first + i + 1) ⊕ slice_index_or row l 0)
         room.old room.new }
 {
-    let mut at = j;
     for i in 0..n {
-        turn((first + i + 1) as u8, at, m, row, room);
-        at += f;
+        turn((first + i + 1) as u8, i * f + j, m, row, room);
     }
 }
 
@@ -88,10 +76,8 @@ fn write_block(
     ensures { Columns n f j m (λ i l. piece_byte k (frame k page.now) (first + i + 1) (j + l))
         room.old room.new }
 {
-    let mut r = k - 1;
-    start_row(n, f, j, m, gather_whole(page, j * k + r, k), room);
-    while 0 < r {
-        r -= 1;
+    start_row(n, f, j, m, gather_whole(page, j * k + (k - 1), k), room);
+    for r in (0..k - 1).rev() {
         add_row(first, n, f, j, m, gather_whole(page, j * k + r, k), room);
     }
 }
@@ -110,11 +96,8 @@ fn write_pieces(
     ensures { Columns n f 0 len (λ i l. piece_byte k (frame k page.now) (first + i + 1) l)
         room.old room.new }
 {
-    let mut j = 0;
-    while j < len {
-        let m = block(len - j);
-        write_block(first, n, k, f, j, m, page, room);
-        j += m;
+    for j in (0..len).step_by(16) {
+        write_block(first, n, k, f, j, (len - j).min(16), page, room);
     }
 }
 
@@ -138,10 +121,8 @@ fn cut_block(x: u8, k: usize, j: usize, m: usize, page: &[u8]) -> [u8; 16]
     requires { (j ≤ 4096) × (m ≤ 16) × (k ≤ 16) }
     ensures { (l : ℕ) → l < m → slice_index result l ≡ piece_byte k (frame k page.now) x (j + l) }
 {
-    let mut r = k;
     let mut sums = [0u8; 16];
-    while 0 < r {
-        r -= 1;
+    for r in (0..k).rev() {
         let next = add(scale(sums, x), gather(page, j * k + r, k, m));
         sums = next;
     }
@@ -153,54 +134,52 @@ fn cut_piece(x: u8, k: usize, len: usize, page: &[u8], room: &mut [u8])
     requires { (len ≤ 4096) × (len ≤ length room.old) × (k ≤ 16) }
     ensures { room.new ≡ paste room.old 0 (tabulate len (piece_byte k (frame k page.now) x)) len }
 {
-    let mut j = 0;
-    while j < len {
-        let m = block(len - j);
+    for j in (0..len).step_by(16) {
+        let m = (len - j).min(16);
         store(room, j, m, cut_block(x, k, j, m, page));
-        j += m;
     }
 }
 
 // Splits a page into n pieces, any k of which make it. The room is n areas of f bytes, of which each takes one piece.
-pub fn split(n: usize, k: usize, f: usize, page: &[u8], room: &mut [u8]) -> SplitAnswer
-    ensures { (split_outcome result ≡ (splitEnd n k f page.now room.old).outcome)
+pub fn split(n: usize, k: usize, f: usize, page: &[u8], room: &mut [u8]) -> Result<usize, Refusal>
+    ensures { (outcome result ≡ (splitEnd n k f page.now room.old).outcome)
         × (room.new ≡ (splitEnd n k f page.now room.old).room) }
 {
-    if !proper_measures(n, k, f) {
-        return SplitAnswer::Refused(Refusal::Measures);
-    }
+    measured(n, k, f)?;
     if room.len() < n * f {
-        return SplitAnswer::Refused(Refusal::Short);
+        return Err(Refusal::Short);
     }
     if k * f - 4 < page.len() {
-        return SplitAnswer::Refused(Refusal::TooLong);
+        return Err(Refusal::TooLong);
     }
     let len = piece_length(k, page.len());
     write_areas(n, k, f, len, page, room);
-    SplitAnswer::Pieces(len)
+    Ok(len)
 }
 
 // Node i's piece alone, the same as in the whole split, at the front of a room of f bytes.
-pub fn cut(n: usize, k: usize, f: usize, i: usize, page: &[u8], room: &mut [u8]) -> SplitAnswer
-    ensures { (split_outcome result ≡ (cutEnd n k f i page.now room.old).outcome)
+pub fn cut(
+    n: usize,
+    k: usize,
+    f: usize,
+    i: usize,
+    page: &[u8],
+    room: &mut [u8],
+) -> Result<usize, Refusal>
+    ensures { (outcome result ≡ (cutEnd n k f i page.now room.old).outcome)
         × (room.new ≡ (cutEnd n k f i page.now room.old).room) }
 {
-    if !proper_measures(n, k, f) {
-        return SplitAnswer::Refused(Refusal::Measures);
-    }
+    measured(n, k, f)?;
     if room.len() < f {
-        return SplitAnswer::Refused(Refusal::Short);
+        return Err(Refusal::Short);
     }
-    if i < 1 {
-        return SplitAnswer::Refused(Refusal::Number);
-    }
-    if n < i {
-        return SplitAnswer::Refused(Refusal::Number);
+    if i < 1 || n < i {
+        return Err(Refusal::Number);
     }
     if k * f - 4 < page.len() {
-        return SplitAnswer::Refused(Refusal::TooLong);
+        return Err(Refusal::TooLong);
     }
     let len = piece_length(k, page.len());
     cut_piece(i as u8, k, len, page, room);
-    SplitAnswer::Pieces(len)
+    Ok(len)
 }

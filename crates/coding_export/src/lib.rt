@@ -4,42 +4,26 @@
 
 ghost use Rattle.std.specs.Prelude.{◌≡◌, ◌≤◌, length, take};
 ghost use Rattle.std.proofs.Math.Seq.{paste};
-ghost use Rattle.coding.specs.Answer.{refuses, number, split_outcome, join_outcome};
+ghost use Rattle.coding.specs.Answer.{refuses, number, outcome};
 ghost use Rattle.coding.specs.Split.{split, cut};
 ghost use Rattle.coding.specs.Join.{join};
 ghost use Rattle.coding_export.specs.Code.{code};
 ghost use Rattle.coding_export.specs.Digest.{digest, digest_placed};
 
-use coding::answer::{JoinAnswer, Refusal, SplitAnswer};
+use coding::answer::Refusal;
 
 fn refused(r: Refusal) -> u64
     ensures { result ≡ code (refuses (number r)) }
 {
-    match r {
-        Refusal::Measures => 4294967297,
-        Refusal::Short => 4294967298,
-        Refusal::Number => 4294967299,
-        Refusal::Form => 4294967300,
-        Refusal::TooLong => 4294967302,
-        Refusal::TooFew => 4294967305,
-    }
+    4294967296 + r.number() as u64
 }
 
-fn split_code(a: SplitAnswer) -> u64
-    ensures { result ≡ code (split_outcome a) }
+fn answer_code(a: Result<usize, Refusal>) -> u64
+    ensures { result ≡ code (outcome a) }
 {
     match a {
-        SplitAnswer::Pieces(len) => len as u64,
-        SplitAnswer::Refused(r) => refused(r),
-    }
-}
-
-fn join_code(a: JoinAnswer) -> u64
-    ensures { result ≡ code (join_outcome a) }
-{
-    match a {
-        JoinAnswer::Page(len) => len as u64,
-        JoinAnswer::Refused(r) => refused(r),
+        Ok(len) => len as u64,
+        Err(r) => refused(r),
     }
 }
 
@@ -47,16 +31,16 @@ fn put(d: [u8; 32], out: &mut [u8])
     requires { 32 ≤ length out.old }
     ensures { out.new ≡ paste out.old 0 d 32 }
 {
-    for i in 0..32 {
-        out[i] = d[i];
-    }
+    out[..32].copy_from_slice(&d);
 }
 
 fn version_bytes(version: &[u8]) -> [u8; 5]
     requires { 5 ≤ length version.now }
     ensures { result ≡ take 5 version.now }
 {
-    [version[0], version[1], version[2], version[3], version[4]]
+    let mut bytes = [0; 5];
+    bytes.copy_from_slice(&version[..5]);
+    bytes
 }
 
 #[unsafe(no_mangle)]
@@ -64,7 +48,7 @@ pub extern "C" fn coding_split(n: usize, k: usize, f: usize, page: &[u8], room: 
     ensures { (result ≡ code (split n k f page.now room.old).outcome)
         × (room.new ≡ (split n k f page.now room.old).room) }
 {
-    split_code(coding::split::split(n, k, f, page, room))
+    answer_code(coding::split::split(n, k, f, page, room))
 }
 
 #[unsafe(no_mangle)]
@@ -79,7 +63,7 @@ pub extern "C" fn coding_cut(
     ensures { (result ≡ code (cut n k f i page.now room.old).outcome)
         × (room.new ≡ (cut n k f i page.now room.old).room) }
 {
-    split_code(coding::split::cut(n, k, f, i, page, room))
+    answer_code(coding::split::cut(n, k, f, i, page, room))
 }
 
 #[unsafe(no_mangle)]
@@ -95,7 +79,7 @@ pub extern "C" fn coding_join(
     ensures { (result ≡ code (join n k f present room.now lens.now out.old).outcome)
         × (out.new ≡ (join n k f present room.now lens.now out.old).out) }
 {
-    join_code(coding::join::join(n, k, f, present, room, lens, out))
+    answer_code(coding::join::join(n, k, f, present, room, lens, out))
 }
 
 #[unsafe(no_mangle)]

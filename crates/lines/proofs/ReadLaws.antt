@@ -12,42 +12,32 @@ use lib.Dec.{ltb, eqb}
 use lib.ListN.{length, take, set, length-append, length-set}
 use lib.Seq.{take_all, take-append-le, take-suc-set}
 use Rattle.lines.specs.declared.read.Reading.{Reading}
-use Rattle.lines.specs.declared.read.Line.{Line}
-use Rattle.lines.specs.declared.read.Page.{Page}
 use Rattle.lines.specs.Words.{words, first, later, last_from, final, every, void, odd, same, limit, digit, decimal, number_of, hex_value, hex_digit, hex_bytes, empty_word, page_of, pack_from, packed}
-use Rattle.lines.specs.Line.{number_or, numbers_of, Kept, PageIs, LineOf}
-use Rattle.lines.specs.Read.{counted, packed_with, capped, value_with, name_from, number_from, numbers_with, puts, bytes_with, page_with, page_from}
-use Rattle.lines.specs.Read.{new_word, begun, space_of, letter_of, next_of, next_page, ended_of, value_of, high_from, Paired, Read}
+use Rattle.std.specs.Prelude.{Option, Some, None}
+use Rattle.lines.specs.Line.{as_told, numbers_of, Kept, PageIs, LineOf}
+use Rattle.lines.specs.Read.{counted, packed_with, capped, value_with, name_from, number_from, numbers_with, bytes_with, page_with, page_from}
+use Rattle.lines.specs.Read.{begun, space_of, letter_of, next_of, next_page, ended_of, value_of, high_from, Paired, Read}
 use Rattle.lines.proofs.WordsLaws.{and_left, and_right, words_space, words_letter, every_more, odd-more, same_eq, decimal-more, high-more, high-below, hex-more, small, pack_more, room, pack_below, packed_injective}
 
 -- ---- a value with one digit more
 
-pub value_none : (v b : ℕ) → digit b ≡ false → limit ≡ value_with v b
-value_none v b e = simp e
+none_either : (t : Bool) → ◌≡◌ {A = Option ℕ} None (cond t None None)
+none_either true = refl
+none_either false = refl
 
-pub value_big : (v x b : ℕ) → digit b ≡ true → x ≡ b - 48 → limit ≤ v * 10 + x → limit ≡ value_with v b
-value_big v x b e q h = simp (e, le-ltb (v * 10 + (b - 48)) limit (omega arith))
-
-pub value-fits : (v x b : ℕ) → digit b ≡ true → x ≡ b - 48 → v * 10 + x < limit → v * 10 + x ≡ value_with v b
-value-fits v x b e q h = ap (λ (y : ℕ). v * 10 + y) q ∙ sym (simp (e, lt-ltb (v * 10 + (b - 48)) limit (omega arith)))
-
-value-step : (e t : Bool) (d x : ℕ)
-    → cond t (capped (cond e (capped d) limit * 10 + x)) limit ≡ cond (e && t) (capped (d * 10 + x)) limit
-value-step true true d x = go (dec_lt d limit)
+value-step : (e : Bool) (d b : ℕ) → value_with (cond e (capped d) None) b ≡ cond (e && digit b) (capped (d * 10 + (b - 48))) None
+value-step false d b = refl
+value-step true d b = go (dec_lt d limit)
   where
-    go : Dec (d < limit) → capped (capped d * 10 + x) ≡ capped (d * 10 + x)
+    go : Dec (d < limit) → value_with (capped d) b ≡ cond (digit b) (capped (d * 10 + (b - 48))) None
     go (yes h) = simp (lt-ltb d limit h)
-    go (no h) =
-        simp (le-ltb d limit (omega arith), le-ltb (limit * 10 + x) limit (omega arith), le-ltb (d * 10 + x) limit (omega arith))
-value-step true false d x = refl
-value-step false true d x = simp (le-ltb (limit * 10 + x) limit (omega arith))
-value-step false false d x = refl
+    go (no h) = simp (le-ltb d limit (omega arith), le-ltb (d * 10 + (b - 48)) limit (omega arith)) (none_either (digit b))
 
 value-more : (w : List ℕ) (b : ℕ) → value_with (value_of w) b ≡ value_of (w ++ (b ∷ []))
 unfolding value_of
 value-more w b =
-    value-step (every digit w) (digit b) (decimal 0 w) (b - 48)
-    ∙ (λ i. cond (sym (every_more digit w b) i) (capped (sym (decimal-more 0 w b) i)) limit)
+    value-step (every digit w) (decimal 0 w) b
+    ∙ (λ i. cond (sym (every_more digit w b) i) (capped (sym (decimal-more 0 w b) i)) None)
 
 -- ---- a page with one digit more
 
@@ -99,25 +89,25 @@ packed_more w b s = go (dec_lt (length w) 7)
 -- ---- the numbers of words that ended
 
 numbers_more : (n : ℕ) (ws : List (List ℕ)) (w : List ℕ) → length ws < n
-    → set (numbers_of n ws) (length ws) (number_or (number_of w)) ≡ numbers_of n (ws ++ (w ∷ []))
+    → set (numbers_of n ws) (length ws) (as_told (number_of w)) ≡ numbers_of n (ws ++ (w ∷ []))
 unfolding numbers_of
 numbers_more zero ws w h = absurd (omega arith)
 numbers_more (suc n) [] w h = refl
-numbers_more (suc n) (v ∷ ws) w h = ap (λ (l : List ℕ). number_or (number_of v) ∷ l) (numbers_more n ws w (omega arith))
+numbers_more (suc n) (v ∷ ws) w h = ap (λ (l : List (Option ℕ)). as_told (number_of v) ∷ l) (numbers_more n ws w (omega arith))
 
 numbers_full : (n : ℕ) (ws : List (List ℕ)) (w : List ℕ) → n ≤ length ws → numbers_of n ws ≡ numbers_of n (ws ++ (w ∷ []))
 unfolding numbers_of
 numbers_full zero ws w h = refl
 numbers_full (suc n) [] w h = absurd (omega arith)
-numbers_full (suc n) (v ∷ ws) w h = ap (λ (l : List ℕ). number_or (number_of v) ∷ l) (numbers_full n ws w (omega arith))
+numbers_full (suc n) (v ∷ ws) w h = ap (λ (l : List (Option ℕ)). as_told (number_of v) ∷ l) (numbers_full n ws w (omega arith))
 
-number-told : (w : List ℕ) → number_from (min 8 (length w)) (value_of w) ≡ number_or (number_of w)
+number-told : (w : List ℕ) → number_from (min 8 (length w)) (value_of w) ≡ as_told (number_of w)
 unfolding value_of number_of
 number-told [] = refl
 number-told (b ∷ w) =
     simp (ne_eqb (min 8 (suc (length w))) 0 (λ e. omega arith)) (go (every digit (b ∷ w)) (ltb (decimal 0 (b ∷ w)) limit) (decimal 0 (b ∷ w)))
   where
-    go : (e l : Bool) (d : ℕ) → cond e (cond l d limit) limit ≡ number_or (cond (e && l) (some d) none)
+    go : (e l : Bool) (d : ℕ) → cond e (cond l (Some d) None) None ≡ as_told (cond (e && l) (some d) none)
     go true true d = refl
     go true false d = refl
     go false l d = refl
@@ -133,8 +123,8 @@ first-told : (ws : List (List ℕ)) (w : List ℕ) → small (first ws) → smal
 first-told [] w a b = b
 first-told (v ∷ ws) w a b = a
 
-numbers-told : (ws : List (List ℕ)) (w : List ℕ) (k n : ℕ) (numbers : List ℕ) → k ≡ min 8 (length ws + 1)
-    → numbers ≡ numbers_of 6 (later ws) → n ≡ number_or (number_of w) → numbers_with k numbers n ≡ numbers_of 6 (later (ws ++ (w ∷ [])))
+numbers-told : (ws : List (List ℕ)) (w : List ℕ) (k : ℕ) (n : Option ℕ) (numbers : List (Option ℕ)) → k ≡ min 8 (length ws + 1)
+    → numbers ≡ numbers_of 6 (later ws) → n ≡ as_told (number_of w) → numbers_with k numbers n ≡ numbers_of 6 (later (ws ++ (w ∷ [])))
 numbers-told [] w k n numbers e f q = simp (lt-leb 2 k (omega arith)) f
 numbers-told (v ∷ ws) w k n numbers e f q = go (dec_lt (length ws) 6)
   where
@@ -144,54 +134,8 @@ numbers-told (v ∷ ws) w k n numbers e f q = go (dec_lt (length ws) 6)
         simp (le-leb 2 k (omega arith), le-leb k 7 (omega arith)) ((λ i. set (f i) (z i) (q i)) ∙ numbers_more 6 ws w h)
     go (no h) = simp (le-leb 2 k (omega arith), lt-leb k 7 (omega arith)) (f ∙ numbers_full 6 ws w (omega arith))
 
-number_of_lem : (w : List ℕ) (len value : ℕ) → len ≡ min 8 (length w) → value ≡ value_of w → number_from len value ≡ number_or (number_of w)
+number_of_lem : (w : List ℕ) (len : ℕ) (value : Option ℕ) → len ≡ min 8 (length w) → value ≡ value_of w → number_from len value ≡ as_told (number_of w)
 number_of_lem w len value a b = (λ i. number_from (a i) (b i)) ∙ number-told w
-
--- ---- what the code keeps and hands on, part by part
-
-module _ (odd : Bool) (high n bytes : ℕ) (page : List ℕ) where
-  pub put_none : puts odd high n bytes (length page) ≡ false → (bytes ≡ bytes_with odd high n bytes (length page)) × (page ≡ page_with odd high n bytes page)
-  put_none e = rw e (refl, refl)
-
-  pub put_one : odd ≡ true → bytes < length page → high < 16 → n < 16
-      → (bytes + 1 ≡ bytes_with odd high n bytes (length page)) × (set page bytes (high * 16 + n) ≡ page_with odd high n bytes page)
-  put_one e f g h = rw (e, lt-ltb bytes (length page) f, lt-ltb high 16 g, lt-ltb n 16 h) (refl, refl)
-
-pub space_told : (r : Reading) (words name n : ℕ) (numbers : List ℕ) → words ≡ counted r.words → name ≡ name_from r.words r.name r.word
-    → n ≡ number_from r.len r.value → numbers ≡ numbers_with r.words r.numbers n → new_word words name numbers ≡ space_of r
-space_told r words name n numbers a b e f =
-    let g : numbers ≡ numbers_with r.words r.numbers (number_from r.len r.value) = f ∙ ap (numbers_with r.words r.numbers) e in
-    λ i. new_word (a i) (b i) (g i)
-
-pub letter_told : (r s : Reading) (b n room : ℕ) → s.words ≡ r.words → s.name ≡ r.name → s.numbers ≡ r.numbers → s.word ≡ packed_with r.word r.len b
-    → s.len ≡ counted r.len → s.value ≡ value_with r.value b → n ≡ hex_value b → s.hex ≡ (r.hex && ltb n 16) → s.odd ≡ not r.odd → s.high ≡ n
-    → s.bytes ≡ bytes_with r.odd r.high n r.bytes room → s ≡ letter_of r b room
-letter_told r s b n room a c d e f g m k l x y =
-    let v : s.high ≡ hex_value b = x ∙ m in
-    let w : s.hex ≡ (r.hex && hex_digit b) = k ∙ ap (λ (z : ℕ). r.hex && ltb z 16) m in
-    let u : s.bytes ≡ bytes_with r.odd r.high (hex_value b) r.bytes room = y ∙ ap (λ (z : ℕ). bytes_with r.odd r.high z r.bytes room) m in
-    λ i. record { words = a i; name = c i; numbers = d i; word = e i; len = f i; value = g i; hex = w i; odd = l i; high = v i; bytes = u i }
-
-pub page-more : (r : Reading) (b n : ℕ) (page after : List ℕ) → n ≡ hex_value b → after ≡ page_with r.odd r.high n r.bytes page
-    → after ≡ page_with r.odd r.high (hex_value b) r.bytes page
-page-more r b n page after m e = e ∙ ap (λ (z : ℕ). page_with r.odd r.high z r.bytes page) m
-
-module _ (r : Reading) (b : ℕ) (page : List ℕ) where
-  pub next_space : b ≡ 32 → (space_of r ≡ next_of r b (length page)) × (page ≡ next_page r b page)
-  unfolding next_of next_page
-  next_space e = (simp (eq-eqb b 32 e), simp (eq-eqb b 32 e))
-
-  pub next_letter : (b ≡ 32 → ⊥)
-      → (letter_of r b (length page) ≡ next_of r b (length page)) × (page_with r.odd r.high (hex_value b) r.bytes page ≡ next_page r b page)
-  unfolding next_of next_page
-  next_letter e = (simp (ne_eqb b 32 e), simp (ne_eqb b 32 e))
-
-pub ended-told : (r : Reading) (l : Line) (n : ℕ) → l.words ≡ r.words → l.name ≡ name_from r.words r.name r.word
-    → n ≡ number_from r.len r.value → l.numbers ≡ numbers_with r.words r.numbers n → l.page ≡ page_from r → l ≡ ended_of r
-unfolding ended_of
-ended-told r l n a b e f g =
-    let h : l.numbers ≡ numbers_with r.words r.numbers (number_from r.len r.value) = f ∙ ap (numbers_with r.words r.numbers) e in
-    λ i. record { words = a i; name = b i; numbers = h i; page = g i }
 
 -- ---- what is kept, from the start and with each byte more
 
@@ -281,7 +225,7 @@ letter_read p r b page u h o =
       bytes = every_more (λ x. ltb x 256) w b ∙ (λ i. o.bytes i && lt-ltb b 256 u i);
       word = (λ i. packed_with (o.word i) (o.long i) b) ∙ packed_more w b o.bytes;
       long = ap counted o.long ∙ counted_min (length w) ∙ ap (min 8) (sym (length-append w (b ∷ [])));
-      value = ap (λ (v : ℕ). value_with v b) o.value ∙ value-more w b;
+      value = ap (λ (v : Option ℕ). value_with v b) o.value ∙ value-more w b;
       hex = (λ i. o.hex i && hex_digit b) ∙ sym y;
       pairs =
           λ z.
@@ -300,14 +244,6 @@ next-read p r b page u o = go (ℕ_discrete b 32)
     go (no e) = rw (ne_eqb b 32 e) (letter_read p r b page u e o)
 
 -- ---- the line's end
-
-pub page-short : (r : Reading) → (r.word ≡ 1535139411065 → ⊥) → r.hex ≡ true → r.odd ≡ false → r.len ≡ 0 → Page.Nothing ≡ page_from r
-unfolding packed pack_from
-page-short r a b c d = sym (simp (ne_eqb r.word 1535139411065 a, b, c, eq-eqb r.len 0 d))
-
-pub page-bytes : (r : Reading) → (r.word ≡ 1535139411065 → ⊥) → r.hex ≡ true → r.odd ≡ false → (r.len ≡ 0 → ⊥) → Page.Bytes r.bytes ≡ page_from r
-unfolding packed pack_from
-page-bytes r a b c d = sym (simp (ne_eqb r.word 1535139411065 a, b, c, ne_eqb r.len 0 d))
 
 void-length : (w : List ℕ) → eqb (min 8 (length w)) 0 ≡ void w
 void-length [] = refl
@@ -331,12 +267,12 @@ not_empty w h = go (same w empty_word) refl
 
 page-pick : (w : List ℕ) (page : List ℕ) (e o v : Bool) (n : ℕ) (x y : Bool) → x ≡ e → (e ≡ true → y ≡ o)
     → (e ≡ true → Kept (hex_bytes w) n page)
-    → PageIs (cond (e && not o && not v) (some (hex_bytes w)) none) page (cond x (cond y Page.Nothing (cond v Page.Nothing (Page.Bytes n))) Page.Nothing)
+    → PageIs (cond (e && not o && not v) (some (hex_bytes w)) none) page (cond x (cond y None (cond v None (Some n))) None)
 page-pick w page false o v n x y a b k = rw a tt
 page-pick w page true o v n x y a b k = go o v (b refl)
   where
     go : (o v : Bool) → y ≡ o
-        → PageIs (cond (not o && not v) (some (hex_bytes w)) none) page (cond x (cond y Page.Nothing (cond v Page.Nothing (Page.Bytes n))) Page.Nothing)
+        → PageIs (cond (not o && not v) (some (hex_bytes w)) none) page (cond x (cond y None (cond v None (Some n))) None)
     go true v q = rw (a, q) tt
     go false true q = rw (a, q) tt
     go false false q = rw (a, q) (k refl)

@@ -64,17 +64,6 @@ put_fits t at b s r h e f = rw (le-leb (at + length b) (length t) h) (λ i. writ
 
 -- ---- bytes as they are
 
-pub copy_more : (t : List ℕ) (at : ℕ) (b : List ℕ) (i : ℕ) (s : List ℕ) → at + length b ≤ length t → i < length b → s ≡ over t at (take i b)
-    → set s (at + i) (get_or b i 0) ≡ over t at (take (i + 1) b)
-copy_more t at b i s h l e =
-    let z : length (take i b) ≡ i = length-take-le i b (omega arith) in
-    let g : at + length (take i b) < length t = omega arith in
-    (λ j. set (e j) (at + sym z j) (get_or b i 0)) ∙ over-more t at (take i b) (get_or b i 0) g
-    ∙ ap (over t at) (sym (take-suc b i 0 l) ∙ ap (λ (n : ℕ). take n b) (sym (add-one i)))
-
-pub copy_all : (t : List ℕ) (at : ℕ) (b : List ℕ) (i : ℕ) (s : List ℕ) → length b ≤ i → s ≡ over t at (take i b) → s ≡ over t at b
-copy_all t at b i s h e = e ∙ ap (over t at) (take_all i b h)
-
 pub byte_put : (t : List ℕ) (at x : ℕ) → at < length t → set t at x ≡ over t at (x ∷ [])
 byte_put t at x h =
     let z : at + 0 < length t = omega arith in

@@ -5,10 +5,10 @@ use mathlib.Core.List.{List, [], ◌∷◌, ◌++◌}
 use Prim.Native.Nat.{ℕ, zero, suc, ◌+◌, ◌-◌, ◌*◌, ◌<◌, ◌≤◌}
 use native.Mathlib.Decide.{dec_lt}
 use native.Mathlib.Omega.{arith}
-use borrow.Author.Tests.{leb-true, ltb-true, eqb-true, ne_eqb, lt-ltb}
+use borrow.Author.Tests.{ltb-true, eqb-true, ne_eqb, lt-ltb}
 use lib.Dec.{leb, ltb, eqb}
 use lib.ListN.{length}
-use Rattle.lines.specs.Words.{grow, words, first, every, odd, same, between, decimal, hex_value, hex_digit, hex_bytes, pack_from, packed}
+use Rattle.lines.specs.Words.{grow, words, first, every, odd, same, decimal, hex_value, hex_digit, hex_bytes, pack_from, packed}
 use Rattle.lines.specs.Read.{high_from}
 
 pub and_left : (a b : Bool) → (a && b) ≡ true → a ≡ true
@@ -18,9 +18,6 @@ and_left false b e = e
 pub and_right : (a b : Bool) → (a && b) ≡ true → b ≡ true
 and_right true b e = e
 and_right false b e = absurd (let z : ◌≡◌ {A = ℕ} 0 1 = cc in omega arith)
-
-pub between_low : (low high b : ℕ) → between low high b ≡ true → low ≤ b
-between_low low high b e = leb-true low b (and_left (leb low b) (leb b high) e)
 
 -- ---- words, with a byte more at the end
 

@@ -1,10 +1,10 @@
 -- A line of `stand`: its first word says what is asked, and the words after it are numbers and a page.
-use Rattle.std.specs.Prelude.{◌≡◌, Bool, cond, ◌&&◌, List, [], ℕ, ltb, eqb, length, take, get_or}
+use Rattle.std.specs.Prelude.{◌≡◌, cond, List, [], ℕ, eqb, length, take, get_or, Option as Told, Some, None}
 use Rattle.std.proofs.Math.Option.{Option, none, some}
 use Rattle.lines.specs.declared.read.Line.{Line}
-use Rattle.lines.specs.declared.read.Page.{Page}
 use Rattle.lines.specs.declared.command.Command.{Command}
-use Rattle.lines.specs.Words.{words, first, same, limit, number_of, page_of, packed}
+use Rattle.lines.specs.declared.command.Verb.{Verb}
+use Rattle.lines.specs.Words.{words, first, same, number_of, page_of, packed}
 use Rattle.lines.specs.Line.{Kept}
 use Rattle.lines.specs.Ascii.{ascii}
 
@@ -60,58 +60,76 @@ unfoldable pub stand_line : List ℕ → Asked
 stand_line p = asked (words p)
 
 -- as the code hands it on: a page stands at the front of the slice
-abbrev pub Asks : Asked → List ℕ → Command → Type 0
-Asks (config m n k t f) page (Command.Config m' n' k' t' f') = (m' ≡ m) × (n' ≡ n) × (k' ≡ k) × (t' ≡ t) × (f' ≡ f)
-Asks (config m n k t f) page (Command.Read c) = ⊥
-Asks (config m n k t f) page (Command.Deposit c b) = ⊥
-Asks (config m n k t f) page Command.Other = ⊥
-Asks (read c) page (Command.Config m' n' k' t' f') = ⊥
-Asks (read c) page (Command.Read c') = c' ≡ c
-Asks (read c) page (Command.Deposit c' b) = ⊥
-Asks (read c) page Command.Other = ⊥
-Asks (deposit c bytes) page (Command.Config m' n' k' t' f') = ⊥
-Asks (deposit c bytes) page (Command.Read c') = ⊥
-Asks (deposit c bytes) page (Command.Deposit c' n) = (c' ≡ c) × Kept bytes n page
-Asks (deposit c bytes) page Command.Other = ⊥
-Asks other page (Command.Config m' n' k' t' f') = ⊥
-Asks other page (Command.Read c) = ⊥
-Asks other page (Command.Deposit c b) = ⊥
-Asks other page Command.Other = Unit {0}
+abbrev pub Asks : Asked → List ℕ → Told Command → Type 0
+Asks (config m n k t f) page (Some (Command.Config m' n' k' t' f')) = (m' ≡ m) × (n' ≡ n) × (k' ≡ k) × (t' ≡ t) × (f' ≡ f)
+Asks (config m n k t f) page (Some (Command.Read c)) = ⊥
+Asks (config m n k t f) page (Some (Command.Deposit c b)) = ⊥
+Asks (config m n k t f) page None = ⊥
+Asks (read c) page (Some (Command.Config m' n' k' t' f')) = ⊥
+Asks (read c) page (Some (Command.Read c')) = c' ≡ c
+Asks (read c) page (Some (Command.Deposit c' b)) = ⊥
+Asks (read c) page None = ⊥
+Asks (deposit c bytes) page (Some (Command.Config m' n' k' t' f')) = ⊥
+Asks (deposit c bytes) page (Some (Command.Read c')) = ⊥
+Asks (deposit c bytes) page (Some (Command.Deposit c' n)) = (c' ≡ c) × Kept bytes n page
+Asks (deposit c bytes) page None = ⊥
+Asks other page (Some (Command.Config m' n' k' t' f')) = ⊥
+Asks other page (Some (Command.Read c)) = ⊥
+Asks other page (Some (Command.Deposit c b)) = ⊥
+Asks other page None = Unit {0}
 
 -- ---- what the code makes of a line that it was handed, whatever it says
 
--- the number at a place among those after the first word, and whether it is one
-abbrev pub number : Line → ℕ → ℕ
-number l i = get_or l.numbers i 0
+-- the number at a place among those after the first word
+abbrev pub number : Line → ℕ → Told ℕ
+number l i = get_or l.numbers i None
 
-abbrev pub is_number : Line → ℕ → Bool
-is_number l i = ltb (number l i) limit
+abbrev pub config_told : Told ℕ → Told ℕ → Told ℕ → Told ℕ → Told ℕ → Told Command
+config_told None n k t f = None
+config_told (Some m) None k t f = None
+config_told (Some m) (Some n) None t f = None
+config_told (Some m) (Some n) (Some k) None f = None
+config_told (Some m) (Some n) (Some k) (Some t) None = None
+config_told (Some m) (Some n) (Some k) (Some t) (Some f) = Some (Command.Config m n k t f)
 
-abbrev pub config_from : Line → Command
+abbrev pub read_told : Told ℕ → Told Command
+read_told None = None
+read_told (Some c) = Some (Command.Read c)
+
+abbrev pub deposit_told : Told ℕ → Told ℕ → Told Command
+deposit_told None n = None
+deposit_told (Some c) None = None
+deposit_told (Some c) (Some n) = Some (Command.Deposit c n)
+
+abbrev pub config_from : Line → Told Command
 config_from l =
-    cond (eqb l.words 6 && (is_number l 0 && (is_number l 1 && (is_number l 2 && (is_number l 3 && is_number l 4)))))
-    (Command.Config (number l 0) (number l 1) (number l 2) (number l 3) (number l 4))
-    Command.Other
+    cond (eqb l.words 6) (config_told (number l 0) (number l 1) (number l 2) (number l 3) (number l 4)) None
 
-abbrev pub read_from : Line → Command
-read_from l = cond (eqb l.words 2 && is_number l 0) (Command.Read (number l 0)) Command.Other
+abbrev pub read_from : Line → Told Command
+read_from l = cond (eqb l.words 2) (read_told (number l 0)) None
 
-abbrev pub deposit_or : ℕ → Page → Command
-deposit_or c (Page.Bytes n) = Command.Deposit c n
-deposit_or c Page.Nothing = Command.Other
+abbrev pub deposit_from : Line → Told Command
+deposit_from l = cond (eqb l.words 3) (deposit_told (number l 0) l.page) None
 
-abbrev pub deposit_from : Line → Command
-deposit_from l = cond (eqb l.words 3 && is_number l 0) (deposit_or (number l 0) l.page) Command.Other
+-- which form it is, by the first word packed
+unfoldable pub verb_of : ℕ → Told Verb
+verb_of name =
+    cond (eqb name (packed (ascii "config"))) (Some Verb.Config)
+    (cond (eqb name (packed (ascii "read"))) (Some Verb.Read)
+    (cond (eqb name (packed (ascii "deposit"))) (Some Verb.Deposit) None))
 
-unfoldable pub asked_of : Line → Command
-asked_of l =
-    cond (eqb l.name (packed (ascii "config"))) (config_from l)
-    (cond (eqb l.name (packed (ascii "read"))) (read_from l)
-    (cond (eqb l.name (packed (ascii "deposit"))) (deposit_from l) Command.Other))
+abbrev pub asked_by : Told Verb → Line → Told Command
+asked_by (Some Verb.Config) l = config_from l
+asked_by (Some Verb.Read) l = read_from l
+asked_by (Some Verb.Deposit) l = deposit_from l
+asked_by None l = None
+
+unfoldable pub asked_of : Line → Told Command
+asked_of l = asked_by (verb_of l.name) l
 
 -- with the bytes of a page, which stand at the front of the slice
-abbrev pub given : Command → List ℕ → Asked
-given (Command.Config m n k t f) page = config m n k t f
-given (Command.Read c) page = read c
-given (Command.Deposit c n) page = deposit c (take n page)
-given Command.Other page = other
+abbrev pub given : Told Command → List ℕ → Asked
+given (Some (Command.Config m n k t f)) page = config m n k t f
+given (Some (Command.Read c)) page = read c
+given (Some (Command.Deposit c n)) page = deposit c (take n page)
+given None page = other

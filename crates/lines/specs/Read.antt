@@ -1,8 +1,7 @@
 -- What the code keeps of the front of a line.
-use Rattle.std.specs.Prelude.{◌≡◌, Bool, true, false, cond, not, ◌&&◌, List, [], ◌∷◌, ◌++◌, ℕ, ◌+◌, ◌-◌, ◌*◌, min, ltb, eqb, length, set}
+use Rattle.std.specs.Prelude.{◌≡◌, Bool, true, false, cond, not, ◌&&◌, List, [], ◌∷◌, ◌++◌, ℕ, ◌+◌, ◌-◌, ◌*◌, min, ltb, eqb, length, set, Option, Some, None}
 use Rattle.lines.specs.declared.read.Reading.{Reading}
 use Rattle.lines.specs.declared.read.Line.{Line}
-use Rattle.lines.specs.declared.read.Page.{Page}
 use Rattle.lines.specs.Words.{words, first, later, every, odd, limit, digit, decimal, hex_value, hex_digit, hex_bytes, empty_word, packed, between}
 use Rattle.lines.specs.Line.{numbers_of, Kept}
 
@@ -16,23 +15,25 @@ counted n = cond (ltb n 8) (n + 1) 8
 abbrev pub packed_with : ℕ → ℕ → ℕ → ℕ
 packed_with word len b = cond (ltb len 7 && ltb word 72057594037927936) (word * 256 + b) 0
 
-abbrev pub capped : ℕ → ℕ
-capped n = cond (ltb n limit) n limit
+-- none from 2 ^ 32 on
+abbrev pub capped : ℕ → Option ℕ
+capped n = cond (ltb n limit) (Some n) None
 
--- a value with one digit more; 2 ^ 32 where it is no digit, and for all that are too big
-abbrev pub value_with : ℕ → ℕ → ℕ
-value_with v b = cond (digit b) (capped (v * 10 + (b - 48))) limit
+-- a value with one digit more; none where it is no digit, and where it is too big
+abbrev pub value_with : Option ℕ → ℕ → Option ℕ
+value_with None b = None
+value_with (Some v) b = cond (digit b) (capped (v * 10 + (b - 48))) None
 
 -- the first word is the name
 abbrev pub name_from : ℕ → ℕ → ℕ → ℕ
 name_from words name word = cond (eqb words 1) word name
 
 -- a word of no bytes is no number
-abbrev pub number_from : ℕ → ℕ → ℕ
-number_from len value = cond (eqb len 0) limit value
+abbrev pub number_from : ℕ → Option ℕ → Option ℕ
+number_from len value = cond (eqb len 0) None value
 
 -- the word of this place ended: the 2nd to the 7th are numbers
-abbrev pub numbers_with : ℕ → List ℕ → ℕ → List ℕ
+abbrev pub numbers_with : ℕ → List (Option ℕ) → Option ℕ → List (Option ℕ)
 numbers_with words numbers n = cond (between 2 7 words) (set numbers (words - 2) n) numbers
 
 -- two hex digits are a byte: with the second of them it goes into the page, where there is room
@@ -46,20 +47,20 @@ abbrev pub page_with : Bool → ℕ → ℕ → ℕ → List ℕ → List ℕ
 page_with odd high n bytes page = cond (puts odd high n bytes (length page)) (set page bytes (high * 16 + n)) page
 
 -- the word under way as a page
-abbrev pub page_from : Reading → Page
+abbrev pub page_from : Reading → Option ℕ
 page_from r =
-    cond (eqb r.word (packed empty_word)) (Page.Bytes 0)
-    (cond r.hex (cond r.odd Page.Nothing (cond (eqb r.len 0) Page.Nothing (Page.Bytes r.bytes))) Page.Nothing)
+    cond (eqb r.word (packed empty_word)) (Some 0)
+    (cond r.hex (cond r.odd None (cond (eqb r.len 0) None (Some r.bytes))) None)
 
 -- ---- what is kept, and what is handed on: of whatever was kept before, and of a page of so many bytes
 
 -- so many words, the last of them empty and under way
-abbrev pub new_word : ℕ → ℕ → List ℕ → Reading
+abbrev pub new_word : ℕ → ℕ → List (Option ℕ) → Reading
 new_word words name numbers =
-    record { words = words; name = name; numbers = numbers; word = 1; len = 0; value = 0; hex = true; odd = false; high = 0; bytes = 0 }
+    record { words = words; name = name; numbers = numbers; word = 1; len = 0; value = Some 0; hex = true; odd = false; high = 0; bytes = 0 }
 
 unfoldable pub begun : Reading
-begun = new_word 1 0 (limit ∷ limit ∷ limit ∷ limit ∷ limit ∷ limit ∷ [])
+begun = new_word 1 0 (None ∷ None ∷ None ∷ None ∷ None ∷ None ∷ [])
 
 -- a space ends the word under way
 abbrev pub space_of : Reading → Reading
@@ -100,8 +101,8 @@ ended_of r =
 -- ---- the word under way
 
 -- its value so far
-unfoldable pub value_of : List ℕ → ℕ
-value_of w = cond (every digit w) (capped (decimal 0 w)) limit
+unfoldable pub value_of : List ℕ → Option ℕ
+value_of w = cond (every digit w) (capped (decimal 0 w)) None
 
 -- the value of its last hex digit
 unfoldable pub high_from : ℕ → List ℕ → ℕ

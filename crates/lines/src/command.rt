@@ -1,94 +1,88 @@
 // What a line of `stand` asks for.
 ghost use Rattle.std.specs.Prelude.{◌≡◌};
-ghost use Rattle.lines.specs.Command.{config_from, read_from, deposit_from, asked_of};
+ghost use Rattle.lines.specs.Command.{verb_of, config_from, read_from, deposit_from, asked_of};
 
-use crate::read::{Line, Page};
+use crate::read::Line;
 
-#[derive(Clone, Copy)]
+#[derive(Clone, Copy, Debug, PartialEq, Eq)]
 pub enum Command {
     // m, n, k, t and F.
     Config(usize, usize, usize, usize, usize),
     Read(usize),
     // A client, and a page of so many bytes.
     Deposit(usize, usize),
-    // A line of another form.
-    Other,
 }
 
-// All words after the first are numbers: 2^32 stands for a word that is none.
-fn config(l: Line) -> Command
+// What a line's first word says.
+#[derive(Clone, Copy, Debug, PartialEq, Eq)]
+pub enum Verb {
+    Config,
+    Read,
+    Deposit,
+}
+
+// The names packed: their bytes after a 1.
+const CONFIG: u64 = 0x01_63_6f_6e_66_69_67;
+
+const READ: u64 = 0x01_72_65_61_64;
+
+const DEPOSIT: u64 = 0x01_64_65_70_6f_73_69_74;
+
+#[tactic(auto, unfolding(crate::specs::Command::verb_of, crate::specs::Words::packed, crate::specs::Words::pack_from))]
+fn verb_named(name: u64) -> Option<Verb>
+    ensures { result ≡ verb_of name }
+{
+    match name {
+        CONFIG => Some(Verb::Config),
+        READ => Some(Verb::Read),
+        DEPOSIT => Some(Verb::Deposit),
+        _ => None,
+    }
+}
+
+// All words after the first are numbers.
+fn config(l: Line) -> Option<Command>
     ensures { result ≡ config_from l }
 {
-    let v = l.numbers;
     if l.words != 6 {
-        return Command::Other;
+        return None;
     }
-    if 4294967295 < v[0] {
-        return Command::Other;
-    }
-    if 4294967295 < v[1] {
-        return Command::Other;
-    }
-    if 4294967295 < v[2] {
-        return Command::Other;
-    }
-    if 4294967295 < v[3] {
-        return Command::Other;
-    }
-    if 4294967295 < v[4] {
-        return Command::Other;
-    }
-    Command::Config(
-        v[0] as usize,
-        v[1] as usize,
-        v[2] as usize,
-        v[3] as usize,
-        v[4] as usize,
-    )
+    let [m, n, k, t, f, _] = l.numbers;
+    Some(Command::Config(
+        m? as usize,
+        n? as usize,
+        k? as usize,
+        t? as usize,
+        f? as usize,
+    ))
 }
 
-fn read(l: Line) -> Command
+fn read(l: Line) -> Option<Command>
     ensures { result ≡ read_from l }
 {
-    let v = l.numbers;
     if l.words != 2 {
-        return Command::Other;
+        return None;
     }
-    if 4294967295 < v[0] {
-        return Command::Other;
-    }
-    Command::Read(v[0] as usize)
+    Some(Command::Read(l.numbers[0]? as usize))
 }
 
-fn deposit(l: Line) -> Command
+fn deposit(l: Line) -> Option<Command>
     ensures { result ≡ deposit_from l }
 {
-    let v = l.numbers;
     if l.words != 3 {
-        return Command::Other;
+        return None;
     }
-    if 4294967295 < v[0] {
-        return Command::Other;
-    }
-    let p = l.page;
-    match p {
-        Page::Bytes(n) => Command::Deposit(v[0] as usize, n),
-        Page::Nothing => Command::Other,
-    }
+    Some(Command::Deposit(l.numbers[0]? as usize, l.page?))
 }
 
-// The names are packed words: `config`, `read`, `deposit`.
-pub fn asked(l: Line) -> Command
+// None for a line of another form.
+#[tactic(auto, unfolding(crate::specs::Command::asked_of))]
+pub fn asked(l: Line) -> Option<Command>
     ensures { result ≡ asked_of l }
 {
-    if l.name == 390805221435751 {
-        return config(l);
+    match verb_named(l.name)? {
+        Verb::Config => config(l),
+        Verb::Read => read(l),
+        Verb::Deposit => deposit(l),
     }
-    if l.name == 6214213988 {
-        return read(l);
-    }
-    if l.name == 100316625289570676 {
-        return deposit(l);
-    }
-    Command::Other
 }

@@ -1,23 +1,23 @@
 // A line of text of any length, read byte by byte: its words, as numbers, and the last one as a page.
-ghost use Rattle.std.specs.Prelude.{◌≡◌, ◌&&◌, ◌<◌, ltb, length};
-ghost use Rattle.lines.specs.Words.{between as within, hex_value};
+ghost use Rattle.std.specs.Prelude.{◌≡◌, ◌&&◌, ltb, length};
+ghost use Rattle.lines.specs.Words.{hex_value};
 ghost use Rattle.lines.specs.Read.{counted, packed_with, value_with, bytes_with, page_with, name_from, number_from, numbers_with, begun, space_of, letter_of, next_of, next_page, page_from, ended_of};
 
 // What was read of a line so far.
-#[derive(Clone, Copy)]
+#[derive(Clone, Copy, Debug, PartialEq, Eq)]
 pub struct Reading {
     // Words so far, the one under way too; 8 for more than 7.
     pub words: usize,
-    // The first word, packed, once it ended; else 0.
+    // The first word, packed, once it ended; else 0. `LineOf` says it of a line, and programs have names of their own.
     pub name: u64,
-    // The 2nd to the 7th word as numbers, once ended; 2^32 for any other word, and until then.
-    pub numbers: [u64; 6],
+    // The 2nd to the 7th word as numbers, once ended; none for any other word, and until then.
+    pub numbers: [Option<u32>; 6],
     // The word under way, packed.
     pub word: u64,
     // Its bytes; 8 for more than 7.
     pub len: usize,
-    // Its value, if it is digits alone and below 2^32, else 2^32.
-    pub value: u64,
+    // Its value, if it is digits alone and below 2^32.
+    pub value: Option<u32>,
     // It is hex digits alone.
     pub hex: bool,
     // Their number is odd.
@@ -28,37 +28,14 @@ pub struct Reading {
     pub bytes: usize,
 }
 
-// The last word as a page.
-#[derive(Clone, Copy)]
-pub enum Page {
-    // So many bytes at the front of the slice.
-    Bytes(usize),
-    // It is none.
-    Nothing,
-}
-
 // What a line says.
-#[derive(Clone, Copy)]
+#[derive(Clone, Copy, Debug, PartialEq, Eq)]
 pub struct Line {
     pub words: usize,
     pub name: u64,
-    pub numbers: [u64; 6],
-    pub page: Page,
-}
-
-fn wide(b: u8) -> u64
-    ensures { (result ≡ b) × (result < 256) }
-{
-    b as u64
-}
-
-fn between(b: u8, low: u8, high: u8) -> bool
-    ensures { result ≡ within low high b }
-{
-    if b < low {
-        return false;
-    }
-    b <= high
+    pub numbers: [Option<u32>; 6],
+    // The last word as a page: so many bytes at the front of the slice.
+    pub page: Option<usize>,
 }
 
 // One more, up to 8.
@@ -81,40 +58,30 @@ fn packed_with(word: u64, len: usize, b: u8) -> u64
     if 72057594037927936 <= word {
         return 0;
     }
-    word * 256 + wide(b)
+    word * 256 + u64::from(b)
 }
 
-// A value with one digit more; 2^32 where it is no digit, and for all that are too big.
-fn value_with(value: u64, b: u8) -> u64
+// A value with one digit more; none where it is no digit, and where it is too big.
+fn value_with(value: Option<u32>, b: u8) -> Option<u32>
     ensures { result ≡ value_with value b }
 {
-    if !between(b, 48, 57) {
-        return 4294967296;
-    }
-    if 4294967296 <= value {
-        return 4294967296;
-    }
-    let v = value * 10 + wide(b - 48);
-    if 4294967296 <= v {
-        return 4294967296;
-    }
-    v
+    let b'0'..=b'9' = b else {
+        return None;
+    };
+    value?.checked_mul(10)?.checked_add(u32::from(b - b'0'))
 }
 
-// A hex digit's value; 16 for any other byte.
+// A hex digit's value; 16 for any other byte. No option: a caller's state has any `high`, so that `put` would test it for 16 besides.
+#[tactic(auto, unfolding(crate::specs::Words::hex_value))]
 fn nibble(b: u8) -> u8
     ensures { result ≡ hex_value b }
 {
-    if between(b, 48, 57) {
-        return b - 48;
+    match b {
+        b'0'..=b'9' => b - b'0',
+        b'A'..=b'F' => b - b'A' + 10,
+        b'a'..=b'f' => b - b'a' + 10,
+        _ => 16,
     }
-    if between(b, 65, 70) {
-        return b - 55;
-    }
-    if between(b, 97, 102) {
-        return b - 87;
-    }
-    16
 }
 
 // Still hex digits alone.
@@ -158,17 +125,17 @@ fn name_from(words: usize, name: u64, word: u64) -> u64
 }
 
 // A word of no bytes is no number.
-fn number_from(len: usize, value: u64) -> u64
+fn number_from(len: usize, value: Option<u32>) -> Option<u32>
     ensures { result ≡ number_from len value }
 {
     if len == 0 {
-        return 4294967296;
+        return None;
     }
     value
 }
 
 // The number of the word that ended goes to its place.
-fn numbers_with(words: usize, numbers: [u64; 6], n: u64) -> [u64; 6]
+fn numbers_with(words: usize, numbers: [Option<u32>; 6], n: Option<u32>) -> [Option<u32>; 6]
     ensures { result ≡ numbers_with words numbers n }
 {
     if words < 2 {
@@ -182,17 +149,17 @@ fn numbers_with(words: usize, numbers: [u64; 6], n: u64) -> [u64; 6]
     v
 }
 
+#[tactic(auto, unfolding(crate::specs::Read::begun))]
 pub fn begin() -> Reading
     ensures { result ≡ begun }
 {
-    let numbers = [4294967296u64; 6];
     Reading {
         words: 1,
         name: 0,
-        numbers: numbers,
+        numbers: [None; 6],
         word: 1,
         len: 0,
-        value: 0,
+        value: Some(0),
         hex: true,
         odd: false,
         high: 0,
@@ -201,25 +168,19 @@ pub fn begin() -> Reading
 }
 
 // The word under way ends, and an empty one begins.
+#[tactic(auto, unfolding(crate::specs::Read::begun))]
 fn space(r: Reading) -> Reading
     ensures { result ≡ space_of r }
 {
-    let old = r.numbers;
     let words = count(r.words);
     let name = name_from(r.words, r.name, r.word);
     let number = number_from(r.len, r.value);
-    let numbers = numbers_with(r.words, old, number);
+    let numbers = numbers_with(r.words, r.numbers, number);
     Reading {
-        words: words,
-        name: name,
-        numbers: numbers,
-        word: 1,
-        len: 0,
-        value: 0,
-        hex: true,
-        odd: false,
-        high: 0,
-        bytes: 0,
+        words,
+        name,
+        numbers,
+        ..begin()
     }
 }
 
@@ -227,7 +188,6 @@ fn space(r: Reading) -> Reading
 fn letter(r: Reading, b: u8, page: &mut [u8]) -> Reading
     ensures { (result ≡ letter_of r b (length page.old)) × (page.new ≡ page_with r.odd r.high (hex_value b) r.bytes page.old) }
 {
-    let numbers = r.numbers;
     let word = packed_with(r.word, r.len, b);
     let len = count(r.len);
     let value = value_with(r.value, b);
@@ -235,20 +195,19 @@ fn letter(r: Reading, b: u8, page: &mut [u8]) -> Reading
     let hex = hex_with(r.hex, n);
     let bytes = put(r.odd, r.high, n, r.bytes, page);
     Reading {
-        words: r.words,
-        name: r.name,
-        numbers: numbers,
-        word: word,
-        len: len,
-        value: value,
-        hex: hex,
+        word,
+        len,
+        value,
+        hex,
         odd: !r.odd,
         high: n,
-        bytes: bytes,
+        bytes,
+        ..r
     }
 }
 
 // One byte more of the line.
+#[tactic(auto, unfolding(crate::specs::Read::next_of, crate::specs::Read::next_page))]
 pub fn next(r: Reading, b: u8, page: &mut [u8]) -> Reading
     ensures { (result ≡ next_of r b (length page.old)) × (page.new ≡ next_page r b page.old) }
 {
@@ -258,39 +217,36 @@ pub fn next(r: Reading, b: u8, page: &mut [u8]) -> Reading
     letter(r, b, page)
 }
 
+// `empty`, packed: its bytes after a 1.
+const EMPTY: u64 = 0x01_65_6d_70_74_79;
+
 // The word under way as a page: hex digits in pairs, or `empty`.
-fn page_from(r: Reading) -> Page
+#[tactic(auto, unfolding(crate::specs::Words::packed, crate::specs::Words::pack_from))]
+fn page_from(r: Reading) -> Option<usize>
     ensures { result ≡ page_from r }
 {
-    if r.word == 1535139411065 {
-        return Page::Bytes(0);
+    if r.word == EMPTY {
+        return Some(0);
     }
-    if !r.hex {
-        return Page::Nothing;
+    if !r.hex || r.odd || r.len == 0 {
+        return None;
     }
-    if r.odd {
-        return Page::Nothing;
-    }
-    if r.len == 0 {
-        return Page::Nothing;
-    }
-    let bytes = r.bytes;
-    Page::Bytes(bytes)
+    Some(r.bytes)
 }
 
 // The line ended: the word under way ends too.
+#[tactic(auto, unfolding(crate::specs::Read::ended_of))]
 pub fn ended(r: Reading) -> Line
     ensures { result ≡ ended_of r }
 {
-    let old = r.numbers;
     let name = name_from(r.words, r.name, r.word);
     let number = number_from(r.len, r.value);
-    let numbers = numbers_with(r.words, old, number);
+    let numbers = numbers_with(r.words, r.numbers, number);
     let page = page_from(r);
     Line {
         words: r.words,
-        name: name,
-        numbers: numbers,
-        page: page,
+        name,
+        numbers,
+        page,
     }
 }

@@ -5,17 +5,8 @@ ghost use Rattle.lines.specs.Sentences.{spaced_number, shown, header_line, refus
 
 use itoa::Buffer;
 
-// Bytes that fit.
-fn copy(text: &mut [u8], at: usize, b: &[u8])
-    requires { at + length b.now ≤ length text.old }
-    ensures { text.new ≡ over text.old at b.now }
-{
-    for i in 0..b.len() {
-        text[at + i] = b[i];
-    }
-}
-
 // Bytes as they are.
+#[tactic(auto, using(crate::proofs::TextLaws::put_full))]
 pub fn bytes(text: &mut [u8], at: usize, b: &[u8]) -> usize
     ensures { written text.new result ≡ put_at text.old at b.now }
 {
@@ -25,10 +16,12 @@ pub fn bytes(text: &mut [u8], at: usize, b: &[u8]) -> usize
     if text.len() - at < b.len() {
         return at;
     }
-    copy(text, at, b);
-    at + b.len()
+    let end = at + b.len();
+    text[at..end].copy_from_slice(b);
+    end
 }
 
+#[tactic(auto, using(crate::proofs::TextLaws::put_full))]
 pub fn byte(text: &mut [u8], at: usize, b: u8) -> usize
     ensures { written text.new result ≡ put_at text.old at (b ∷ []) }
 {
@@ -43,7 +36,7 @@ fn digit(d: u8) -> u8
     requires { d < 16 }
     ensures { result ≡ hex_digit d }
 {
-    if d < 10 { 48 + d } else { 55 + d }
+    if d < 10 { b'0' + d } else { b'A' + (d - 10) }
 }
 
 // Two digits for each byte, which fit.
@@ -51,14 +44,14 @@ fn spell(text: &mut [u8], at: usize, b: &[u8])
     requires { at + 2 * length b.now ≤ length text.old }
     ensures { text.new ≡ over text.old at (hex_of b.now) }
 {
-    for i in 0..b.len() {
-        let x = b[i];
+    for (i, x) in b.iter().enumerate() {
         text[at + 2 * i] = digit(x / 16);
         text[at + 2 * i + 1] = digit(x % 16);
     }
 }
 
 // Bytes in hexadecimal, uppercase.
+#[tactic(auto, using(crate::proofs::TextLaws::hex_full))]
 pub fn hex(text: &mut [u8], at: usize, b: &[u8]) -> usize
     ensures { written text.new result ≡ put_at text.old at (hex_of b.now) }
 {
@@ -93,7 +86,7 @@ fn spaced(text: &mut [u8], at: usize, x: u64) -> usize
 fn show(text: &mut [u8], at: usize, b: &[u8]) -> usize
     ensures { written text.new result ≡ put_at text.old at (shown b.now) }
 {
-    if b.len() == 0 {
+    if b.is_empty() {
         return bytes(text, at, b"empty");
     }
     hex(text, at, b)
@@ -111,7 +104,7 @@ fn width(x: u64) -> usize
 fn show_fits(b: &[u8], room: usize) -> bool
     ensures { result ≡ leb (length (shown b.now)) room }
 {
-    if b.len() == 0 {
+    if b.is_empty() {
         return 5 <= room;
     }
     // halved, as twice a length could wrap
@@ -156,12 +149,12 @@ pub fn refused(text: &mut [u8], x: usize) -> usize
 pub fn deposited(text: &mut [u8], c: usize, sequence: u32) -> usize
     ensures { written text.new result ≡ put_line text.old (deposited_line c sequence) }
 {
-    if text.len() < 8 + width(c as u64) + width(sequence as u64) {
+    if text.len() < 8 + width(c as u64) + width(u64::from(sequence)) {
         return 0;
     }
     let a = bytes(text, 0, b"DEPOSIT");
     let b = spaced(text, a, c as u64);
-    let d = spaced(text, b, sequence as u64);
+    let d = spaced(text, b, u64::from(sequence));
     byte(text, d, b'\n')
 }
 
@@ -181,7 +174,7 @@ pub fn read_nothing(text: &mut [u8], c: usize) -> usize
 pub fn read_page(text: &mut [u8], c: usize, sequence: u32, writer: u8, page: &[u8]) -> usize
     ensures { written text.new result ≡ put_line text.old (page_line c sequence writer page.now) }
 {
-    let rest = 6 + width(c as u64) + width(sequence as u64) + width(writer as u64);
+    let rest = 6 + width(c as u64) + width(u64::from(sequence)) + width(u64::from(writer));
     if text.len() < rest {
         return 0;
     }
@@ -190,8 +183,8 @@ pub fn read_page(text: &mut [u8], c: usize, sequence: u32, writer: u8, page: &[u
     }
     let a = bytes(text, 0, b"READ");
     let b = spaced(text, a, c as u64);
-    let d = spaced(text, b, sequence as u64);
-    let e = spaced(text, d, writer as u64);
+    let d = spaced(text, b, u64::from(sequence));
+    let e = spaced(text, d, u64::from(writer));
     let f = byte(text, e, b' ');
     let g = show(text, f, page);
     byte(text, g, b'\n')

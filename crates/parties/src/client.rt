@@ -6,7 +6,6 @@ pub(crate) mod form;
 mod free;
 mod freeze;
 pub(crate) mod gate;
-mod lent;
 mod notice;
 mod phase;
 pub mod pick;

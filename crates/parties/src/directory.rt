@@ -1,33 +1,32 @@
 // The directory: a table of rows, one for each client, that is updated field by field and scanned whole.
-ghost use Rattle.std.specs.Prelude.{◌≡◌, true, ◌++◌, ◌+◌, ◌*◌, ◌≤◌, ◌<◌, length, take, drop, get_or, replicate};
+ghost use Rattle.std.specs.Prelude.{◌≡◌, true, cond, ◌++◌, ◌+◌, ◌*◌, ◌≤◌, ◌<◌, length, take, drop, get_or, replicate};
 ghost use Rattle.std.proofs.Math.Option.{some};
-ghost use Rattle.std.proofs.Math.Seq.{paste};
 ghost use Rattle.parties.specs.protocol.Format.{write_many};
-ghost use Rattle.parties.specs.protocol.Measures.{passes, row_size};
+ghost use Rattle.parties.specs.protocol.Measures.{row_size};
 ghost use Rattle.parties.specs.protocol.Directory.{fresh_row, write_row, read_row};
 ghost use Rattle.parties.specs.protocol.DirectoryEvents.{directory_fresh, directory_update, directory_scan};
 ghost use Rattle.parties.specs.Answer.{served};
 ghost use Rattle.parties.specs.records.Form.{rest, Walked};
-ghost use Rattle.parties.specs.directory.Room.{longest_row, Built, Ordered, Renewed, part, renewed};
+ghost use Rattle.parties.specs.directory.Room.{longest_row, Built, Ordered, PutAt, Renewed, renewed};
 
+use crate::protocol::measures::Passed;
 use crate::protocol::version::NO_CLIENT;
 use crate::records::bytes::copy;
 use crate::records::form::{
-    Ends, Parts, ROW_MAP, Record, Rule, Table, Verdict, directory, field_ends, row_size, rows,
-    whole_record,
+    Ends, ROW_MAP, Rule, directory, field_ends, row_size, rows, whole_record,
 };
-use crate::{Measures, Refusal, Service};
+use crate::{Measures, Refusal};
 
 // The bytes of a row of 8 clients and 16 digests a pointer.
 const LONGEST_ROW: usize = 4708;
 
 // A fresh row: the map of all fields, and pointers that are none; the rest is zero.
-fn fresh_row(s: Measures, room: &mut [u8])
-    requires { (passes s ≡ true) × (room.old ≡ replicate longest_row 0) }
-    ensures { Built (write_row (fresh_row s)) room.new }
+fn fresh_row(s: Passed, room: &mut [u8])
+    requires { room.old ≡ replicate longest_row 0 }
+    ensures { Built (write_row (fresh_row s.measures)) room.new }
 {
     room[0] = ROW_MAP;
-    let pointers = s.m + 1;
+    let pointers = s.measures.m + 1;
     for i in 0..pointers {
         room[7 * i + 5] = NO_CLIENT;
     }
@@ -38,57 +37,41 @@ fn repeat(rows: usize, size: usize, row: &[u8], table: &mut [u8])
     requires { (size ≤ length row.now) × (rows * size ≤ length table.old) }
     ensures { table.new ≡ write_many (λ d. d) (replicate rows (take size row.now)) ++ drop (rows * size) table.old }
 {
-    let mut at = 0;
-    let mut i = 0;
-    while i < rows {
-        copy(table, at, row, 0, size);
-        at += size;
-        i += 1;
+    for i in 0..rows {
+        copy(table, i * size, row, 0, size);
     }
 }
 
 // All pointers are none and all indices 0.
-pub fn fresh_directory(s: Measures, table: &mut [u8]) -> Service
+pub fn fresh_directory(s: Measures, table: &mut [u8]) -> Result<usize, Refusal>
     ensures { (served result ≡ (directory_fresh s table.old).answer)
         × (table.new ≡ (directory_fresh s table.old).table) }
 {
     if !s.pass() {
-        return Service::Refused(Refusal::Measures);
+        return Err(Refusal::Measures);
     }
+    let s = Passed { measures: s };
     let size = row_size(s);
-    if table.len() < s.m * size {
-        return Service::Refused(Refusal::Short);
+    if table.len() < s.measures.m * size {
+        return Err(Refusal::Short);
     }
     let mut room = [0u8; LONGEST_ROW];
     fresh_row(s, &mut room);
-    repeat(s.m, size, &room, table);
-    Service::Served(0)
+    repeat(s.measures.m, size, &room, table);
+    Ok(0)
 }
 
 // A field's bytes after those that stand: from the record, if its bit stands, otherwise from the old row.
-fn put(
-    room: &mut [u8],
-    at: usize,
-    stands: bool,
-    fields: &[u8],
-    a: usize,
-    b: usize,
-    table: &[u8],
-    c: usize,
-    d: usize,
-) -> usize
-    requires { (a ≤ b) × (b ≤ length fields.now) × (c ≤ d) × (d ≤ length table.now)
-        × (at + length (part stands a b fields.now c d table.now) ≤ length room.old) }
-    ensures { (result ≡ at + length (part stands a b fields.now c d table.now))
-        × (room.new ≡ paste room.old at (part stands a b fields.now c d table.now)
-        (length (part stands a b fields.now c d table.now))) }
+fn put(room: &mut [u8], at: usize, stands: bool, field: &[u8], old: &[u8]) -> usize
+    requires { at + length (cond stands field.now old.now) ≤ length room.old }
+    ensures { PutAt room.old at (cond stands field.now old.now) result room.new }
 {
     if stands {
-        copy(room, at, fields, a, b - a);
-        return at + (b - a);
+        copy(room, at, field, 0, field.len());
+        return at + field.len();
     }
-    copy(room, at, table, c, d - c);
-    at + (d - c)
+    copy(room, at, old, 0, old.len());
+    at + old.len()
 }
 
 // The row at a place of the table, put together anew.
@@ -103,55 +86,39 @@ fn rebuild(fields: &[u8], e: Ends, table: &[u8], at: usize, f: Ends, room: &mut 
         room,
         1,
         map % 2 == 1,
-        fields,
-        1,
-        e.written,
-        table,
-        at + 1,
-        f.written,
+        &fields[1..e.written],
+        &table[at + 1..f.written],
     );
     let q = put(
         room,
         p,
         map / 2 % 2 == 1,
-        fields,
-        e.written,
-        e.frozen,
-        table,
-        f.written,
-        f.frozen,
+        &fields[e.written..e.frozen],
+        &table[f.written..f.frozen],
     );
     let r = put(
         room,
         q,
         map / 2 / 2 % 2 == 1,
-        fields,
-        e.frozen,
-        e.indices,
-        table,
-        f.frozen,
-        f.indices,
+        &fields[e.frozen..e.indices],
+        &table[f.frozen..f.indices],
     );
     put(
         room,
         r,
         map / 2 / 2 / 2 % 2 == 1,
-        fields,
-        e.indices,
-        e.index,
-        table,
-        f.indices,
-        f.index,
+        &fields[e.indices..e.index],
+        &table[f.indices..f.index],
     );
 }
 
 // The fields of a sound record over those of a sound row. Pointers may grow or shrink, so the row is put together beside the table.
-fn renew(s: Measures, size: usize, at: usize, e: Ends, fields: &[u8], table: &mut [u8])
-    requires { (passes s ≡ true) × (size ≡ row_size s) × (at + row_size s ≤ length table.old) × Walked s fields.now e
-        × (rest (read_row s (drop at table.old)) ≡ some (drop (at + row_size s) table.old)) }
-    ensures { Renewed s at fields.now table.old table.new }
+fn renew(s: Passed, size: usize, at: usize, e: Ends, fields: &[u8], table: &mut [u8])
+    requires { (size ≡ row_size s.measures) × (at + row_size s.measures ≤ length table.old) × Walked s.measures fields.now e
+        × (rest (read_row s.measures (drop at table.old)) ≡ some (drop (at + row_size s.measures) table.old)) }
+    ensures { Renewed s.measures at fields.now table.old table.new }
 {
-    let Parts::Sound(f) = field_ends(s, Rule::Proper, ROW_MAP, table, at + 1) else {
+    let Some(f) = field_ends(s, Rule::Proper, ROW_MAP, table, at + 1) else {
         // Not reached: the row is sound.
         return;
     };
@@ -161,57 +128,50 @@ fn renew(s: Measures, size: usize, at: usize, e: Ends, fields: &[u8], table: &mu
 }
 
 // The fields whose bit stands in the record are replaced in the client's row.
-pub fn update(s: Measures, own: usize, table: &mut [u8], fields: &[u8]) -> Service
+pub fn update(s: Measures, own: usize, table: &mut [u8], fields: &[u8]) -> Result<usize, Refusal>
     ensures { (served result ≡ (directory_update s own table.old fields.now).answer)
         × (table.new ≡ (directory_update s own table.old fields.now).table) }
 {
     if !s.pass() {
-        return Service::Refused(Refusal::Measures);
+        return Err(Refusal::Measures);
     }
+    let s = Passed { measures: s };
     let size = row_size(s);
-    if table.len() < s.m * size {
-        return Service::Refused(Refusal::Short);
+    if table.len() < s.measures.m * size {
+        return Err(Refusal::Short);
     }
-    if s.m <= own {
-        return Service::Refused(Refusal::Number);
+    if s.measures.m <= own {
+        return Err(Refusal::Number);
     }
-    let Table::Sound(all) = rows(s, size, table) else {
-        return Service::Refused(Refusal::Form);
+    let Some(all) = rows(s, size, table) else {
+        return Err(Refusal::Form);
     };
-    match whole_record(s, own, fields) {
-        Record::Broken(r) => Service::Refused(r),
-        Record::Sound(e, owned) => {
-            if !all {
-                return Service::Refused(Refusal::Owner);
-            }
-            if !owned {
-                return Service::Refused(Refusal::Owner);
-            }
-            renew(s, size, own * size, e, fields, table);
-            Service::Served(0)
-        }
+    let record = whole_record(s, own, fields)?;
+    if !all || !record.owned {
+        return Err(Refusal::Owner);
     }
+    renew(s, size, own * size, record.ends, fields, table);
+    Ok(0)
 }
 
 // The rows, in the answer's room.
-pub fn scan(s: Measures, table: &[u8], room: &mut [u8]) -> Service
+pub fn scan(s: Measures, table: &[u8], room: &mut [u8]) -> Result<usize, Refusal>
     ensures { (served result ≡ (directory_scan s table.now room.old).answer)
         × (room.new ≡ (directory_scan s table.now room.old).room) }
 {
     if !s.pass() {
-        return Service::Refused(Refusal::Measures);
+        return Err(Refusal::Measures);
     }
+    let s = Passed { measures: s };
     let size = row_size(s);
-    let all = s.m * size;
+    let all = s.measures.m * size;
     if table.len() < all {
-        return Service::Refused(Refusal::Short);
+        return Err(Refusal::Short);
     }
     if room.len() < all {
-        return Service::Refused(Refusal::Short);
+        return Err(Refusal::Short);
     }
-    if let Verdict::Broken(r) = directory(s, size, table) {
-        return Service::Refused(r);
-    }
+    directory(s, size, table)?;
     copy(room, 0, table, 0, all);
-    Service::Served(all)
+    Ok(all)
 }

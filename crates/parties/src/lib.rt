@@ -10,7 +10,7 @@ pub mod records;
 pub mod sizes;
 
 // The measures of a set of tables.
-#[derive(Clone, Copy)]
+#[derive(Clone, Copy, Debug, PartialEq, Eq)]
 pub struct Measures {
     pub m: usize,
     pub n: usize,
@@ -20,70 +20,48 @@ pub struct Measures {
 }
 
 // Sequence numbers and reading indices are separate counters; no rule compares one with the other.
-#[derive(Clone, Copy)]
+#[derive(Clone, Copy, Debug, PartialEq, Eq, PartialOrd, Ord)]
 pub struct Sequence(pub u32);
 
-#[derive(Clone, Copy)]
+#[derive(Clone, Copy, Debug, PartialEq, Eq, PartialOrd, Ord)]
 pub struct ReadingIndex(pub u32);
 
-#[derive(Clone, Copy)]
+#[derive(Clone, Copy, Debug, PartialEq, Eq, PartialOrd, Ord)]
 pub struct Version {
     pub sequence: Sequence,
     pub client: u8,
 }
 
-#[derive(Clone, Copy)]
-pub enum NextSequence {
-    Drawn(Sequence),
-    // The last sequence number is in use.
-    Spent,
-}
-
-#[derive(Clone, Copy)]
-pub enum NextIndex {
-    Raised(ReadingIndex),
-    // The last reading index is in use.
-    Spent,
-}
-
-// What is refused.
-#[derive(Clone, Copy)]
+// What is refused, by the papers' numbers.
+#[derive(Clone, Copy, Debug, PartialEq, Eq)]
 pub enum Refusal {
-    // 1: measures out of bounds
-    Measures,
-    // 2: a lent slice shorter than needed
-    Short,
-    // 3: client or node number out of bounds
-    Number,
-    // 4: a record, table, message or joined frame breaks its form; of an update's record, its bit map alone
-    Form,
-    // 11: an update's record is empty, or its length differs from what its fields need
-    Length,
-    // 12: a pointer in an update's record breaks its rule
-    Rule,
-    // 14: a written or frozen pointer has another client than its row's
-    Owner,
-    // 5: a start while an operation is open, or a directory answer not awaited
-    OutOfTurn,
-    // 6: page too long
-    TooLong,
-    // 7: the last number is in use
-    Spent,
-    // 8: a new version at a full node
-    Full,
+    // measures out of bounds
+    Measures = 1,
+    // a lent slice shorter than needed
+    Short = 2,
+    // client or node number out of bounds
+    Number = 3,
+    // a record, table, message or joined frame breaks its form; of an update's record, its bit map alone
+    Form = 4,
+    // a start while an operation is open, or a directory answer not awaited
+    OutOfTurn = 5,
+    // page too long
+    TooLong = 6,
+    // the last number is in use
+    Spent = 7,
+    // a new version at a full node
+    Full = 8,
+    // an update's record is empty, or its length differs from what its fields need
+    Length = 11,
+    // a pointer in an update's record breaks its rule
+    Rule = 12,
+    // a written or frozen pointer has another client than its row's
+    Owner = 14,
 }
 
-// An answer of the directory or of a node: refused, or so many bytes at the front of the room.
-#[derive(Clone, Copy)]
-pub enum Service {
-    Refused(Refusal),
-    Served(usize),
-}
-
-// Of an event at a client. What it sends stands in the room.
-#[derive(Clone, Copy)]
+// Of an event at a client that is not refused. What it sends stands in the room.
+#[derive(Clone, Copy, Debug, PartialEq, Eq)]
 pub enum ClientAnswer {
-    Refused(Refusal),
     // Nothing more to do.
     Waits,
     // A scan of the directory is called.
@@ -107,14 +85,14 @@ pub enum ClientAnswer {
 }
 
 // The part of a client's record that goes by value: its step and its reading index. The rest is a lent area.
-#[derive(Clone, Copy)]
+#[derive(Clone, Copy, Debug, PartialEq, Eq)]
 pub struct Phase {
     pub step: u8,
     pub reading: ReadingIndex,
 }
 
-// What an event at a client leaves: the phase after it, and its answer.
-#[derive(Clone, Copy)]
+// What an event at a client leaves that is not refused: the phase after it, and its answer.
+#[derive(Clone, Copy, Debug, PartialEq, Eq)]
 pub struct Turned {
     pub phase: Phase,
     pub answer: ClientAnswer,

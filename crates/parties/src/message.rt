@@ -27,9 +27,8 @@ fn list_sound(s: Measures, b: &[u8], count: usize) -> bool
     ensures { result ≡ listed_from s b.now no_version 1 count }
 {
     let mut previous = NONE;
-    let mut at = 1;
-    let mut left = count;
-    while 0 < left {
+    for i in 0..count {
+        let at = 1 + i * 5;
         if !proper_at(s, b, at) {
             return false;
         }
@@ -38,8 +37,6 @@ fn list_sound(s: Measures, b: &[u8], count: usize) -> bool
             return false;
         }
         previous = v;
-        at += 5;
-        left -= 1;
     }
     true
 }
@@ -49,8 +46,5 @@ pub fn free_sound(s: Measures, b: &[u8]) -> bool
     ensures { result ≡ free_sound s b.now }
 {
     let len = b.len() - 1;
-    if len % 5 != 0 {
-        return false;
-    }
-    list_sound(s, b, len / 5)
+    len % 5 == 0 && list_sound(s, b, len / 5)
 }

@@ -1,20 +1,22 @@
 // A data node's events on its lent table.
 ghost use Rattle.std.specs.Prelude.{◌≡◌, true, ◌∷◌, ◌+◌, ◌-◌, ◌*◌, ◌/◌, ◌<◌, ◌≤◌, length, get_or, take, drop};
-ghost use Rattle.parties.specs.protocol.Measures.{passes, places, place_size};
+ghost use Rattle.parties.specs.protocol.Measures.{places, place_size};
 ghost use Rattle.parties.specs.protocol.Version.{no_version};
 ghost use Rattle.parties.specs.protocol.Message.{store_tag, request_tag, free_tag};
 ghost use Rattle.parties.specs.protocol.NodeEvents.{node_fresh, node_message, table_size};
 ghost use Rattle.parties.specs.Answer.{served};
-ghost use Rattle.parties.specs.records.Places.{number_at, sound_at, sound_from, sound_table, rank, stands_at, splice, place_of, version_alone};
+ghost use Rattle.parties.specs.records.Places.{number_at, sound_at, sound_from, sound_table, splice, place_of, version_alone};
 ghost use Rattle.parties.specs.node.ToNode.{store_sound};
 ghost use Rattle.parties.specs.node.NodeCode.{NodeReady, Ends, event, brought_by, inserted, list_behind, list_names, Listed, Released};
 
 use crate::message::{free_sound, store_sound};
+use crate::protocol::measures::Passed;
 use crate::protocol::tags::{FREE, FREED, REPLY, REQUEST, STORE, STORED};
 use crate::protocol::version::NONE;
-use crate::records::bytes::{clear, copy, move_down, move_up, put_u16, u16_at, zero_run};
+use crate::records::bytes::{clear, copy, put_u16, u16_at, zero_run};
+use crate::records::places::{seek, stands};
 use crate::records::version::{proper_at, version_alone, version_at};
-use crate::{Measures, Refusal, Service, Version};
+use crate::{Measures, Refusal, Version};
 
 // The length in the two bytes at a place.
 fn length_at(t: &[u8], at: usize) -> usize
@@ -42,15 +44,15 @@ fn place_sound(s: Measures, t: &[u8], at: usize) -> bool
     zero_run(t, at + 7 + len, at + 7 + s.f)
 }
 
-// The filled places, each with a version above the one before.
+// The filled places, each with a version above the one before. It differs from the walk over a message's list by the test of a place; one
+// function for both would take that as a closure, and the clauses on its calls are longer than the loop.
 fn places_sound(s: Measures, t: &[u8], count: usize) -> bool
     requires { 2 + count * place_size s ≤ length t.now }
     ensures { result ≡ sound_from s t.now no_version 2 count }
 {
     let mut previous = NONE;
-    let mut at = 2;
-    let mut left = count;
-    while 0 < left {
+    for i in 0..count {
+        let at = 2 + i * (7 + s.f);
         if !place_sound(s, t, at) {
             return false;
         }
@@ -59,55 +61,25 @@ fn places_sound(s: Measures, t: &[u8], count: usize) -> bool
             return false;
         }
         previous = v;
-        at += 7 + s.f;
-        left -= 1;
     }
     true
 }
 
 // The form of a table: count, filled places, zeros.
-fn table_sound(s: Measures, t: &[u8]) -> bool
-    requires { (passes s ≡ true) × (2 + places s * place_size s ≤ length t.now) }
-    ensures { result ≡ sound_table s t.now }
+fn table_sound(s: Passed, t: &[u8]) -> bool
+    requires { 2 + places s.measures * place_size s.measures ≤ length t.now }
+    ensures { result ≡ sound_table s.measures t.now }
 {
     let count = length_at(t, 0);
-    let places = 2 * (s.m * s.m);
+    let places = 2 * (s.measures.m * s.measures.m);
     if places < count {
         return false;
     }
-    if !places_sound(s, t, count) {
+    if !places_sound(s.measures, t, count) {
         return false;
     }
     let end = table_size(s);
-    zero_run(t, 2 + count * (7 + s.f), end)
-}
-
-// How many places have a version below v.
-fn seek(z: usize, t: &[u8], count: usize, v: Version) -> usize
-    requires { (5 ≤ z) × (2 + count * z ≤ length t.now) }
-    ensures { result ≡ rank z t.now v 2 count }
-{
-    let mut at = 2;
-    let mut j = 0;
-    while j < count {
-        if !version_at(t, at).below(v) {
-            return j;
-        }
-        at += z;
-        j += 1;
-    }
-    j
-}
-
-// The next place holds v.
-fn stands(z: usize, t: &[u8], count: usize, j: usize, v: Version) -> bool
-    requires { (5 ≤ z) × (2 + count * z ≤ length t.now) }
-    ensures { result ≡ stands_at z t.now count j v }
-{
-    if count <= j {
-        return false;
-    }
-    !v.below(version_at(t, 2 + j * z))
+    zero_run(t, 2 + count * (7 + s.measures.f), end)
 }
 
 // A tag, and the version that the message names.
@@ -137,71 +109,71 @@ fn insert(s: Measures, t: &mut [u8], count: usize, at: usize, b: &[u8])
     ensures { t.new ≡ inserted s t.old at (2 + count * place_size s) (brought_by b.now) (count + 1) }
 {
     let z = 7 + s.f;
-    move_up(t, at, 2 + count * z, z);
+    t.copy_within(at..2 + count * z, at + z);
     put_place(s, t, at, b);
     put_u16(t, 0, (count + 1) as u16);
 }
 
 // A piece is kept in its version's place; 8 for a new version at a full table.
-fn keep(s: Measures, t: &mut [u8], b: &[u8], room: &mut [u8]) -> Service
+fn keep(s: Measures, t: &mut [u8], b: &[u8], room: &mut [u8]) -> Result<usize, Refusal>
     requires { NodeReady s t.old room.old × (1 ≤ length b.now) × (get_or b.now 0 0 ≡ store_tag) × (store_sound s b.now ≡ true) }
     ensures { Ends (event s t.old b.now room.old) (served result) t.new room.new }
 {
     let z = 7 + s.f;
     let count = length_at(t, 0);
     let v = version_at(b, 1);
-    let j = seek(z, t, count, v);
+    let j = seek(z, t, 2, count, v);
     let at = 2 + j * z;
-    if stands(z, t, count, j, v) {
+    if stands(z, t, 2, count, j, v) {
         put_place(s, t, at, b);
         put_head(room, STORED, b);
-        return Service::Served(6);
+        return Ok(6);
     }
     if 2 * (s.m * s.m) <= count {
-        return Service::Refused(Refusal::Full);
+        return Err(Refusal::Full);
     }
     insert(s, t, count, at, b);
     put_head(room, STORED, b);
-    Service::Served(6)
+    Ok(6)
 }
 
-fn store(s: Measures, t: &mut [u8], b: &[u8], room: &mut [u8]) -> Service
+fn store(s: Measures, t: &mut [u8], b: &[u8], room: &mut [u8]) -> Result<usize, Refusal>
     requires { NodeReady s t.old room.old × (1 ≤ length b.now) × (get_or b.now 0 0 ≡ store_tag) }
     ensures { Ends (event s t.old b.now room.old) (served result) t.new room.new }
 {
     if !store_sound(s, b) {
-        return Service::Refused(Refusal::Form);
+        return Err(Refusal::Form);
     }
     keep(s, t, b, room)
 }
 
 // A piece is handed back, or "not held".
-fn hand_back(s: Measures, t: &[u8], b: &[u8], room: &mut [u8]) -> Service
+fn hand_back(s: Measures, t: &[u8], b: &[u8], room: &mut [u8]) -> Result<usize, Refusal>
     requires { NodeReady s t.now room.old × (1 ≤ length b.now) × (get_or b.now 0 0 ≡ request_tag) × (version_alone s b.now ≡ true) }
     ensures { Ends (event s t.now b.now room.old) (served result) t.now room.new }
 {
     let z = 7 + s.f;
     let count = length_at(t, 0);
     let v = version_at(b, 1);
-    let j = seek(z, t, count, v);
+    let j = seek(z, t, 2, count, v);
     put_head(room, REPLY, b);
-    if !stands(z, t, count, j, v) {
+    if !stands(z, t, 2, count, j, v) {
         room[6] = 0;
-        return Service::Served(7);
+        return Ok(7);
     }
     let at = 2 + j * z;
     let len = length_at(t, at + 5);
     room[6] = 1;
     copy(room, 7, t, at + 7, len);
-    Service::Served(7 + len)
+    Ok(7 + len)
 }
 
-fn request(s: Measures, t: &[u8], b: &[u8], room: &mut [u8]) -> Service
+fn request(s: Measures, t: &[u8], b: &[u8], room: &mut [u8]) -> Result<usize, Refusal>
     requires { NodeReady s t.now room.old × (1 ≤ length b.now) × (get_or b.now 0 0 ≡ request_tag) }
     ensures { Ends (event s t.now b.now room.old) (served result) t.now room.new }
 {
     if !version_alone(s, b) {
-        return Service::Refused(Refusal::Form);
+        return Err(Refusal::Form);
     }
     hand_back(s, t, b, room)
 }
@@ -211,10 +183,7 @@ fn list_behind(v: Version, b: &[u8], at: usize, listed: usize) -> bool
     requires { at + listed * 5 ≤ length b.now }
     ensures { result ≡ list_behind v b.now at listed }
 {
-    if listed < 1 {
-        return false;
-    }
-    version_at(b, at).below(v)
+    0 < listed && version_at(b, at).below(v)
 }
 
 // The next listed version is v.
@@ -222,14 +191,7 @@ fn list_names(v: Version, b: &[u8], at: usize, listed: usize) -> bool
     requires { at + listed * 5 ≤ length b.now }
     ensures { result ≡ list_names v b.now at listed }
 {
-    if listed < 1 {
-        return false;
-    }
-    let w = version_at(b, at);
-    if w.below(v) {
-        return false;
-    }
-    !v.below(w)
+    0 < listed && version_at(b, at) == v
 }
 
 // A place goes down; most often it stays where it is.
@@ -240,10 +202,11 @@ fn lower(t: &mut [u8], from: usize, to: usize, z: usize)
     if from == to {
         return;
     }
-    move_down(t, from, from + z, from - to);
+    t.copy_within(from..from + z, to);
 }
 
-// Places that are not listed go down over those that are. Places and list ascend: one walk goes along both.
+// Places that are not listed go down over those that are. Places and list ascend: one walk goes along both. The loop is a `while`, since
+// a step goes on along the list or along the places, and a `for` over either would need another loop inside.
 fn release(s: Measures, t: &mut [u8], b: &[u8], count: usize, listed: usize) -> usize
     requires { Listed s t.old b.now count listed }
     ensures { Released s t.old b.now count listed t.new result }
@@ -276,12 +239,12 @@ fn release(s: Measures, t: &mut [u8], b: &[u8], count: usize, listed: usize) -> 
 }
 
 // The listed versions that are held are dropped.
-fn free(s: Measures, t: &mut [u8], b: &[u8], room: &mut [u8]) -> Service
+fn free(s: Measures, t: &mut [u8], b: &[u8], room: &mut [u8]) -> Result<usize, Refusal>
     requires { NodeReady s t.old room.old × (1 ≤ length b.now) × (get_or b.now 0 0 ≡ free_tag) }
     ensures { Ends (event s t.old b.now room.old) (served result) t.new room.new }
 {
     if !free_sound(s, b) {
-        return Service::Refused(Refusal::Form);
+        return Err(Refusal::Form);
     }
     let z = 7 + s.f;
     let count = length_at(t, 0);
@@ -289,77 +252,79 @@ fn free(s: Measures, t: &mut [u8], b: &[u8], room: &mut [u8]) -> Service
     clear(t, 2 + kept * z, 2 + count * z);
     put_u16(t, 0, kept as u16);
     room[0] = FREED;
-    Service::Served(1)
+    Ok(1)
 }
 
 // A count and the places, each of a version, a length and a piece.
-pub(crate) fn table_size(s: Measures) -> usize
-    requires { passes s ≡ true }
-    ensures { result ≡ table_size s }
+pub(crate) fn table_size(s: Passed) -> usize
+    ensures { result ≡ table_size s.measures }
 {
-    2 + 2 * (s.m * s.m) * (7 + s.f)
+    2 + 2 * (s.measures.m * s.measures.m) * (7 + s.measures.f)
 }
 
 // A message, once measures, slices and node number are sound.
-fn receive(s: Measures, t: &mut [u8], b: &[u8], room: &mut [u8]) -> Service
-    requires { (passes s ≡ true) × (2 + places s * place_size s ≤ length t.old) × (7 + s.f ≤ length room.old) }
-    ensures { Ends (event s t.old b.now room.old) (served result) t.new room.new }
+fn receive(s: Passed, t: &mut [u8], b: &[u8], room: &mut [u8]) -> Result<usize, Refusal>
+    requires { (2 + places s.measures * place_size s.measures ≤ length t.old) × (7 + s.measures.f ≤ length room.old) }
+    ensures { Ends (event s.measures t.old b.now room.old) (served result) t.new room.new }
 {
     if !table_sound(s, t) {
-        return Service::Refused(Refusal::Form);
+        return Err(Refusal::Form);
     }
     if b.len() < 1 {
-        return Service::Refused(Refusal::Form);
+        return Err(Refusal::Form);
     }
-    let tag = b[0];
-    if tag == STORE {
-        return store(s, t, b, room);
+    match b[0] {
+        STORE => store(s.measures, t, b, room),
+        REQUEST => request(s.measures, t, b, room),
+        FREE => free(s.measures, t, b, room),
+        _ => Err(Refusal::Form),
     }
-    if tag == REQUEST {
-        return request(s, t, b, room);
-    }
-    if tag == FREE {
-        return free(s, t, b, room);
-    }
-    Service::Refused(Refusal::Form)
 }
 
 // A message handed to node i.
-pub fn message(s: Measures, i: usize, table: &mut [u8], message: &[u8], room: &mut [u8]) -> Service
+pub fn message(
+    s: Measures,
+    i: usize,
+    table: &mut [u8],
+    message: &[u8],
+    room: &mut [u8],
+) -> Result<usize, Refusal>
     ensures { (served result ≡ (node_message s i table.old message.now room.old).answer)
         × (table.new ≡ (node_message s i table.old message.now room.old).table)
         × (room.new ≡ (node_message s i table.old message.now room.old).room) }
 {
     if !s.pass() {
-        return Service::Refused(Refusal::Measures);
+        return Err(Refusal::Measures);
     }
+    let s = Passed { measures: s };
     let size = table_size(s);
     if table.len() < size {
-        return Service::Refused(Refusal::Short);
+        return Err(Refusal::Short);
     }
-    if room.len() < 7 + s.f {
-        return Service::Refused(Refusal::Short);
+    if room.len() < 7 + s.measures.f {
+        return Err(Refusal::Short);
     }
     if i < 1 {
-        return Service::Refused(Refusal::Number);
+        return Err(Refusal::Number);
     }
-    if s.n < i {
-        return Service::Refused(Refusal::Number);
+    if s.measures.n < i {
+        return Err(Refusal::Number);
     }
     receive(s, table, message, room)
 }
 
 // A table that holds no piece.
-pub fn fresh_table(s: Measures, table: &mut [u8]) -> Service
+pub fn fresh_table(s: Measures, table: &mut [u8]) -> Result<usize, Refusal>
     ensures { (served result ≡ (node_fresh s table.old).answer) × (table.new ≡ (node_fresh s table.old).table) }
 {
     if !s.pass() {
-        return Service::Refused(Refusal::Measures);
+        return Err(Refusal::Measures);
     }
+    let s = Passed { measures: s };
     let size = table_size(s);
     if table.len() < size {
-        return Service::Refused(Refusal::Short);
+        return Err(Refusal::Short);
     }
     clear(table, 0, size);
-    Service::Served(0)
+    Ok(0)
 }

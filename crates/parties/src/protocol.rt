@@ -1,3 +1,3 @@
-mod measures;
+pub mod measures;
 pub mod tags;
 pub(crate) mod version;

@@ -2,4 +2,5 @@ mod answer;
 pub mod bytes;
 pub mod form;
 pub mod nodes;
+pub(crate) mod places;
 pub mod version;

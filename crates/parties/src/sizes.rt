@@ -10,6 +10,7 @@ use crate::Measures;
 use crate::client::form::area_size;
 use crate::client::gate::room_size;
 use crate::node::table_size;
+use crate::protocol::measures::Passed;
 use crate::records::form::row_size;
 
 // The directory's table.
@@ -19,8 +20,9 @@ pub fn directory(s: Measures) -> usize
     if !s.pass() {
         return 0;
     }
+    let s = Passed { measures: s };
     let row = row_size(s);
-    s.m * row
+    s.measures.m * row
 }
 
 // A node's table.
@@ -30,6 +32,7 @@ pub fn table(s: Measures) -> usize
     if !s.pass() {
         return 0;
     }
+    let s = Passed { measures: s };
     table_size(s)
 }
 
@@ -40,6 +43,7 @@ pub fn record(s: Measures) -> usize
     if !s.pass() {
         return 0;
     }
+    let s = Passed { measures: s };
     let area = area_size(s);
     5 + area
 }
@@ -51,5 +55,6 @@ pub fn room(s: Measures) -> usize
     if !s.pass() {
         return 0;
     }
+    let s = Passed { measures: s };
     room_size(s)
 }

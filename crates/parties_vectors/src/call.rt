@@ -1,107 +1,71 @@
 // One call, and its line.
-use crate::input;
-use crate::input::Call;
-use parties::{Measures, Service, directory, node};
+use crate::input::{Call, Kind};
+use parties::{Refusal, directory, node};
 use std::io;
-use std::io::{Read, Write};
+use std::io::Write;
 
 fn print<W: Write>(
     writer: &mut W,
-    kind: u8,
-    a: Service,
+    kind: Kind,
+    a: Result<usize, Refusal>,
     table: &[u8],
     room: &[u8],
 ) -> io::Result<()> {
-    vectors::digit(writer, kind as usize)?;
     match a {
-        Service::Served(len) => {
-            vectors::word(writer, b" served")?;
-            vectors::number(writer, len)?;
-        }
-        Service::Refused(r) => {
-            vectors::word(writer, b" refused")?;
-            vectors::number(writer, r.number())?;
-        }
+        Ok(len) => write!(writer, "{kind} served {len}")?,
+        Err(r) => write!(writer, "{kind} refused {}", r.number())?,
     }
-    vectors::number(writer, vectors::checksum(table))?;
-    vectors::number(writer, vectors::checksum(room))?;
-    vectors::word(writer, b"\n")
+    writeln!(
+        writer,
+        " {} {}",
+        vectors::checksum(table),
+        vectors::checksum(room)
+    )
 }
 
-fn served(
-    kind: u8,
-    s: Measures,
-    number: usize,
-    table: &mut [u8],
-    message: &[u8],
-    room: &mut [u8],
-) -> Service {
-    if kind == 1 {
-        return directory::fresh_directory(s, table);
+fn served(h: Call, table: &mut [u8], message: &[u8], room: &mut [u8]) -> Result<usize, Refusal> {
+    match h.kind {
+        Kind::FreshDirectory => directory::fresh_directory(h.measures, table),
+        Kind::Update => directory::update(h.measures, h.number, table, message),
+        Kind::Scan => directory::scan(h.measures, table, room),
+        Kind::FreshTable => node::fresh_table(h.measures, table),
+        Kind::Message(_) => node::message(h.measures, h.number, table, message, room),
     }
-    if kind == 2 {
-        return directory::update(s, number, table, message);
-    }
-    if kind == 3 {
-        return directory::scan(s, table, room);
-    }
-    if kind == 4 {
-        return node::fresh_table(s, table);
-    }
-    node::message(s, number, table, message, room)
 }
 
-// The front of one slice becomes the other.
+// The front of one slice becomes the other's front.
 fn put(dst: &mut [u8], src: &[u8]) {
-    let mut i = 0;
-    while i < src.len() {
-        if dst.len() <= i {
-            return;
-        }
-        dst[i] = src[i];
-        i += 1;
-    }
+    let n = dst.len().min(src.len());
+    dst[..n].copy_from_slice(&src[..n]);
 }
 
 fn damage(table: &mut [u8], at: usize, change: u8) {
-    if at < table.len() {
-        table[at] = table[at] ^ change;
+    if let Some(b) = table.get_mut(at) {
+        *b ^= change;
     }
 }
 
-fn lent<W: Write>(
-    writer: &mut W,
-    h: Call,
-    table: &mut [u8],
-    message: &[u8],
-    room: &mut [u8],
-) -> io::Result<()> {
-    vectors::poison(room);
-    let a = served(h.kind, h.measures, h.number, table, message, room);
-    print(writer, h.kind, a, table, room)
-}
-
-// Parts of the slices are lent.
+// Parts of the slices are lent; false where a call asks for more than there is.
 fn lend<W: Write>(
     writer: &mut W,
     h: Call,
-    len: usize,
-    rooms: usize,
     table: &mut [u8],
     message: &[u8],
     room: &mut [u8],
 ) -> io::Result<bool> {
-    if table.len() < len {
+    if table.len() < h.table || room.len() < h.room || message.len() < h.message {
         return Ok(false);
     }
-    if room.len() < rooms {
-        return Ok(false);
-    }
-    lent(writer, h, &mut table[..len], message, &mut room[..rooms])?;
+    let table = &mut table[..h.table];
+    let room = &mut room[..h.room];
+    vectors::poison(room);
+    let a = served(h, table, &message[..h.message], room);
+    print(writer, h.kind, a, table, room)?;
     Ok(true)
 }
 
-fn carry<W: Write>(
+// The table is as before the call if it is not kept. False where no call is to follow.
+pub fn carry<W: Write>(
     writer: &mut W,
     h: Call,
     table: &mut [u8],
@@ -111,50 +75,9 @@ fn carry<W: Write>(
 ) -> io::Result<bool> {
     put(before, table);
     damage(table, h.place, h.change);
-    let done = lend(writer, h, h.table, h.room, table, message, room)?;
+    let done = lend(writer, h, table, message, room)?;
     if !h.keep {
         put(table, before);
     }
     Ok(done)
-}
-
-fn receive<R: Read>(reader: &mut R, message: &mut [u8], n: usize) -> io::Result<bool> {
-    if message.len() < n {
-        return Ok(false);
-    }
-    input::message(reader, &mut message[..n])
-}
-
-fn with_message<W: Write>(
-    writer: &mut W,
-    h: Call,
-    n: usize,
-    table: &mut [u8],
-    before: &mut [u8],
-    message: &[u8],
-    room: &mut [u8],
-) -> io::Result<bool> {
-    if message.len() < n {
-        return Ok(false);
-    }
-    carry(writer, h, table, before, &message[..n], room)
-}
-
-// False at the end of the input.
-pub fn next<R: Read, W: Write>(
-    reader: &mut R,
-    writer: &mut W,
-    table: &mut [u8],
-    before: &mut [u8],
-    message: &mut [u8],
-    room: &mut [u8],
-) -> io::Result<bool> {
-    let h = input::head(reader)?;
-    if !h.more {
-        return Ok(false);
-    }
-    if !receive(reader, message, h.message)? {
-        return Ok(false);
-    }
-    with_message(writer, h, h.message, table, before, message, room)
 }

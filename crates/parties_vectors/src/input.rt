@@ -1,14 +1,22 @@
 // The head of a call.
-ghost use Rattle.std.specs.Prelude.{◌+◌, ◌≤◌, ◌<◌, length};
-
 use parties::Measures;
-use std::io;
 use std::io::Read;
+use std::{fmt, io};
+use vectors::{four, two};
 
-#[derive(Clone, Copy)]
+// A kind that is no other call's is a message's.
+#[derive(Debug, Clone, Copy, PartialEq, Eq)]
+pub enum Kind {
+    FreshDirectory,
+    Update,
+    Scan,
+    FreshTable,
+    Message(u8),
+}
+
+#[derive(Debug, Clone, Copy, PartialEq, Eq)]
 pub struct Call {
-    pub more: bool,
-    pub kind: u8,
+    pub kind: Kind,
     pub keep: bool,
     pub measures: Measures,
     pub number: usize,
@@ -19,62 +27,59 @@ pub struct Call {
     pub message: usize,
 }
 
-fn wide(b: u8) -> usize
-    ensures { result < 256 }
-{
-    b as usize
+impl From<u8> for Kind {
+    fn from(kind: u8) -> Kind {
+        match kind {
+            1 => Kind::FreshDirectory,
+            2 => Kind::Update,
+            3 => Kind::Scan,
+            4 => Kind::FreshTable,
+            _ => Kind::Message(kind),
+        }
+    }
 }
 
-fn two(s: &[u8], at: usize) -> usize
-    requires { at + 2 ≤ length s.now }
-    ensures { result < 65536 }
-{
-    wide(s[at]) * 256 + wide(s[at + 1])
+impl fmt::Display for Kind {
+    fn fmt<W: fmt::Write>(&self, f: &mut fmt::Formatter<W>) -> fmt::Result {
+        match self {
+            Kind::FreshDirectory => write!(f, "1"),
+            Kind::Update => write!(f, "2"),
+            Kind::Scan => write!(f, "3"),
+            Kind::FreshTable => write!(f, "4"),
+            Kind::Message(kind) => write!(f, "{kind}"),
+        }
+    }
 }
 
-fn four(s: &[u8], at: usize) -> usize
-    requires { at + 4 ≤ length s.now }
-{
-    two(s, at) * 65536 + two(s, at + 2)
-}
-
-fn parsed(s: &[u8], more: bool) -> Call
-    requires { 29 ≤ length s.now }
-{
-    let measures = Measures {
-        m: two(s, 2),
-        n: two(s, 4),
-        k: two(s, 6),
-        t: two(s, 8),
-        f: two(s, 10),
-    };
+fn parsed(s: [u8; 29]) -> Call {
     Call {
-        more,
-        kind: s[0],
+        kind: Kind::from(s[0]),
         keep: s[1] == 1,
-        measures,
-        number: two(s, 12),
-        table: four(s, 14),
-        room: four(s, 18),
-        place: four(s, 22),
+        measures: Measures {
+            m: two(&s, 2),
+            n: two(&s, 4),
+            k: two(&s, 6),
+            t: two(&s, 8),
+            f: two(&s, 10),
+        },
+        number: two(&s, 12),
+        table: four(&s, 14),
+        room: four(&s, 18),
+        place: four(&s, 22),
         change: s[26],
-        message: two(s, 27),
+        message: two(&s, 27),
     }
 }
 
-// The next head; `more` is false at the end of the input.
-pub fn head<R: Read>(reader: &mut R) -> io::Result<Call> {
-    let mut space = [0u8; 29];
-    let s: &mut [u8] = &mut space;
-    let got = vectors::fill(reader, s)?;
-    Ok(parsed(s, got == 29))
+// The next call; none at the end of the input.
+pub fn next<R: Read>(reader: &mut R) -> io::Result<Option<Call>> {
+    Ok(vectors::head(reader)?.map(parsed))
 }
 
-// A message fills the slice; false at the end of the input.
-pub fn message<R: Read>(reader: &mut R, s: &mut [u8]) -> io::Result<bool> {
-    if s.len() == 0 {
-        return Ok(true);
+// The next n bytes stand at the front; false at the end of the input, or where there is no room for them.
+pub fn message<R: Read>(reader: &mut R, s: &mut [u8], n: usize) -> io::Result<bool> {
+    if s.len() < n {
+        return Ok(false);
     }
-    let got = vectors::fill(reader, s)?;
-    Ok(got == s.len())
+    Ok(vectors::fill(reader, &mut s[..n])? == n)
 }

@@ -13,21 +13,21 @@ use std::io;
 fn main(rt: HostRuntime) -> io::Result<()> {
     let reader = &mut rt.stdin();
     let writer = &mut rt.stdout();
-    let mut table_space = [0u8; 65536];
-    let table: &mut [u8] = &mut table_space;
-    let mut before_space = [0u8; 65536];
-    let before: &mut [u8] = &mut before_space;
-    let mut message_space = [0u8; 65536];
-    let message: &mut [u8] = &mut message_space;
-    let mut room_space = [0u8; 65536];
-    let room: &mut [u8] = &mut room_space;
-    vectors::poison(table);
-    let mut left = 1000000usize;
-    while 0 < left {
-        if !call::next(reader, writer, table, before, message, room)? {
+    let mut table = [0u8; 65536];
+    let mut before = [0u8; 65536];
+    let mut message = [0u8; 65536];
+    let mut room = [0u8; 65536];
+    vectors::poison(&mut table);
+    for _ in 0..1000000 {
+        let Some(h) = input::next(reader)? else {
+            return Ok(());
+        };
+        if !input::message(reader, &mut message, h.message)? {
             return Ok(());
         }
-        left -= 1;
+        if !call::carry(writer, h, &mut table, &mut before, &message, &mut room)? {
+            return Ok(());
+        }
     }
     Ok(())
 }

@@ -1,16 +1,14 @@
 // One command.
-ghost use Rattle.std.specs.Prelude.{◌≡◌, ◌≤◌};
-ghost use Rattle.coding.specs.Answer.{number as number_of};
-
+use crate::input::{Command, Function, Shown};
 use crate::{input, print};
-use coding::answer::{JoinAnswer, Refusal, SplitAnswer};
+use coding::answer::Refusal;
 use coding::join::join;
 use coding::split::{cut, split};
 use std::io;
 use std::io::{Read, Write};
 
 // The arguments of the next call, how much is lent of each slice among them, and the sum of its line so far.
-#[derive(Clone, Copy)]
+#[derive(Debug, Clone, Copy, Default)]
 pub struct Call {
     pub n: usize,
     pub k: usize,
@@ -23,153 +21,81 @@ pub struct Call {
     pub sum: usize,
 }
 
-// The number of a refusal, or 0 and a length.
-#[derive(Clone, Copy)]
-pub struct Answer {
-    pub number: usize,
-    pub len: usize,
-}
-
-pub fn first() -> Call {
-    Call {
-        n: 0,
-        k: 0,
-        f: 0,
-        node: 0,
-        map: 0,
-        given: 0,
-        lens: 0,
-        written: 0,
-        sum: 0,
+fn answered(
+    c: Call,
+    function: Function,
+    given: &[u8],
+    lens: &[u16],
+    written: &mut [u8],
+) -> Result<usize, Refusal> {
+    match function {
+        Function::Split => split(c.n, c.k, c.f, given, written),
+        Function::Join => join(c.n, c.k, c.f, c.map, given, lens, written),
+        Function::Cut => cut(c.n, c.k, c.f, c.node, given, written),
     }
-}
-
-fn with_number(mut c: Call, what: u8, x: usize) -> Call {
-    match what {
-        1 => c.n = x,
-        2 => c.f = x,
-        3 => c.map = (x % 65536) as u16,
-        4 => c.given = x,
-        5 => c.written = x,
-        6 => c.lens = x,
-        7 => c.node = x,
-        _ => {}
-    }
-    c
-}
-
-fn document_number(r: Refusal) -> usize
-    ensures { result ≡ number_of r }
-{
-    match r {
-        Refusal::Measures => 1,
-        Refusal::Short => 2,
-        Refusal::Number => 3,
-        Refusal::Form => 4,
-        Refusal::TooLong => 6,
-        Refusal::TooFew => 9,
-    }
-}
-
-fn refused(r: Refusal) -> Answer {
-    Answer {
-        number: document_number(r),
-        len: 0,
-    }
-}
-
-fn of_split(a: SplitAnswer) -> Answer {
-    match a {
-        SplitAnswer::Pieces(len) => Answer { number: 0, len },
-        SplitAnswer::Refused(r) => refused(r),
-    }
-}
-
-fn of_join(a: JoinAnswer) -> Answer {
-    match a {
-        JoinAnswer::Page(len) => Answer { number: 0, len },
-        JoinAnswer::Refused(r) => refused(r),
-    }
-}
-
-// The commands of one call are three apart.
-fn answered(c: Call, what: u8, given: &[u8], lens: &[u16], written: &mut [u8]) -> Answer {
-    if what % 3 == 0 {
-        return of_split(cut(c.n, c.k, c.f, c.node, given, written));
-    }
-    if what % 3 == 1 {
-        return of_split(split(c.n, c.k, c.f, given, written));
-    }
-    of_join(join(c.n, c.k, c.f, c.map, given, lens, written))
-}
-
-// The sum goes on from slice to slice.
-fn chained(sum: usize, s: &[u8]) -> usize {
-    (sum % 4294967296 * 31 + vectors::checksum(s) % 4294967296) % 4294967296
 }
 
 fn told<W: Write>(
     writer: &mut W,
     mut c: Call,
-    what: u8,
-    a: Answer,
+    function: Function,
+    shown: Shown,
+    answer: Result<usize, Refusal>,
     given: &[u8],
     written: &[u8],
 ) -> io::Result<Call> {
-    c.sum = chained(chained(c.sum, given), written);
-    if 13 <= what {
-        print::digit(writer, a)?;
-        return Ok(c);
+    c.sum = vectors::chained(vectors::chained(c.sum, given), written);
+    match shown {
+        Shown::Digit => print::digit(writer, answer)?,
+        Shown::Line => {
+            print::line(writer, c, function, answer, given, written)?;
+            c.sum = 0;
+        }
     }
-    print::line(writer, c, what, a, given, written)?;
-    c.sum = 0;
     Ok(c)
 }
 
 fn lent<W: Write>(
     writer: &mut W,
     c: Call,
-    what: u8,
+    function: Function,
+    shown: Shown,
     given: &[u8],
     lens: &[u16],
     written: &mut [u8],
 ) -> io::Result<Call> {
     vectors::poison(written);
-    let a = answered(c, what, given, lens, written);
-    told(writer, c, what, a, given, written)
-}
-
-fn least(a: usize, b: usize) -> usize
-    ensures { result ≤ b }
-{
-    if a < b { a } else { b }
+    let answer = answered(c, function, given, lens, written);
+    told(writer, c, function, shown, answer, given, written)
 }
 
 // Parts of the slices are lent.
 fn lend<W: Write>(
     writer: &mut W,
     c: Call,
-    what: u8,
+    function: Function,
+    shown: Shown,
     given: &[u8],
     lens: &[u16],
     written: &mut [u8],
 ) -> io::Result<Call> {
-    let bytes = least(c.given, given.len());
-    let count = least(c.lens, lens.len());
-    let room = least(c.written, written.len());
+    let bytes = c.given.min(given.len());
+    let count = c.lens.min(lens.len());
+    let room = c.written.min(written.len());
     lent(
         writer,
         c,
-        what,
-        &given[0..bytes],
-        &lens[0..count],
-        &mut written[0..room],
+        function,
+        shown,
+        &given[..bytes],
+        &lens[..count],
+        &mut written[..room],
     )
 }
 
-fn put_length(lens: &mut [u16], i: usize, x: usize) {
-    if i < lens.len() {
-        lens[i] = (x % 65536) as u16;
+fn put_length(lens: &mut [u16], at: usize, length: u16) {
+    if let Some(place) = lens.get_mut(at) {
+        *place = length;
     }
 }
 
@@ -178,23 +104,26 @@ pub fn carry<R: Read, W: Write>(
     reader: &mut R,
     writer: &mut W,
     mut c: Call,
-    what: u8,
-    x: usize,
+    command: Command,
     given: &mut [u8],
     lens: &mut [u16],
     written: &mut [u8],
 ) -> io::Result<Call> {
-    if what == 8 {
-        input::bytes(reader, given, x)?;
-        return Ok(c);
+    match command {
+        Command::N(n) => c.n = n,
+        Command::F(f) => c.f = f,
+        Command::Map(map) => c.map = map,
+        Command::Given(bytes) => c.given = bytes,
+        Command::Written(bytes) => c.written = bytes,
+        Command::Lens(count) => c.lens = count,
+        Command::Node(node) => c.node = node,
+        Command::Bytes { at, count } => input::bytes(reader, given, at, count)?,
+        Command::Length { at, length } => put_length(lens, at, length),
+        Command::Call(function, shown, k) => {
+            c.k = k;
+            return lend(writer, c, function, shown, given, lens, written);
+        }
+        Command::Nothing => {}
     }
-    if what < 10 {
-        return Ok(with_number(c, what, x));
-    }
-    if what < 16 {
-        c.k = x;
-        return lend(writer, c, what, given, lens, written);
-    }
-    put_length(lens, what as usize - 16, x);
     Ok(c)
 }

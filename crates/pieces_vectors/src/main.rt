@@ -18,27 +18,29 @@ mod call;
 mod input;
 mod print;
 
+use call::Call;
 use std::io;
 
 fn main(rt: HostRuntime) -> io::Result<()> {
     let reader = &mut rt.stdin();
     let writer = &mut rt.stdout();
-    let mut given_space = [0u8; 65536];
-    let given: &mut [u8] = &mut given_space;
-    let mut lens_space = [0u16; 16];
-    let lens: &mut [u16] = &mut lens_space;
-    let mut written_space = [0u8; 65536];
-    let written: &mut [u8] = &mut written_space;
-    let mut c = call::first();
-    let mut left = 1000000usize;
-    while 0 < left {
-        let m = input::next(reader)?;
-        if !m.more {
+    let mut given = [0u8; 65536];
+    let mut lens = [0u16; 16];
+    let mut written = [0u8; 65536];
+    let mut c = Call::default();
+    for _ in 0..1000000 {
+        let Some(command) = input::next(reader)? else {
             return Ok(());
-        }
-        let next = call::carry(reader, writer, c, m.what, m.number, given, lens, written)?;
-        c = next;
-        left -= 1;
+        };
+        c = call::carry(
+            reader,
+            writer,
+            c,
+            command,
+            &mut given,
+            &mut lens,
+            &mut written,
+        )?;
     }
     Ok(())
 }

@@ -1,54 +1,49 @@
 // Lines on standard output.
-use crate::call::{Answer, Call};
+use crate::call::Call;
+use crate::input::Function;
+use coding::answer::Refusal;
 use std::io;
 use std::io::Write;
+use vectors::few;
 
 // A line shows so many bytes of a slice.
 const FEW: usize = 20;
 
-fn name<W: Write>(writer: &mut W, c: Call, what: u8) -> io::Result<()> {
-    if what == 10 {
-        return vectors::word(writer, b"split");
+fn name<W: Write>(writer: &mut W, c: Call, function: Function) -> io::Result<()> {
+    match function {
+        Function::Split => write!(writer, "split"),
+        Function::Join => write!(writer, "join"),
+        Function::Cut => write!(writer, "cut {}", c.node),
     }
-    if what == 11 {
-        return vectors::word(writer, b"join");
-    }
-    vectors::word(writer, b"cut")?;
-    vectors::number(writer, c.node)
 }
 
-fn arguments<W: Write>(writer: &mut W, c: Call) -> io::Result<()> {
-    vectors::number(writer, c.n)?;
-    vectors::number(writer, c.k)?;
-    vectors::number(writer, c.f)?;
-    let map = c.map;
-    write!(writer, " {map:04x}")?;
-    vectors::number(writer, c.given)?;
-    vectors::number(writer, c.lens)?;
-    vectors::number(writer, c.written)?;
-    vectors::word(writer, b":")
+// The number of a refusal, or 0, and the length that is answered.
+fn numbers(answer: Result<usize, Refusal>) -> (usize, usize) {
+    match answer {
+        Ok(len) => (0, len),
+        Err(r) => (r.number(), 0),
+    }
 }
 
 pub fn line<W: Write>(
     writer: &mut W,
     c: Call,
-    what: u8,
-    a: Answer,
+    function: Function,
+    answer: Result<usize, Refusal>,
     given: &[u8],
     written: &[u8],
 ) -> io::Result<()> {
-    name(writer, c, what)?;
-    arguments(writer, c)?;
-    vectors::number(writer, a.number)?;
-    vectors::number(writer, a.len)?;
-    vectors::few(writer, given, FEW)?;
-    vectors::few(writer, written, FEW)?;
-    vectors::word(writer, b" sum")?;
-    vectors::number(writer, c.sum)?;
-    vectors::word(writer, b"\n")
+    name(writer, c, function)?;
+    write!(writer, " {} {} {} {:04x}", c.n, c.k, c.f, c.map)?;
+    write!(writer, " {} {} {}:", c.given, c.lens, c.written)?;
+    let (number, len) = numbers(answer);
+    write!(writer, " {number} {len}")?;
+    few(writer, given, FEW)?;
+    few(writer, written, FEW)?;
+    writeln!(writer, " sum {}", c.sum)
 }
 
-pub fn digit<W: Write>(writer: &mut W, a: Answer) -> io::Result<()> {
-    vectors::digit(writer, a.number)?;
-    vectors::word(writer, b" ")
+pub fn digit<W: Write>(writer: &mut W, answer: Result<usize, Refusal>) -> io::Result<()> {
+    let (number, _) = numbers(answer);
+    write!(writer, "{number} ")
 }

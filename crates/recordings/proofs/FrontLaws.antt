@@ -2,7 +2,7 @@
 use mathlib.Core.Path.{◌≡◌, refl, sym, ap, ◌∙◌}
 use mathlib.Core.List.{List}
 use Prim.Native.Nat.{ℕ, ◌+◌, ◌*◌, ◌/◌, ◌%◌, ◌<◌, ◌≤◌}
-use native.Mathlib.Nat.{zero-add, not-suc-le-zero, div-add-mod'}
+use native.Mathlib.Nat.{zero-add, div-add-mod'}
 use native.Mathlib.Decide.{dec_lt}
 use native.Mathlib.Omega.{arith}
 use lib.ListN.{length, get_or, set, length-set}
@@ -10,7 +10,7 @@ use lib.Seq.{paste, ext_get_or}
 use Rattle.coding.specs.Bytes.{tabulate}
 use Rattle.coding.specs.Areas.{Columns}
 use Rattle.coding.proofs.BytesLaws.{stride, stored_more, Front, front_length, front_in, front-after}
-use Rattle.coding.proofs.AreasLaws.{Walk, walk_none, walk_more}
+use Rattle.coding.proofs.AreasLaws.{Walk, walk_more}
 use Rattle.recordings.proofs.PlaceLaws.{row_within, row_below, entry-below}
 
 -- an array, of which the first l bytes are f 0, f 1, ..
@@ -18,18 +18,12 @@ pub record Filled (f : ℕ → ℕ) (size : ℕ) (v : List ℕ) (l : ℕ) : Type
   pub long : length v ≡ size
   pub done : (j : ℕ) → j < l → get_or v j 0 ≡ f j
 
-pub filled_none : (f : ℕ → ℕ) (size : ℕ) (v : List ℕ) → length v ≡ size → Filled f size v 0
-filled_none f size v e = record { long = e; done = λ j h. absurd (not-suc-le-zero h) }
-
 module _ (f : ℕ → ℕ) (size : ℕ) (v : List ℕ) (l : ℕ) (s : Filled f size v l) where
   pub filled_more : (x : ℕ) → x ≡ f l → l < size → Filled f size (set v l x) (l + 1)
   filled_more x e h =
       record { long = length-set v l x ∙ s.long; done = stored_more 0 (λ j a. a ≡ f j) l v x (rw s.long h) s.done e }
 
 -- a loop over the rows, whose place is reckoned anew at each
-pub walk_begins : (n F j m : ℕ) (v : ℕ → ℕ → ℕ) (t : List ℕ) → Walk n F j m v t t (0 * F + j) 0
-walk_begins n F j m v t = let z : 0 * F + j ≡ j = omega arith in rw z (walk_none n F j m v t)
-
 pub walk_next : (n F j m : ℕ) (v : ℕ → ℕ → ℕ) (t u : List ℕ) (i : ℕ) → j + m ≤ F → n * F ≤ length t → Walk n F j m v t u (i * F + j) i → i < n
     → (s : List ℕ) → m ≤ length s → ((l : ℕ) → l < m → get_or s l 0 ≡ v i l) → Walk n F j m v t (paste u (i * F + j) s m) ((i + 1) * F + j) (i + 1)
 walk_next n F j m v t u i fits room w h s hs hv =

@@ -1,7 +1,7 @@
 -- Laws of places: byte p of sample s has one place among the samples and one among the planes.
 use mathlib.Core.Path.{◌≡◌, ap, ◌∙◌}
 use Prim.Native.Nat.{ℕ, ◌+◌, ◌*◌, ◌/◌, ◌%◌, ◌<◌, ◌≤◌}
-use native.Mathlib.Nat.{add-zero, mul_comm, mod-lt, mod-eq_of_lt, div-eq_of_lt, mul-add-div_right, mul-add-mod_self_right, div-add-mod', mul-le-mul_right, mul-le-mul_left, mul-one}
+use native.Mathlib.Nat.{add-zero, mul_comm, mod-lt, mod-eq_of_lt, div-eq_of_lt, mul-add-div_right, mul-add-mod_self_right, div-add-mod', mul-le-mul_right}
 use native.Mathlib.Decide.{dec_lt}
 use native.Mathlib.Omega.{arith}
 use Rattle.coding.proofs.BytesLaws.{stride}
@@ -21,10 +21,6 @@ module _ (F i l : ℕ) (h : l < F) where
   pub row_within : (n : ℕ) → i < n → i * F + l < n * F
   row_within n b =
       let s : i + 1 ≤ n = omega arith in omega (arith, stride i F, mul-le-mul_right F s)
-
--- there are no more rows than entries
-pub rows-below : (n F : ℕ) → 0 < F → n ≤ n * F
-rows-below n F h = rw mul-one at (mul-le-mul_left n h)
 
 -- of a place below n rows
 module _ (n F q : ℕ) (h : q < n * F) where

@@ -1,13 +1,21 @@
-// What rearranging answers.
+// Why rearranging refuses.
+ghost use Rattle.std.specs.Prelude.{◌≡◌};
+ghost use Rattle.recordings.specs.Answer.{number as number_of};
 
-#[derive(Clone, Copy)]
+#[derive(Debug, Clone, Copy, PartialEq, Eq)]
 pub enum Refusal {
     Short,
     Width,
 }
 
-#[derive(Clone, Copy)]
-pub enum Answer {
-    Done,
-    Refused(Refusal),
+impl Refusal {
+    // Document 02's number.
+    pub fn number(self) -> usize
+        ensures { result ≡ number_of self }
+    {
+        match self {
+            Refusal::Short => 2,
+            Refusal::Width => 15,
+        }
+    }
 }

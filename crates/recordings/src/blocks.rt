@@ -7,6 +7,8 @@ ghost use Rattle.coding.specs.Areas.{Columns};
 ghost use Rattle.recordings.specs.Planes.{among_samples};
 ghost use Rattle.recordings.specs.Shuffle.{shuffled, in_blocks};
 
+use crate::moves::{interleaved, store};
+
 // The blocks that go together, and their bytes and samples: with fewer, what a shuffle stores is read again too soon after.
 const BLOCKS: usize = 32;
 
@@ -19,21 +21,7 @@ fn pairs(from: &[u8], at: usize) -> [u8; 16]
     requires { at + 32 ≤ length from.now }
     ensures { (l : ℕ) → l < 16 → get_or result l 0 ≡ get_or from.now (at + shuffled l) 0 }
 {
-    let mut v = [0u8; 16];
-    for i in 0..8 {
-        v[2 * i] = from[at + i];
-        v[2 * i + 1] = from[at + 24 + i];
-    }
-    v
-}
-
-fn store(to: &mut [u8], at: usize, v: [u8; 16])
-    requires { at + 16 ≤ length to.old }
-    ensures { to.new ≡ paste to.old at v 16 }
-{
-    for l in 0..16 {
-        to[at + l] = v[l];
-    }
+    interleaved::<2, 16>(from, at, 24)
 }
 
 // As many blocks as go together are shuffled, each by itself.
@@ -51,7 +39,8 @@ fn shuffle(from: &[u8], at: usize, to: &mut [u8])
     }
 }
 
-// The same, each third of a block to its plane.
+// The same, each third of a block to its plane. It stays a function beside `shuffle`: one for both would promise bytes at places, where these
+// promise a front and planes, which is all that their callers need.
 fn spread(n: usize, s: usize, from: &[u8], out: &mut [u8])
     requires { (s + 512 ≤ n) × (1536 ≤ length from.now) × (3 * n ≤ length out.old) }
     ensures { Columns 3 n s 512 (λ p l. get_or from.now (l / 16 * 48 + shuffled (p * 16 + l % 16)) 0)
@@ -86,10 +75,8 @@ pub fn write_blocks(n: usize, bytes: &[u8], out: &mut [u8]) -> usize
 {
     let mut x = [0u8; LENGTH];
     let mut y = [0u8; LENGTH];
-    let mut s = 0;
-    while SAMPLES <= n - s {
-        write_block(n, s, bytes, &mut x, &mut y, out);
-        s += SAMPLES;
+    for b in 0..n / SAMPLES {
+        write_block(n, b * SAMPLES, bytes, &mut x, &mut y, out);
     }
-    s
+    n / SAMPLES * SAMPLES
 }

@@ -4,27 +4,14 @@ ghost use Rattle.std.proofs.Math.Seq.{paste};
 ghost use Rattle.coding.specs.Areas.{Columns};
 ghost use Rattle.recordings.specs.Planes.{among_planes};
 
+use crate::moves::{interleaved, store};
+
 // Sixteen samples from s on. They are stored when all are read, so that the compiler moves whole vectors.
 fn gather(n: usize, s: usize, bytes: &[u8]) -> [u8; 48]
     requires { (s + 16 ≤ n) × (n * 3 ≤ length bytes.now) }
     ensures { (l : ℕ) → l < 48 → get_or result l 0 ≡ get_or bytes.now (among_planes n (s + l / 3) (l % 3)) 0 }
 {
-    let mut v = [0u8; 48];
-    for i in 0..16 {
-        v[3 * i] = bytes[s + i];
-        v[3 * i + 1] = bytes[n + s + i];
-        v[3 * i + 2] = bytes[2 * n + s + i];
-    }
-    v
-}
-
-fn store(out: &mut [u8], at: usize, v: [u8; 48])
-    requires { at + 48 ≤ length out.old }
-    ensures { out.new ≡ paste out.old at v 48 }
-{
-    for l in 0..48 {
-        out[at + l] = v[l];
-    }
+    interleaved::<3, 48>(bytes, s, n)
 }
 
 // As many samples as there are sixteens of; the answer is their number.
@@ -33,10 +20,8 @@ pub fn write_triples(n: usize, bytes: &[u8], out: &mut [u8]) -> usize
     ensures { (result ≤ n)
         × Columns result 3 0 3 (λ i p. get_or bytes.now (among_planes n i p) 0) out.old out.new }
 {
-    let mut s = 0;
-    while 16 <= n - s {
-        store(out, 3 * s, gather(n, s, bytes));
-        s += 16;
+    for k in 0..n / 16 {
+        store(out, 48 * k, gather(n, 16 * k, bytes));
     }
-    s
+    n / 16 * 16
 }

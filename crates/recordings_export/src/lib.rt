@@ -2,28 +2,19 @@
 #![tactic(auto)]
 
 ghost use Rattle.std.specs.Prelude.{◌≡◌};
-ghost use Rattle.recordings.specs.Answer.{refuses, number, outcome};
+ghost use Rattle.recordings.specs.Answer.{outcome};
 ghost use Rattle.recordings.specs.Arrange.{planes, samples};
 ghost use Rattle.recordings.specs.Recording.{rearrange, restore};
 ghost use Rattle.recordings_export.specs.Code.{code};
 
-use recordings::answer::{Answer, Refusal};
+use recordings::answer::Refusal;
 
-fn refused(r: Refusal) -> u64
-    ensures { result ≡ code (refuses (number r)) }
-{
-    match r {
-        Refusal::Short => 4294967298,
-        Refusal::Width => 4294967311,
-    }
-}
-
-fn answered(a: Answer) -> u64
+fn answered(a: Result<(), Refusal>) -> u64
     ensures { result ≡ code (outcome a) }
 {
     match a {
-        Answer::Done => 0,
-        Answer::Refused(r) => refused(r),
+        Ok(()) => 0,
+        Err(r) => 4294967296 + r.number() as u64,
     }
 }
 

@@ -1,64 +1,64 @@
 // Calls.
-ghost use Rattle.std.specs.Prelude.{◌+◌, ◌≤◌, ◌<◌, length};
-
-use std::io;
 use std::io::Read;
+use std::{fmt, io};
+use vectors::{eight, four};
 
-// A head; `more` is false at the end of the input.
-#[derive(Clone, Copy)]
+// What is called; two of the four take a width.
+#[derive(Debug, Clone, Copy, PartialEq, Eq)]
+pub enum Function {
+    Planes(usize),
+    Samples(usize),
+    Rearrange,
+    Restore,
+}
+
+impl fmt::Display for Function {
+    fn fmt<W: fmt::Write>(&self, f: &mut fmt::Formatter<W>) -> fmt::Result {
+        match self {
+            Function::Planes(width) => write!(f, "planes {width}"),
+            Function::Samples(width) => write!(f, "samples {width}"),
+            Function::Rearrange => write!(f, "rearrange"),
+            Function::Restore => write!(f, "restore"),
+        }
+    }
+}
+
+// A head: what is called, how many bytes follow, and how many the data and the output have.
+#[derive(Debug, Clone, Copy, PartialEq, Eq)]
 pub struct Call {
-    pub more: bool,
-    pub which: u8,
-    pub width: usize,
+    pub function: Function,
     pub fresh: usize,
     pub data: usize,
     pub out: usize,
 }
 
-fn wide(b: u8) -> usize
-    ensures { result < 256 }
-{
-    b as usize
-}
-
-fn two(s: &[u8], at: usize) -> usize
-    requires { at + 2 ≤ length s.now }
-    ensures { result < 65536 }
-{
-    wide(s[at]) * 256 + wide(s[at + 1])
-}
-
-fn four(s: &[u8], at: usize) -> usize
-    requires { at + 4 ≤ length s.now }
-    ensures { result < 4294967296 }
-{
-    two(s, at) * 65536 + two(s, at + 2)
-}
-
-fn parsed(s: &[u8], more: bool) -> Call
-    requires { 21 ≤ length s.now }
-{
-    Call {
-        more,
-        which: s[0],
-        width: four(s, 1) * 4294967296 + four(s, 5),
-        fresh: four(s, 9),
-        data: four(s, 13),
-        out: four(s, 17),
+fn called(which: u8, width: usize) -> Function {
+    match which {
+        0 => Function::Planes(width),
+        1 => Function::Samples(width),
+        2 => Function::Rearrange,
+        _ => Function::Restore,
     }
 }
 
-pub fn next<R: Read>(reader: &mut R) -> io::Result<Call> {
-    let mut space = [0u8; 21];
-    let s: &mut [u8] = &mut space;
-    let got = vectors::fill(reader, s)?;
-    Ok(parsed(s, got == 21))
+fn parsed(s: [u8; 21]) -> Call {
+    Call {
+        function: called(s[0], eight(&s, 1)),
+        fresh: four(&s, 9),
+        data: four(&s, 13),
+        out: four(&s, 17),
+    }
+}
+
+// The next call; none at the end of the input.
+pub fn next<R: Read>(reader: &mut R) -> io::Result<Option<Call>> {
+    Ok(vectors::head(reader)?.map(parsed))
 }
 
 // The next bytes stand at the front, if there is room for them.
 pub fn bytes<R: Read>(reader: &mut R, s: &mut [u8], fresh: usize) -> io::Result<()> {
     if fresh <= s.len() {
-        vectors::fill(reader, &mut s[0..fresh])?;
+        vectors::fill(reader, &mut s[..fresh])?;
     }
     Ok(())
 }

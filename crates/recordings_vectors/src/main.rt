@@ -19,19 +19,14 @@ use std::io;
 fn main(rt: HostRuntime) -> io::Result<()> {
     let reader = &mut rt.stdin();
     let writer = &mut rt.stdout();
-    let mut data_space = [0u8; 65536];
-    let data: &mut [u8] = &mut data_space;
-    let mut out_space = [0u8; 65536];
-    let out: &mut [u8] = &mut out_space;
-    let mut left = 1000000usize;
-    while 0 < left {
-        let c = input::next(reader)?;
-        if !c.more {
+    let mut data = [0u8; 65536];
+    let mut out = [0u8; 65536];
+    for _ in 0..1000000 {
+        let Some(c) = input::next(reader)? else {
             return Ok(());
-        }
-        input::bytes(reader, data, c.fresh)?;
-        call::lend(writer, c, data, out)?;
-        left -= 1;
+        };
+        input::bytes(reader, &mut data, c.fresh)?;
+        call::lend(writer, c, &data, &mut out)?;
     }
     Ok(())
 }

@@ -1,9 +1,10 @@
 // What a line of a script asks for.
 use lines::command::{Command as StandCommand, asked as asked_of_stand};
-use lines::read::{Line, Page};
+use lines::read::Line;
 use parties::Measures;
+use std::fmt;
 
-#[derive(Clone, Copy)]
+#[derive(Clone, Copy, Debug, PartialEq, Eq)]
 pub enum Event {
     // A client, and a page of so many bytes.
     Deposit(usize, usize),
@@ -19,6 +20,21 @@ pub enum Event {
     Lie(usize, usize, usize),
 }
 
+// The front of an event's line.
+impl fmt::Display for Event {
+    fn fmt<W: fmt::Write>(&self, f: &mut fmt::Formatter<W>) -> fmt::Result {
+        match self {
+            Event::Deposit(c, _) => write!(f, "deposit {c}"),
+            Event::Read(c) => write!(f, "read {c}"),
+            Event::Carry(c) => write!(f, "carry {c}"),
+            Event::Hand(c) => write!(f, "hand {c}"),
+            Event::Bring(c, i) => write!(f, "bring {c} {i}"),
+            Event::Deliver(i, c) => write!(f, "deliver {i} {c}"),
+            Event::Lie(i, c, _) => write!(f, "lie {i} {c}"),
+        }
+    }
+}
+
 #[derive(Clone, Copy)]
 pub enum Command {
     // An empty line, or one whose first word is `#`.
@@ -28,86 +44,58 @@ pub enum Command {
     Liar(usize),
     Show(usize),
     Event(Event),
-    // A line of another form.
-    Other,
 }
 
-// 2^32 stands for a word that is no number.
-fn number(x: u64) -> bool {
-    x < 4294967296
-}
+// The names packed: their bytes after a 1.
+const CARRY: u64 = 0x01_63_61_72_72_79;
 
-// One number. The names are packed words: `carry`, `hand`, `liar`, `show`.
-fn one(name: u64, x: usize) -> Command {
-    match name {
-        1526348280441 => Command::Event(Event::Carry(x)),
-        6046183012 => Command::Event(Event::Hand(x)),
-        6113812850 => Command::Liar(x),
-        6231191415 => Command::Show(x),
-        _ => Command::Other,
-    }
-}
+const HAND: u64 = 0x01_68_61_6e_64;
 
-// Two numbers: `bring`, `deliver`.
-fn two(name: u64, x: usize, y: usize) -> Command {
-    match name {
-        1522337934951 => Command::Event(Event::Bring(x, y)),
-        100316608009233778 => Command::Event(Event::Deliver(x, y)),
-        _ => Command::Other,
-    }
-}
+const LIAR: u64 = 0x01_6c_69_61_72;
 
-// Two numbers and bytes: `lie`.
-fn three(name: u64, x: usize, y: usize, p: Page) -> Command {
-    if name != 23882085 {
-        return Command::Other;
-    }
-    match p {
-        Page::Bytes(n) => Command::Event(Event::Lie(x, y, n)),
-        Page::Nothing => Command::Other,
-    }
-}
+const SHOW: u64 = 0x01_73_68_6f_77;
 
-// What `stand` does not know.
-fn other(l: Line) -> Command {
-    let v = l.numbers;
-    let p = l.page;
-    let x = v[0];
-    let y = v[1];
-    if !number(x) {
-        return Command::Other;
+const BRING: u64 = 0x01_62_72_69_6e_67;
+
+const DELIVER: u64 = 0x01_64_65_6c_69_76_65_72;
+
+const LIE: u64 = 0x01_6c_69_65;
+
+const HASH: u64 = 0x01_23;
+
+const NO_BYTES: u64 = 0x01;
+
+// What `stand` does not know: so many words, the first one too.
+fn other(l: Line) -> Option<Command> {
+    let x = l.numbers[0]? as usize;
+    match (l.words, l.name) {
+        (2, CARRY) => Some(Command::Event(Event::Carry(x))),
+        (2, HAND) => Some(Command::Event(Event::Hand(x))),
+        (2, LIAR) => Some(Command::Liar(x)),
+        (2, SHOW) => Some(Command::Show(x)),
+        (3, BRING) => Some(Command::Event(Event::Bring(x, l.numbers[1]? as usize))),
+        (3, DELIVER) => Some(Command::Event(Event::Deliver(x, l.numbers[1]? as usize))),
+        (4, LIE) => Some(Command::Event(Event::Lie(x, l.numbers[1]? as usize, l.page?))),
+        _ => None,
     }
-    if l.words == 2 {
-        return one(l.name, x as usize);
-    }
-    if !number(y) {
-        return Command::Other;
-    }
-    if l.words == 3 {
-        return two(l.name, x as usize, y as usize);
-    }
-    if l.words == 4 {
-        return three(l.name, x as usize, y as usize, p);
-    }
-    Command::Other
 }
 
 // `#`, or an only word of no bytes.
 fn nothing(l: Line) -> bool {
-    if l.name == 291 {
-        return true;
-    }
-    l.words == 1 && l.name == 1
+    l.name == HASH || l.words == 1 && l.name == NO_BYTES
 }
 
-pub fn asked(l: Line) -> Command {
+// None for a line of another form.
+pub fn asked(l: Line) -> Option<Command> {
     if nothing(l) {
-        return Command::Nothing;
+        return Some(Command::Nothing);
     }
     match asked_of_stand(l) {
-        StandCommand::Config(m, n, k, t, f) => Command::Config(Measures { m, n, k, t, f }),
-        StandCommand::Read(c) => Command::Event(Event::Read(c)),
-        StandCommand::Deposit(c, n) => Command::Event(Event::Deposit(c, n)),
-        StandCommand::Other => other(l),
+        Some(StandCommand::Config(m, n, k, t, f)) => {
+            Some(Command::Config(Measures { m, n, k, t, f }))
+        }
+        Some(StandCommand::Read(c)) => Some(Command::Event(Event::Read(c))),
+        Some(StandCommand::Deposit(c, n)) => Some(Command::Event(Event::Deposit(c, n))),
+        None => other(l),
     }
 }

@@ -1,23 +1,30 @@
 // A script, line by line.
 use crate::command::{Command, Event, asked};
 use crate::report;
-use crate::report::{say, say_one};
-use crate::space::{Memory, Page, Post, Room};
+use crate::space::{Shown, Space};
 use lines::read::Line;
 use parties::Measures;
 use parties::records::nodes::{add_node, count, has_node};
 use runs::answer::EventEnd;
 use runs::event;
-use runs::least::least;
 use std::io;
 use std::io::Write;
 use title::fresh::fresh;
-use title::{Part, table_part};
+use title::table_part;
+
+#[derive(Clone, Copy, Debug, PartialEq, Eq)]
+pub enum Stage {
+    // Before a `config`.
+    Unset,
+    // After it.
+    Set,
+    // After the first event, also one that is refused.
+    Begun,
+}
 
 #[derive(Clone, Copy)]
 pub struct Run {
-    // 0 before a `config`, 1 after it, 2 after the first event, also one that is refused.
-    pub stage: u8,
+    pub stage: Stage,
     pub measures: Measures,
     // The dishonest nodes.
     pub liars: u16,
@@ -27,7 +34,7 @@ pub struct Run {
 
 pub fn start() -> Run {
     Run {
-        stage: 0,
+        stage: Stage::Unset,
         measures: Measures {
             m: 0,
             n: 0,
@@ -40,31 +47,28 @@ pub fn start() -> Run {
     }
 }
 
-// 0 for measures that pass, 2 where only the program has no memory for them.
-fn refusal(s: Measures) -> usize {
+// None for measures that pass, 2 where only the program has no memory for them.
+fn refusal(s: Measures) -> Option<usize> {
     if !s.pass() {
-        return 1;
+        return Some(1);
     }
-    if 3 < s.m {
-        return 2;
+    if 3 < s.m || 64 < s.f {
+        return Some(2);
     }
-    if 64 < s.f {
-        return 2;
-    }
-    0
+    None
 }
 
 // A run begins anew with each `config`.
-fn config<W: Write>(writer: &mut W, s: Measures, memory: &mut Memory) -> io::Result<Run> {
-    let r = refusal(s);
-    if 0 < r {
-        say_one(writer, b"config: refused %\n", r)?;
+fn config<W: Write>(writer: &mut W, s: Measures, memory: &mut [u8]) -> io::Result<Run> {
+    if let Some(r) = refusal(s) {
+        writeln!(writer, "config: refused {r}")?;
         return Ok(start());
     }
-    fresh(s, memory);
+    // Measures that pass, and a memory that is long enough for them.
+    let _ = fresh(s, memory);
     report::header(writer, s)?;
     Ok(Run {
-        stage: 1,
+        stage: Stage::Set,
         measures: s,
         liars: 0,
         used: 0,
@@ -73,22 +77,22 @@ fn config<W: Write>(writer: &mut W, s: Measures, memory: &mut Memory) -> io::Res
 
 fn liar<W: Write>(writer: &mut W, x: Run, i: usize) -> io::Result<Run> {
     let s = x.measures;
-    if x.stage == 2 {
-        say(writer, b"error: liars come before the first event\n")?;
+    if x.stage == Stage::Begun {
+        writeln!(writer, "error: liars come before the first event")?;
         return Ok(x);
     }
     if i < 1 || s.n < i {
-        say_one(writer, b"liar %: refused 3\n", i)?;
+        writeln!(writer, "liar {i}: refused 3")?;
         return Ok(x);
     }
     let liars = add_node(x.liars, i);
     if s.t < count(liars) {
-        say(writer, b"error: no more than t liars\n")?;
+        writeln!(writer, "error: no more than t liars")?;
         return Ok(x);
     }
-    say_one(writer, b"liar %: set\n", i)?;
+    writeln!(writer, "liar {i}: set")?;
     Ok(Run {
-        stage: 1,
+        stage: Stage::Set,
         measures: s,
         liars,
         used: 0,
@@ -97,16 +101,15 @@ fn liar<W: Write>(writer: &mut W, x: Run, i: usize) -> io::Result<Run> {
 
 // A node's table; after a `config` the memory has it.
 fn table<W: Write>(writer: &mut W, s: Measures, i: usize, memory: &[u8]) -> io::Result<()> {
-    let part = table_part(s, i, memory.len());
-    match part {
-        Part::Refused(_) => Ok(()),
-        Part::Within(from, to) => report::holds(writer, i, &memory[from..to], s.f),
+    match table_part(s, i, memory.len()) {
+        Ok(part) => report::holds(writer, i, &memory[part], s.f),
+        Err(_) => Ok(()),
     }
 }
 
 fn show<W: Write>(writer: &mut W, s: Measures, i: usize, memory: &[u8]) -> io::Result<()> {
     if i < 1 || s.n < i {
-        return say_one(writer, b"show %: refused 3\n", i);
+        return writeln!(writer, "show {i}: refused 3");
     }
     table(writer, s, i, memory)
 }
@@ -117,11 +120,11 @@ fn fits<W: Write>(writer: &mut W, liars: u16, e: Event, most: usize) -> io::Resu
         return Ok(true);
     };
     if !has_node(liars, i) {
-        say_one(writer, b"error: node % is no liar\n", i)?;
+        writeln!(writer, "error: node {i} is no liar")?;
         return Ok(false);
     }
     if most <= n {
-        say(writer, b"error: too many bytes\n")?;
+        writeln!(writer, "error: too many bytes")?;
         return Ok(false);
     }
     Ok(true)
@@ -132,16 +135,18 @@ fn happens(
     liars: u16,
     used: usize,
     e: Event,
-    memory: &mut Memory,
-    room: &mut Room,
-    out: &mut Page,
-    post: &mut Post,
-    page: &[u8],
+    space: &mut Space,
+    left: &mut Shown,
 ) -> EventEnd {
+    let memory = &mut space.memory;
+    let post = &mut space.post;
+    let page = &space.page;
+    let room = &mut left.room;
+    let out = &mut left.out;
     match e {
         Event::Deposit(c, len) => {
-            let n = least(len, page.len());
-            event::deposit(s, c, memory, &page[0..n], post, used)
+            let n = len.min(page.len());
+            event::deposit(s, c, memory, &page[..n], post, used)
         }
         Event::Read(c) => event::reading(s, c, memory, room, post, used),
         Event::Carry(c) => event::carry(s, c, memory, room, post, used),
@@ -149,77 +154,54 @@ fn happens(
         Event::Bring(c, i) => event::bring(s, liars, c, i, memory, room, post, used),
         Event::Deliver(i, c) => event::deliver(s, c, i, memory, room, out, post, used),
         Event::Lie(i, c, len) => {
-            let n = least(len, page.len());
-            event::lie(s, liars, c, i, &page[0..n], memory, room, out, post, used)
+            let n = len.min(page.len());
+            event::lie(s, liars, c, i, &page[..n], memory, room, out, post, used)
         }
     }
 }
 
 // What the room and the page out hold is shown at once, so each event has its own.
-fn act<W: Write>(
-    writer: &mut W,
-    x: Run,
-    e: Event,
-    memory: &mut Memory,
-    post: &mut Post,
-    page: &Page,
-) -> io::Result<Run> {
+fn act<W: Write>(writer: &mut W, x: Run, e: Event, space: &mut Space) -> io::Result<Run> {
     let s = x.measures;
-    if !fits(writer, x.liars, e, page.len())? {
+    if !fits(writer, x.liars, e, space.page.len())? {
         return Ok(x);
     }
-    let mut room: Room = [0; 6400];
-    let mut out: Page = [0; 1100];
-    let t = happens(
-        s, x.liars, x.used, e, memory, &mut room, &mut out, post, page,
-    );
-    let what = t.what;
-    report::event(writer, s, e, what, &room, &out)?;
+    let mut left = Shown::new();
+    let t = happens(s, x.liars, x.used, e, space, &mut left);
+    report::event(writer, s, e, t.what, &left)?;
     Ok(Run {
-        stage: 2,
-        measures: s,
-        liars: x.liars,
+        stage: Stage::Begun,
         used: t.used,
+        ..x
     })
 }
 
 // Whether a run has to have begun.
 fn of_run(what: Command) -> bool {
-    match what {
-        Command::Liar(_) => true,
-        Command::Show(_) => true,
-        Command::Event(_) => true,
-        _ => false,
-    }
+    matches!(
+        what,
+        Command::Liar(_) | Command::Show(_) | Command::Event(_)
+    )
 }
 
 // A line of a script.
-pub fn line<W: Write>(
-    writer: &mut W,
-    x: Run,
-    l: Line,
-    memory: &mut Memory,
-    post: &mut Post,
-    page: &Page,
-) -> io::Result<Run> {
-    let s = x.measures;
-    let what = asked(l);
-    if x.stage == 0 && of_run(what) {
-        say(writer, b"error: config comes first\n")?;
+pub fn line<W: Write>(writer: &mut W, x: Run, l: Line, space: &mut Space) -> io::Result<Run> {
+    let Some(what) = asked(l) else {
+        writeln!(writer, "error: not a line of a script")?;
+        return Ok(x);
+    };
+    if x.stage == Stage::Unset && of_run(what) {
+        writeln!(writer, "error: config comes first")?;
         return Ok(x);
     }
     match what {
         Command::Nothing => Ok(x),
-        Command::Other => {
-            say(writer, b"error: not a line of a script\n")?;
-            Ok(x)
-        }
-        Command::Config(new) => config(writer, new, memory),
+        Command::Config(new) => config(writer, new, &mut space.memory),
         Command::Liar(i) => liar(writer, x, i),
         Command::Show(i) => {
-            show(writer, s, i, memory)?;
+            show(writer, x.measures, i, &space.memory)?;
             Ok(x)
         }
-        Command::Event(e) => act(writer, x, e, memory, post, page),
+        Command::Event(e) => act(writer, x, e, space),
     }
 }

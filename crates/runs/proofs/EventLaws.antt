@@ -1,17 +1,18 @@
 -- The parts of an event: what its tests tell, and what its answers put under way.
 use mathlib.Core.Path.{◌≡◌, refl, sym, ap, subst, ◌∙◌}
 use mathlib.Core.Bool.{Bool, true, false, cond, not, ◌&&◌, false≢true}
-use mathlib.Core.Logic.{◌⊎◌, inl, inr, ◌≢◌}
-use Rattle.parties.specs.declared.Refusal.{Refusal}
+use mathlib.Core.Logic.{◌⊎◌, inl, inr}
 use mathlib.Core.List.{List, [], ◌∷◌, ◌++◌}
 use Prim.Native.Nat.{ℕ, zero, suc, ◌+◌, ◌-◌, ◌*◌, ◌≤◌, ◌<◌, min}
 use native.Mathlib.Decide.{dec_le}
 use native.Mathlib.Omega.{arith}
 use native.Mathlib.Nat.{mul-le-mul, mul-le-mul_right}
-use borrow.Author.Tests.{lt-leb, le-leb, leb-true, ne_eqb}
+use borrow.Author.Tests.{le-leb, ne_eqb}
 use lib.Dec.{leb, ltb, eqb}
 use lib.ListN.{length, take, drop, get_or}
 use lib.Seq.{drop-cons, get_or-drop, take_all, take-length}
+use Rattle.std.specs.Prelude.{Option, Some, None, Result, Ok, Err, is_ok}
+use Rattle.std.specs.declared.ops.Range.{Range}
 use Rattle.parties.specs.declared.Measures.{Measures}
 use Rattle.parties.specs.protocol.Measures.{passes}
 use Rattle.parties.specs.Sizes.{sized, Sized}
@@ -21,45 +22,42 @@ use Rattle.parties.specs.protocol.ClientEvents.{room_size, start_reading, update
 use Rattle.parties.specs.protocol.DirectoryEvents.{directory_size, directory_update, directory_scan}
 use Rattle.parties.specs.protocol.NodeEvents.{table_size, answer_size, node_message}
 use Rattle.parties.proofs.protocol.events.SentLengths.{reading_bounded, updated_bounded, scanned_bounded, message_bounded, ServedIn, scan_bounded, update_bounded, node_bounded}
-use Rattle.title.specs.Part.{Refuses, Placed}
-use Rattle.title.specs.declared.memory.Part.{Part}
-use Rattle.title.proofs.PartLaws.{both_true}
 use Rattle.title.specs.Memory.{memory_size, part_of, table_at, table_in, record_at, record_in}
 use Rattle.parties.proofs.protocol.formats.MeasureLaws.{passed}
 use Rattle.parties.specs.protocol.Run.{Event, reading, lie, is_refused, length_of}
-use Rattle.parties.specs.records.Answer.{number}
 use Rattle.parties.specs.Answer.{served}
 use Rattle.parties.specs.declared.ClientAnswer.{ClientAnswer}
 use Rattle.parties.specs.client.Answer.{answered}
 use Rattle.parties.specs.declared.Refusal.{Refusal}
-use Rattle.parties.specs.declared.Service.{Service}
 use Rattle.runs.specs.declared.answer.Happened.{Happened}
 use Rattle.runs.specs.declared.answer.EventEnd.{EventEnd}
-use Rattle.runs.specs.declared.event.Readiness.{Readiness}
-use Rattle.runs.specs.declared.event.Ahead.{Ahead}
-use Rattle.runs.specs.declared.event.Clear.{Clear}
-use Rattle.runs.specs.declared.parcels.Found.{Found}
-use Rattle.runs.specs.Parcels.{call_kind, return_kind, to_node_kind, to_client_kind, no_node, proper_key, IsList, Broken, Stands, NoneStands, Looks, Appended, Removed}
+use Rattle.runs.specs.Parcels.{call_kind, return_kind, to_node_kind, to_client_kind, no_node, proper_key, Broken, Looks, Sounds, ListFrom, Appended, Removed}
 use Rattle.runs.specs.Sent.{longest_message, needed}
 use Rattle.runs.specs.Acts.{Lent, body, tagged, Serves}
-use Rattle.runs.specs.Event.{Cramped, Readies, Stopped, Waiting, Vacant, Halted, Aheads, Uncleared, Clears, lowest_of, Carried}
+use Rattle.runs.specs.Event.{Cramped, Stopped, Waiting, Vacant, Waits, Halted, Uncleared, Carried}
 use Rattle.runs.specs.Happens.{in_bounds, suffices, PostRoomy, Unready, Happens, lies_in, honest_in}
 use Rattle.runs.proofs.SentLaws.{piece-within, room_small, rows-small}
 
 -- ---- a client's answer
 
-pub not_refused : (a : ClientAnswer) → ((r : Refusal) → a ≢ ClientAnswer.Refused r) → false ≡ is_refused (answered a)
-not_refused (ClientAnswer.Refused r) k = absurd (k r refl)
-not_refused ClientAnswer.Waits k = refl
-not_refused ClientAnswer.Scan k = refl
-not_refused (ClientAnswer.Update len) k = refl
-not_refused (ClientAnswer.Stores v len) k = refl
-not_refused (ClientAnswer.Requests v nodes) k = refl
-not_refused (ClientAnswer.Deposited v len) k = refl
-not_refused ClientAnswer.Empty k = refl
-not_refused (ClientAnswer.Page v len) k = refl
-not_refused ClientAnswer.Spent k = refl
-not_refused ClientAnswer.Failed k = refl
+pub not_refused : (a : ClientAnswer) → is_refused (answered (Ok a)) ≡ false
+not_refused ClientAnswer.Waits = refl
+not_refused ClientAnswer.Scan = refl
+not_refused (ClientAnswer.Update len) = refl
+not_refused (ClientAnswer.Stores v len) = refl
+not_refused (ClientAnswer.Requests v nodes) = refl
+not_refused (ClientAnswer.Deposited v len) = refl
+not_refused ClientAnswer.Empty = refl
+not_refused (ClientAnswer.Page v len) = refl
+not_refused ClientAnswer.Spent = refl
+not_refused ClientAnswer.Failed = refl
+
+pub refused_by : (a : Result ClientAnswer Refusal) (r : Refusal) → a ≡ Err r → is_refused (answered a) ≡ true
+refused_by a r e = rw e refl
+
+-- it is no refusal, and it is what is sent
+pub answered_by : (a : Result ClientAnswer Refusal) (x : ClientAnswer) → a ≡ Ok x → (is_refused (answered a) ≡ false) × (answered a ≡ answered (Ok x))
+answered_by a x e = rw e (not_refused x, refl)
 
 -- ---- a parcel's first byte
 
@@ -84,9 +82,6 @@ tagged_full post at end h w =
 pub sized_is : (s : Measures) (n : ℕ) → passes s ≡ true → sized s n ≡ n
 sized_is s n ok = rw ok refl
 
-pub sized-none : (s : Measures) (n : ℕ) → passes s ≡ false → sized s n ≡ 0
-sized-none s n e = rw e refl
-
 pub needed-small : (s : Measures) → passes s ≡ true → needed s ≤ 1161784
 needed-small s ok =
     let p = passed s ok in
@@ -97,9 +92,9 @@ needed-small s ok =
 -- ---- the directory's and a node's answers
 
 -- there is room for an answer where the parcel that it answers was
-pub appendable : (s : Measures) (a : Service) (len : ℕ) (front part room : List ℕ) (k : ℕ) (post : List ℕ) (used at end : ℕ) (mid : List ℕ) (left : ℕ)
+pub appendable : (s : Measures) (a : Result ℕ Refusal) (len : ℕ) (front part room : List ℕ) (k : ℕ) (post : List ℕ) (used at end : ℕ) (mid : List ℕ) (left : ℕ)
     → PostRoomy s (length post) used × (8 + min (length_of (served a)) (length room) ≤ needed s) × (length front ≤ 1) × (at + 7 ≤ end) × (end ≤ used)
-    → a ≡ Service.Served len → length part ≡ k → k ≡ min len (length room) → Removed at end post used mid left
+    → a ≡ Ok len → length part ≡ k → k ≡ min len (length room) → Removed at end post used mid left
     → (left + (7 + (length front + length part)) ≤ length mid) × (length front + length part ≤ 4294967295)
 appendable s a len front part room k post used at end mid left p e l m r =
     let few : 8 + min len (length room) ≤ needed s = rw e at p.1 in
@@ -115,60 +110,33 @@ take_least len l = go (dec_le len (length l))
     go (yes h) = let e : min len (length l) ≡ len = omega arith in rw e
     go (no h) = let e : min len (length l) ≡ length l = omega arith in let n : length l ≤ len = omega arith in rw (e, take-length, take_all len l n)
 
-pub serves-refused : (kind c i : ℕ) (front room post : List ℕ) (used at end : ℕ) (a : Service) (r : Refusal) → a ≡ Service.Refused r
+pub serves-refused : (kind c i : ℕ) (front room post : List ℕ) (used at end : ℕ) (a : Result ℕ Refusal) (r : Refusal) → a ≡ Err r
     → Serves kind c i front room post used at end post a (record { used = used; what = Happened.ByServer a })
 serves-refused kind c i front room post used at end a r e = rw e (Serves.refuses r refl)
 
-pub serves-served : (kind c i : ℕ) (front room post : List ℕ) (used at end : ℕ) (after : List ℕ) (a : Service) (len : ℕ) → a ≡ Service.Served len
+pub serves-served : (kind c i : ℕ) (front room post : List ℕ) (used at end : ℕ) (after : List ℕ) (a : Result ℕ Refusal) (len : ℕ) → a ≡ Ok len
     → (part left to : ℕ) (mid : List ℕ) → part ≡ min len (length room) → Removed at end post used mid left
     → Appended (record { kind = kind; client = c; node = i; bytes = front ++ take part room } ∷ []) mid left after to
     → Serves kind c i front room post used at end after a (record { used = to; what = Happened.ByServer a })
 serves-served kind c i front room post used at end after a len e part left to mid p r h =
     rw e (Serves.serves len left to mid r (rw (p, take_least len room) at h))
 
--- a first slice that is too short, or long enough
-pub both-short : (n m : ℕ) (b : Bool) → m < n → false ≡ (leb n m && b)
-both-short n m b h = sym (ap (λ (x : Bool). x && b) (lt-leb n m h))
-
-pub both_long : (n m : ℕ) (b : Bool) → n ≤ m → b ≡ (leb n m && b)
-both_long n m b h = sym (ap (λ (x : Bool). x && b) (le-leb n m h))
-
 and_true_right : (b : Bool) → (b && true) ≡ b
 and_true_right true = refl
 and_true_right false = refl
 
--- ---- what a call tells, by its answer
+-- ---- what is under way
 
-pub ready_yes : (s : Measures) (post used : ℕ) (r : Readiness) → Readies s post used r → r ≡ Readiness.Yes → PostRoomy s post used
-ready_yes s post used r h e = rw e at h
+pub looks_wait : (s : Measures) (kind c i : ℕ) (post : List ℕ) (used : ℕ) → PostRoomy s (length post) used → proper_key s kind c i ≡ true
+    → (r : Result (Option (Range ℕ)) Refusal) → Looks s kind c i used post r → Waits s kind c i post used r
+looks_wait s kind c i post used o k (Ok (Some place)) h = record { roomy = o; key = k; stands = h }
+looks_wait s kind c i post used o k (Ok None) h = record { roomy = o; key = k; none = h }
+looks_wait s kind c i post used o k (Err r) h = rw h.0 (Stopped.form o k h.1)
 
-pub ready_no : (s : Measures) (post used : ℕ) (r : Readiness) → Readies s post used r → (x : Refusal) → r ≡ Readiness.No x → Cramped s post used (number x)
-ready_no s post used r h x e = rw e at h
-
-pub looks_broken : (s : Measures) (kind c i used : ℕ) (post : List ℕ) (r : Found) → Looks s kind c i used post r → r ≡ Found.Broken → Broken s used post
-looks_broken s kind c i used post r h e = rw e at h
-
-pub looks_none : (s : Measures) (kind c i used : ℕ) (post : List ℕ) (r : Found) → Looks s kind c i used post r → r ≡ Found.Nothing → NoneStands s kind c i used post
-looks_none s kind c i used post r h e = rw e at h
-
-pub looks_at : (s : Measures) (kind c i used : ℕ) (post : List ℕ) (r : Found) → Looks s kind c i used post r → (at end : ℕ) → r ≡ Found.At at end
-    → Stands s kind c i used post at end
-looks_at s kind c i used post r h at end e = rw e at h
-
-pub ahead_ends : (s : Measures) (kind c i : ℕ) (post : List ℕ) (used : ℕ) (r : Ahead) → Aheads s kind c i post used r → (e : EventEnd) → r ≡ Ahead.Ends e
-    → Halted s kind c i post used e
-ahead_ends s kind c i post used r h e q = rw q at h
-
-pub ahead_at : (s : Measures) (kind c i : ℕ) (post : List ℕ) (used : ℕ) (r : Ahead) → Aheads s kind c i post used r → (at end : ℕ) → r ≡ Ahead.Found at end
-    → Waiting s kind c i post used at end
-ahead_at s kind c i post used r h at end e = rw e at h
-
-module _ (s : Measures) (c i memory : ℕ) (enough : Bool) (post : List ℕ) (used : ℕ) (r : Clear) (h : Clears s c i memory enough post used r) where
-  pub clear_yes : r ≡ Clear.Yes → PostRoomy s (length post) used × (proper_key s to_client_kind c i ≡ true) × IsList s used post
-  clear_yes q = rw q at h
-
-  pub clear_ends : (e : EventEnd) → r ≡ Clear.Ends e → Uncleared s c i memory enough post used e
-  clear_ends e q = rw q at h
+pub unsound : {A : Type 0} (s : Measures) (used : ℕ) (post : List ℕ) (at : ℕ) (r : Result A Refusal) → Sounds s used post at r → is_ok r ≡ false
+    → ListFrom s used post at → ⊥
+unsound s used post at (Ok x) h e = absurd (false≢true (sym e))
+unsound s used post at (Err r) h e = h.1
 
 -- ---- an event as a whole
 
@@ -236,13 +204,6 @@ pub start_bounds : (s : Measures) → passes s ≡ true → (c : ℕ) → proper
 unfolding proper_key
 start_bounds s ok c = rw (le-leb 1 s.n (passed s ok).nodes.0) (and_true_right (ltb c s.m))
 
-pub tagged-long : (post : List ℕ) (at end : ℕ) → tagged (body post at end) ≡ true → at + 8 ≤ end
-tagged-long post at end h = go (dec_le (at + 8) end)
-  where
-    go : Dec (at + 8 ≤ end) → at + 8 ≤ end
-    go (yes l) = l
-    go (no l) = let n : end ≤ at + 7 = omega arith in absurd (false≢true (tagged-empty post at end n ∙ h))
-
 pub dishonest : (liars i : ℕ) (r : Bool) → r ≡ lies_in liars i → r ≡ true → honest_in liars i ≡ false
 dishonest liars i r e t = ap not (sym e ∙ t)
 
@@ -270,7 +231,7 @@ module _ (s : Measures) (memory : List ℕ) (bytes : (i : ℕ) → get_or memory
       go true = taken-bytes size (drop at memory) (λ j. rw (get_or-drop at memory j 0) (bytes (at + j))) i
       go false = omega arith
 
-  module _ (c : ℕ) (a : ClientAnswer) where
+  module _ (c : ℕ) (a : Result ClientAnswer Refusal) where
     pub reading-sized : (room : List ℕ) → answered a ≡ (start_reading s c (record_in s c memory) room).answer → Sized s (answered a)
     reading-sized room e = subst (Sized s) (sym e) (reading_bounded s c (record_in s c memory) (part_bytes (record_at s c) (client_size s)) room)
 
@@ -284,14 +245,14 @@ module _ (s : Measures) (memory : List ℕ) (bytes : (i : ℕ) → get_or memory
     message_sized i message room out e =
         subst (Sized s) (sym e) (message_bounded s c (record_in s c memory) (part_bytes (record_at s c) (client_size s)) i message room out)
 
-  pub node-length : (a : Service) (i : ℕ) (message room : List ℕ) → served a ≡ (node_message s i (table_in s i memory) message room).answer
+  pub node-length : (a : Result ℕ Refusal) (i : ℕ) (message room : List ℕ) → served a ≡ (node_message s i (table_in s i memory) message room).answer
       → length_of (served a) ≤ answer_size s
   node-length a i message room e = in_length (served a) (answer_size s) (subst (ServedIn (answer_size s)) (sym e) (node_bounded s i (table_in s i memory) message room (part_bytes (table_at s i) (table_size s))))
 
-pub scan-length : (s : Measures) (a : Service) (table room : List ℕ) → served a ≡ (directory_scan s table room).answer → length_of (served a) ≤ directory_size s
+pub scan-length : (s : Measures) (a : Result ℕ Refusal) (table room : List ℕ) → served a ≡ (directory_scan s table room).answer → length_of (served a) ≤ directory_size s
 scan-length s a table room e = in_length (served a) (directory_size s) (subst (ServedIn (directory_size s)) (sym e) (scan_bounded s table room))
 
-pub update-length : (s : Measures) (a : Service) (c : ℕ) (table fields : List ℕ) → served a ≡ (directory_update s c table fields).answer → length_of (served a) ≤ 0
+pub update-length : (s : Measures) (a : Result ℕ Refusal) (c : ℕ) (table fields : List ℕ) → served a ≡ (directory_update s c table fields).answer → length_of (served a) ≤ 0
 update-length s a c table fields e = in_length (served a) 0 (subst (ServedIn 0) (sym e) (update_bounded s c table fields))
 
 -- there is room for a node's answer
@@ -299,33 +260,6 @@ pub answer-fits : (s : Measures) → passes s ≡ true → 8 + answer_size s ≤
 answer-fits s ok =
     let p = passed s ok in
     omega (arith, piece-within s ok, mul-le-mul_right (longest_message s) p.nodes.0)
-
--- ---- the lowest that applies
-
-module _ (s : Measures) (c i memory : ℕ) where
-  pub lowest_short : (enough : Bool) (n : ℕ) → passes s ≡ true → Refuses s memory n → n ≡ lowest_of s c i memory enough
-  lowest_short enough n ok (Refuses.measures e) = absurd (false≢true (sym e ∙ ok))
-  lowest_short enough n ok (Refuses.short e l) = rw (lt-leb (memory_size s) memory l) refl
-
-  pub lowest_lacks : (enough : Bool) → enough ≡ false → 2 ≡ lowest_of s c i memory enough
-  lowest_lacks enough e = rw e (go (leb (memory_size s) memory))
-    where
-      go : (b : Bool) → ◌≡◌ {A = ℕ} 2 (cond (b && false) (cond (proper_key s to_client_kind c i) 4 3) 2)
-      go true = refl
-      go false = refl
-
-  module _ (l : memory_size s ≤ memory) where
-    pub lowest_outside : (enough : Bool) → enough ≡ true → proper_key s to_client_kind c i ≡ false → 3 ≡ lowest_of s c i memory enough
-    lowest_outside enough e k = rw (le-leb (memory_size s) memory l, e, k) refl
-
-    pub lowest_form : (enough : Bool) → enough ≡ true → proper_key s to_client_kind c i ≡ true → 4 ≡ lowest_of s c i memory enough
-    lowest_form enough e k = rw (le-leb (memory_size s) memory l, e, k) refl
-
-pub placed_long : (s : Measures) (len at size : ℕ) (r : Part) → Placed s len at size r → (a b : ℕ) → r ≡ Part.Within a b → memory_size s ≤ len
-placed_long s len at size r h a b e = (rw e at h).long
-
-pub placed_refused : (s : Measures) (len at size : ℕ) (r : Part) → Placed s len at size r → (x : Refusal) → r ≡ Part.Refused x → Refuses s len (number x)
-placed_refused s len at size r h x e = rw e at h
 
 -- the slices that a client wants, as the code tests them
 pub reading-suffices : (s : Measures) (honest : ℕ → Bool) (c : ℕ) (room : List ℕ) (x : Lent) (n : ℕ) → n ≡ room_size s
@@ -346,15 +280,3 @@ lie-asks-none s honest i c bytes room out x z = rw z refl
 pub some_used : (n : ℕ) → (n ≡ 0 → ⊥) → 0 < n
 some_used zero h = absurd (h refl)
 some_used (suc n) h = omega arith
-
--- the last of the kinds
-pub last-kind : (n : ℕ) → n ≤ 3 → (n ≡ 0 → ⊥) → (n ≡ 1 → ⊥) → (n ≡ 2 → ⊥) → n ≡ 3
-last-kind zero h a b c = absurd (a refl)
-last-kind (suc zero) h a b c = absurd (b refl)
-last-kind (suc (suc zero)) h a b c = absurd (c refl)
-last-kind (suc (suc (suc zero))) h a b c = refl
-last-kind (suc (suc (suc (suc n)))) h a b c = absurd (omega arith)
-
-pub key-kind-within : (s : Measures) (kind c i : ℕ) → proper_key s kind c i ≡ true → kind ≤ 3
-unfolding proper_key
-key-kind-within s kind c i e = leb-true kind 3 (both_true (leb kind 3) _ e).0

@@ -1,6 +1,7 @@
 -- The form of a list of parcels: what a heading at a place tells of the list from there on.
 use mathlib.Core.Path.{◌≡◌, refl, sym, ap, ◌∙◌}
 use mathlib.Core.Bool.{true, false, false≢true}
+use mathlib.Core.Logic.{◌⊎◌, inl, inr}
 use mathlib.Core.List.{List, [], ◌∷◌, ◌++◌, append_assoc}
 use mathlib.Core.Option.{some}
 use Prim.Native.Nat.{ℕ, suc, ◌+◌, ◌-◌, ◌%◌, ◌<◌, ◌≤◌}
@@ -16,7 +17,8 @@ use Rattle.parties.proofs.protocol.formats.FormatLaws.{format_number}
 use Rattle.parties.proofs.protocol.formats.MeasureLaws.{passed}
 use Rattle.parties.proofs.protocol.formats.PointerLaws.{length-number}
 use Rattle.title.proofs.PartLaws.{both_true}
-use Rattle.runs.specs.Parcels.{Parcel, write_parcel, write_parcels, proper_key, proper, proper_all, Listed, IsList, ListFrom, HeadingAt}
+use Rattle.runs.specs.declared.parcels.Kind.{Kind}
+use Rattle.runs.specs.Parcels.{kind_of, Parcel, write_parcel, write_parcels, proper_key, proper, proper_all, Listed, IsList, ListFrom, HeadingAt}
 use Rattle.runs.proofs.PostLaws.{length-parcel, key-client, key-node, length-there, parcel-fits, kind-there, client-there, node-there, after-there}
 
 -- ---- from the start on
@@ -165,6 +167,20 @@ module _ (s : Measures) (ok : passes s ≡ true) (used : ℕ) (post : List ℕ) 
           }
 
 -- ---- the tests of a key, one after the other
+
+pub kind-within : (kind : Kind) → kind_of kind ≤ 3
+kind-within Kind.Call = omega arith
+kind-within Kind.Return = omega arith
+kind-within Kind.ToNode = omega arith
+kind-within Kind.ToClient = omega arith
+
+pub plain_kind : (kind : Kind) → (kind ≡ Kind.Call) ⊎ (kind ≡ Kind.Return) → kind_of kind ≤ 1
+plain_kind kind (inl e) = rw e (omega arith)
+plain_kind kind (inr e) = rw e (omega arith)
+
+pub message_kind : (kind : Kind) → (kind ≡ Kind.ToNode) ⊎ (kind ≡ Kind.ToClient) → 1 < kind_of kind
+message_kind kind (inl e) = rw e (omega arith)
+message_kind kind (inr e) = rw e (omega arith)
 
 module _ (s : Measures) (kind c i : ℕ) where
   pub key-kind : 3 < kind → false ≡ proper_key s kind c i

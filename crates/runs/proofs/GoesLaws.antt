@@ -10,6 +10,7 @@ use lib.Dec.{leb, ltb}
 use lib.ListN.{length, take, drop, length-append, length-take}
 use lib.Seq.{drop-drop, take-nil}
 use Rattle.parties.specs.Sizes.{Sized}
+use Rattle.std.specs.Prelude.{Result as Answer}
 use Rattle.parties.specs.declared.Measures.{Measures}
 use Rattle.parties.specs.protocol.Measures.{passes}
 use Rattle.parties.specs.protocol.Answer.{Served}
@@ -23,7 +24,7 @@ use Rattle.parties.proofs.protocol.events.DepositStartLaws.{deposit-room}
 use Rattle.parties.proofs.protocol.model.Cells.{by_eq}
 use Rattle.parties.proofs.protocol.events.RunLaws.{run-last, head_scan, head_update, head_updated, head_rows, head_to_node, head_to_client, none_to_node, none_to_client, none-called, none-returned}
 use Rattle.parties.specs.Answer.{served}
-use Rattle.parties.specs.declared.Service.{Service}
+use Rattle.parties.specs.declared.Refusal.{Refusal}
 use Rattle.parties.specs.client.Answer.{answered}
 use Rattle.parties.specs.declared.ClientAnswer.{ClientAnswer}
 use Rattle.title.specs.Memory.{directory_in, table_at, table_in, record_at, record_in, PutBack}
@@ -139,7 +140,7 @@ module _ (s : Measures) (q : List Parcel) (st : State) (post : List ℕ) (used :
 
   -- ---- a client's answer
 
-  module _ (c : ℕ) (a : ClientAnswer) (room after : List ℕ) (e : ClientEnd) (h₁ h₂ : History)
+  module _ (c : ℕ) (a : Answer ClientAnswer Refusal) (room after : List ℕ) (e : ClientEnd) (h₁ h₂ : History)
       (k : answered a ≡ e.answer) (m : room ≡ e.room) (g : proper_all s (sent s c (answered a) room) ≡ true) where
     sends-outcome : (result : EventEnd) → Sends s c a room post used after result
         → Outcome s (cond (is_refused e.answer) (stays (by_client e.answer) h₁ st) (goes s c e st.returns st.to_client h₂ st)) result after
@@ -180,7 +181,7 @@ module _ (s : Measures) (q : List Parcel) (st : State) (post : List ℕ) (used :
 
   module _ (c at end : ℕ) (f : FindsAt 0 c 0 q at end) (front room after : List ℕ) (e : DirectoryEnd) (r : Return) (done same : History)
       (key : proper_key s 1 c 0 ≡ true) (short : length front ≤ 1) where
-    carried-outcome : (a : Service) (result : EventEnd) → length_of (served a) ≤ 70250 → served a ≡ e.answer → return_of (front ++ take (length_of (served a)) room) ≡ r
+    carried-outcome : (a : Answer ℕ Refusal) (result : EventEnd) → length_of (served a) ≤ 70250 → served a ≡ e.answer → return_of (front ++ take (length_of (served a)) room) ≡ r
         → Serves 1 c 0 front room post used at end after a result
         → Outcome s (carried c (map call_of (bodies 0 c 0 (f.before ++ f.rest))) r e done same e.answer st) result after
     carried-outcome a result few k m (Serves.refuses v x) =
@@ -238,7 +239,7 @@ module _ (s : Measures) (q : List Parcel) (st : State) (post : List ℕ) (used :
         }
 
     module _ (room after : List ℕ) (e : NodeEnd) (m : room ≡ e.room) (key : proper_key s 3 c i ≡ true) where
-      keeps-outcome : (a : Service) (result : EventEnd) → length_of (served a) ≤ 70250 → served a ≡ e.answer → Serves 3 c i [] room post used at end after a result
+      keeps-outcome : (a : Answer ℕ Refusal) (result : EventEnd) → length_of (served a) ≤ 70250 → served a ≡ e.answer → Serves 3 c i [] room post used at end after a result
           → Outcome s (keeps c i (bodies 2 c i (f.before ++ f.rest)) e e.answer st) result after
       keeps-outcome a result few k (Serves.refuses v x) =
           subst (λ (y : Served). Outcome s (keeps c i (bodies 2 c i (f.before ++ f.rest)) e y st) result after) k
@@ -348,7 +349,7 @@ module _ (s : Measures) (ok : passes s ≡ true) (honest : ℕ → Bool) (es : L
 
   -- ---- starts
 
-  pub deposit-goes : (c : ℕ) (page : List ℕ) (a : ClientAnswer) (memory' after : List ℕ) (result : EventEnd)
+  pub deposit-goes : (c : ℕ) (page : List ℕ) (a : Answer ClientAnswer Refusal) (memory' after : List ℕ) (result : EventEnd)
       → c < s.m → Sized s (answered a)
       → answered a ≡ (start_deposit s c (record_in s c memory) page).answer
       → PutBack memory (record_at s c) (record_in s c memory) (start_deposit s c (record_in s c memory) page).client memory'
@@ -366,7 +367,7 @@ module _ (s : Measures) (ok : passes s ≡ true) (honest : ℕ → Bool) (es : L
       refl
       refl
 
-  pub reading-goes : (c : ℕ) (room room' : List ℕ) (a : ClientAnswer) (memory' after : List ℕ) (result : EventEnd)
+  pub reading-goes : (c : ℕ) (room room' : List ℕ) (a : Answer ClientAnswer Refusal) (memory' after : List ℕ) (result : EventEnd)
       → c < s.m → Sized s (answered a)
       → answered a ≡ (start_reading s c (record_in s c memory) room).answer
       → PutBack memory (record_at s c) (record_in s c memory) (start_reading s c (record_in s c memory) room).client memory'
@@ -441,7 +442,7 @@ module _ (s : Measures) (ok : passes s ≡ true) (honest : ℕ → Bool) (es : L
 
   -- ---- a call
 
-  pub carry-update-goes : (c : ℕ) (room : List ℕ) (at end : ℕ) (a : Service) (memory' after : List ℕ) (result : EventEnd)
+  pub carry-update-goes : (c : ℕ) (room : List ℕ) (at end : ℕ) (a : Answer ℕ Refusal) (memory' after : List ℕ) (result : EventEnd)
       → FindsAt 0 c 0 h.parcels at end
       → length_of (served a) ≤ 70250
       → tagged (body post at end) ≡ true
@@ -466,7 +467,7 @@ module _ (s : Measures) (ok : passes s ≡ true) (honest : ℕ → Bool) (es : L
       (sym (ap (room_carried s st.directory room) first))
       refl
 
-  pub carry-scan-goes : (c : ℕ) (room room' : List ℕ) (at end : ℕ) (a : Service) (after : List ℕ) (result : EventEnd)
+  pub carry-scan-goes : (c : ℕ) (room room' : List ℕ) (at end : ℕ) (a : Answer ℕ Refusal) (after : List ℕ) (result : EventEnd)
       → FindsAt 0 c 0 h.parcels at end
       → length_of (served a) ≤ 70250
       → tagged (body post at end) ≡ false
@@ -494,7 +495,7 @@ module _ (s : Measures) (ok : passes s ≡ true) (honest : ℕ → Bool) (es : L
 
   -- ---- the answer of a call
 
-  taken-return : (c : ℕ) (room' : List ℕ) (at end : ℕ) (a : ClientAnswer) (after : List ℕ) (result : EventEnd) (f : FindsAt 1 c 0 h.parcels at end) (e : ClientEnd)
+  taken-return : (c : ℕ) (room' : List ℕ) (at end : ℕ) (a : Answer ClientAnswer Refusal) (after : List ℕ) (result : EventEnd) (f : FindsAt 1 c 0 h.parcels at end) (e : ClientEnd)
       (h₁ h₂ : History) → answered a ≡ e.answer → room' ≡ e.room → proper_all s (sent s c (answered a) room') ≡ true
       → Takes s c a room' post used at end after result
       → Outcome s
@@ -514,7 +515,7 @@ module _ (s : Measures) (ok : passes s ≡ true) (honest : ℕ → Bool) (es : L
       (λ j d. u.to_client j d ∙ other-kind 1 c 0 h.parcels at end f 3 d j (λ z. omega arith))
       w
 
-  pub hand-updated-goes : (c : ℕ) (room room' : List ℕ) (at end : ℕ) (a : ClientAnswer) (memory' after : List ℕ) (result : EventEnd)
+  pub hand-updated-goes : (c : ℕ) (room room' : List ℕ) (at end : ℕ) (a : Answer ClientAnswer Refusal) (memory' after : List ℕ) (result : EventEnd)
       → Sized s (answered a)
       → FindsAt 1 c 0 h.parcels at end
       → tagged (body post at end) ≡ false
@@ -539,7 +540,7 @@ module _ (s : Measures) (ok : passes s ≡ true) (honest : ℕ → Bool) (es : L
       (m ∙ ap (λ (y : List ℕ). (update_answer s c y room).room) o ∙ sym (ap (room_handed s c (st.clients c) room) first))
       refl
 
-  pub hand-rows-goes : (c : ℕ) (room room' : List ℕ) (at end : ℕ) (a : ClientAnswer) (memory' after : List ℕ) (result : EventEnd)
+  pub hand-rows-goes : (c : ℕ) (room room' : List ℕ) (at end : ℕ) (a : Answer ClientAnswer Refusal) (memory' after : List ℕ) (result : EventEnd)
       → Sized s (answered a)
       → FindsAt 1 c 0 h.parcels at end
       → tagged (body post at end) ≡ true
@@ -567,7 +568,7 @@ module _ (s : Measures) (ok : passes s ≡ true) (honest : ℕ → Bool) (es : L
 
   -- ---- a message to a node
 
-  pub bring-honest-goes : (c i : ℕ) (room room' : List ℕ) (at end : ℕ) (a : Service) (memory' after : List ℕ) (result : EventEnd)
+  pub bring-honest-goes : (c i : ℕ) (room room' : List ℕ) (at end : ℕ) (a : Answer ℕ Refusal) (memory' after : List ℕ) (result : EventEnd)
       → honest i ≡ true
       → length_of (served a) ≤ 70250
       → FindsAt 2 c i h.parcels at end
@@ -616,7 +617,7 @@ module _ (s : Measures) (ok : passes s ≡ true) (honest : ℕ → Bool) (es : L
 
   -- ---- a message to a client
 
-  pub deliver-goes : (i c : ℕ) (room out room' out' : List ℕ) (at end : ℕ) (a : ClientAnswer) (memory' after : List ℕ) (result : EventEnd)
+  pub deliver-goes : (i c : ℕ) (room out room' out' : List ℕ) (at end : ℕ) (a : Answer ClientAnswer Refusal) (memory' after : List ℕ) (result : EventEnd)
       → Sized s (answered a)
       → FindsAt 3 c i h.parcels at end
       → answered a ≡ (client_message s c i (record_in s c memory) (body post at end) room out).answer
@@ -651,7 +652,7 @@ module _ (s : Measures) (ok : passes s ≡ true) (honest : ℕ → Bool) (es : L
 
   -- ---- dishonest bytes
 
-  pub lie-goes : (i c : ℕ) (bytes room out room' out' : List ℕ) (a : ClientAnswer) (memory' after : List ℕ) (result : EventEnd)
+  pub lie-goes : (i c : ℕ) (bytes room out room' out' : List ℕ) (a : Answer ClientAnswer Refusal) (memory' after : List ℕ) (result : EventEnd)
       → honest i ≡ false
       → c < s.m → Sized s (answered a)
       → answered a ≡ (client_message s c i (record_in s c memory) bytes room out).answer

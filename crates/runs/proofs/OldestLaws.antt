@@ -1,15 +1,22 @@
 -- Handing over the oldest parcel is the next event of a run.
-use mathlib.Core.Path.{◌≡◌, refl, subst}
+use mathlib.Core.Path.{◌≡◌, refl, sym, subst}
 use mathlib.Core.List.{List, [], ◌∷◌, ◌++◌, append-nil, append_assoc}
-use Prim.Native.Nat.{ℕ}
+use Prim.Native.Nat.{ℕ, ◌≤◌}
+use native.Mathlib.Omega.{arith}
+use lib.ListN.{length, get_or}
+use Rattle.std.specs.Prelude.{Result, Ok, Err}
+use Rattle.parties.specs.declared.Refusal.{Refusal}
 use Rattle.parties.specs.declared.Measures.{Measures}
-use Rattle.parties.specs.protocol.Run.{Event, deliver}
+use Rattle.parties.specs.protocol.Run.{Event, carry, hand, bring, deliver}
 use Rattle.parties.specs.protocol.Claim.{AllLent, Lent as Given}
 use Rattle.runs.specs.declared.answer.EventEnd.{EventEnd}
 use Rattle.runs.specs.UnderWay.{After}
 use Rattle.runs.specs.Acts.{Lent}
-use Rattle.runs.specs.Happens.{Happens}
-use Rattle.runs.specs.Oldest.{honest_all, Oldest}
+use Rattle.runs.specs.Happens.{PostRoomy, Happens}
+use Rattle.runs.proofs.FormLaws.{from_list, none-key}
+use Rattle.runs.specs.declared.parcels.Key.{Key}
+use Rattle.runs.specs.Parcels.{Heads, call_kind, return_kind, to_node_kind, to_client_kind}
+use Rattle.runs.specs.Oldest.{honest_all, client_in, node_in, without, Oldest, Fronts}
 
 -- a run goes on, with every node honest
 pub record Continues (s : Measures) (es : List Event) (memory post : List ℕ) (used : ℕ) : Type 0 where
@@ -55,3 +62,25 @@ module _ (s : Measures) where
   oldest_continues used x y result (Oldest.return t l k o p) g es h = happens_continues _ used _ _ result p g.0 es h
   oldest_continues used x y result (Oldest.to_node t l k o p) g es h = happens_continues _ used _ _ result p g.0 es h
   oldest_continues used x y result (Oldest.to_client t l k p) g es h = happens_continues _ used _ _ result p g es h
+
+-- ---- the parcel in front, by its kind
+
+pub front_by : (s : Measures) (post : List ℕ) (used : ℕ) → PostRoomy s (length post) used → 7 ≤ used → (r : Result Key Refusal) → Heads s post 0 r → Fronts s post used r
+front_by s post used o l (Ok key) h = (l, sym h.0, h.1, h.2)
+front_by s post used o l (Err r) h = (h.0, λ q p. none-key s o.measures used post (omega (arith, o.enough)) 0 l h.1 (from_list s used post q p))
+
+module _ (s : Measures) (used : ℕ) (x y : Lent) (result : EventEnd) (l : 7 ≤ used) where
+  module _ (o : y.out ≡ x.out) (c : ℕ) (e : c ≡ client_in x) where
+    pub call_first : get_or x.post 0 0 ≡ call_kind → Happens s honest_all (carry c x.room) used (without x) (without y) result → Oldest s used x y result
+    call_first k h = Oldest.call result l k o (rw (← e) h)
+
+    pub return_first : get_or x.post 0 0 ≡ return_kind → Happens s honest_all (hand c x.room) used (without x) (without y) result → Oldest s used x y result
+    return_first k h = Oldest.return result l k o (rw (← e) h)
+
+    pub to_node_first : (i : ℕ) → i ≡ node_in x → get_or x.post 0 0 ≡ to_node_kind → Happens s honest_all (bring c i x.room) used (without x) (without y) result
+        → Oldest s used x y result
+    to_node_first i f k h = Oldest.to_node result l k o (rw (← e, ← f) h)
+
+  pub to_client_first : (c i : ℕ) → c ≡ client_in x → i ≡ node_in x → get_or x.post 0 0 ≡ to_client_kind → Happens s honest_all (deliver i c x.room x.out) used x y result
+      → Oldest s used x y result
+  to_client_first c i e f k h = Oldest.to_client result l k (rw (← e, ← f) h)

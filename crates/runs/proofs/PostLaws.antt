@@ -5,7 +5,7 @@ use mathlib.Core.List.{List, [], ◌∷◌, ◌++◌, append_assoc, append-nil}
 use mathlib.Core.Option.{some}
 use Prim.Native.Nat.{ℕ, suc, ◌+◌, ◌-◌, ◌*◌, ◌/◌, ◌%◌, ◌<◌, ◌≤◌}
 use native.Mathlib.Omega.{arith}
-use borrow.Author.Tests.{ltb-true, leb-true, eqb-true, eq-eqb, ne_eqb}
+use borrow.Author.Tests.{ltb-true, leb-true, eqb-true}
 use lib.Dec.{eqb, leb, ltb}
 use lib.ListN.{length, get_or, take, drop, set, length-append, length-take, length-drop, length-set}
 use lib.Seq.{take-suc-set, take-add, take-length, drop-drop, drop_at, get_or-take, get_or-drop, length-take-le, paste, length-paste, take-paste}
@@ -159,12 +159,10 @@ appended_more p q post used mid at after r x y =
     }
 
 pub removed_all : (post : List ℕ) (used at end : ℕ) → at ≤ end → end ≤ used → used ≤ length post
-    → (after : List ℕ) → after ≡ paste post (end - (end - at)) (drop end post) (used - end)
+    → (after : List ℕ) → after ≡ paste post at (drop end post) (used - end)
     → Removed at end post used after (used - (end - at))
-removed_all post used at end a b h after e =
+removed_all post used at end a b h after f =
     let n : ℕ = used - end in
-    let x : end - (end - at) ≡ at = omega arith in
-    let f : after ≡ paste post at (drop end post) n = e ∙ ap (λ (m : ℕ). paste post m (drop end post) n) x in
     let k : n ≤ length (drop end post) = omega (arith, length-drop end post) in
     let l : length after ≡ length post = ap length f ∙ length-paste post at (drop end post) n (omega arith) k in
     let r : used - (end - at) ≡ at + n = omega arith in
@@ -197,21 +195,6 @@ bodies-append kind c i (x ∷ p) q = go (keyed kind c i x) (bodies-append kind c
         ≡ cond b (x.bytes ∷ bodies kind c i p) (bodies kind c i p) ++ bodies kind c i q
     go true e = ap (λ (l : List (List ℕ)). x.bytes ∷ l) e
     go false e = e
-
--- a parcel's three numbers, looked at one after the other
-module _ (t : List ℕ) (at kind c i : ℕ) where
-  abbrev keyed_at : Bool
-  keyed_at = eqb (get_or t at 0) kind && (eqb (get_or t (at + 1) 0) c && eqb (get_or t (at + 2) 0) i)
-
-  pub kind_differs : (get_or t at 0 ≡ kind → ⊥) → false ≡ keyed_at
-  kind_differs n = sym (simp (ne_eqb (get_or t at 0) kind n))
-
-  module _ (e : get_or t at 0 ≡ kind) where
-    pub client_differs : (get_or t (at + 1) 0 ≡ c → ⊥) → false ≡ keyed_at
-    client_differs n = sym (simp (eq-eqb (get_or t at 0) kind e, ne_eqb (get_or t (at + 1) 0) c n))
-
-    pub node_tells : get_or t (at + 1) 0 ≡ c → eqb (get_or t (at + 2) 0) i ≡ keyed_at
-    node_tells f = sym (simp (eq-eqb (get_or t at 0) kind e, eq-eqb (get_or t (at + 1) 0) c f))
 
 -- the bounds of a key's numbers
 pub key-client : (s : Measures) (kind c i : ℕ) → proper_key s kind c i ≡ true → c < s.m

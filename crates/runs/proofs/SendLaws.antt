@@ -1,7 +1,7 @@
 -- Laws of what a client's answer sends: its call, its message to a node, and the messages to all nodes.
 use mathlib.Core.Path.{◌≡◌, refl, sym, ap, ◌∙◌}
-use mathlib.Core.Bool.{Bool, true, false}
-use mathlib.Core.List.{List, [], ◌∷◌, ◌++◌, append-nil}
+use mathlib.Core.Bool.{Bool, true, false, cond}
+use mathlib.Core.List.{List, [], ◌∷◌, ◌++◌}
 use mathlib.Core.Logic.{◌≢◌}
 use mathlib.Core.Option.{Option, some, none}
 use Prim.Native.Nat.{ℕ, zero, suc, ◌+◌, ◌-◌, ◌*◌, ◌<◌, ◌≤◌, min}
@@ -11,6 +11,11 @@ use native.Mathlib.Decide.{dec_lt}
 use native.Mathlib.Omega.{arith}
 use lib.ListN.{length, take, drop, length-append, length-take, length-drop}
 use lib.Seq.{take_all}
+use Rattle.std.specs.Prelude.{Ok}
+use Rattle.std.specs.Prelude.{nat_lt, ◌==◌}
+use Rattle.std.specs.Ordering.{ord_min, nat_cmp, is_lt}
+use Rattle.std.specs.declared.cmp.Ordering.TheVariants.{Less, Equal, Greater}
+use Rattle.std.proofs.lemmas.Bool.{ltb-true, ltb-false}
 use Rattle.parties.specs.Sizes.{Sized}
 use Rattle.parties.specs.declared.Measures.{Measures}
 use Rattle.parties.specs.declared.Version.{Version}
@@ -32,6 +37,22 @@ pub as_sent : {p q : List Parcel} {post : List ℕ} {used : ℕ} {after : List �
 as_sent e x = rw e at x
 
 -- ---- parts of a room that may be too short
+
+-- the smaller of two numbers, as the library finds it
+pub smaller : (n m r : ℕ) → r ≡ ord_min nat_cmp n m → r ≡ min n m
+smaller n m r e = e ∙ go (nat_lt m n) refl
+  where
+    less : (b : Bool) → is_lt (cond b Less (cond (m == n) Equal Greater)) ≡ b
+    less true = refl
+    less false = other (m == n)
+      where
+        other : (b : Bool) → is_lt (cond b Equal Greater) ≡ false
+        other true = refl
+        other false = refl
+
+    go : (b : Bool) → nat_lt m n ≡ b → ord_min nat_cmp n m ≡ min n m
+    go true h = rw (less (nat_lt m n)) (rw h (let k : m < n = ltb-true m n h in omega arith))
+    go false h = rw (less (nat_lt m n)) (rw h (let k : n ≤ m = ltb-false m n h in omega arith))
 
 pub least_taken : (n m : ℕ) (l : List ℕ) → m ≡ min n (length l) → take m l ≡ take n l
 least_taken n m l e = go (dec_lt n (length l))
@@ -69,28 +90,19 @@ parts_fit s room front from m len ok h k l =
     omega (arith, length-take front room, length-take (from + m - from) (drop from room), piece-within s ok)
 
 -- what an answer says of its lengths
-pub sized-update : (s : Measures) (a : ClientAnswer) (len : ℕ) → Sized s (answered a) → a ≡ ClientAnswer.Update len → len ≤ row_size s
+pub sized-update : (s : Measures) (a : ClientAnswer) (len : ℕ) → Sized s (answered (Ok a)) → a ≡ ClientAnswer.Update len → len ≤ row_size s
 sized-update s a len z e = rw e at z
 
-pub sized-stores : (s : Measures) (a : ClientAnswer) (v : Version) (len : ℕ) → Sized s (answered a) → a ≡ ClientAnswer.Stores v len → len ≤ s.f
+pub sized-stores : (s : Measures) (a : ClientAnswer) (v : Version) (len : ℕ) → Sized s (answered (Ok a)) → a ≡ ClientAnswer.Stores v len → len ≤ s.f
 sized-stores s a v len z e = rw e at z
 
-pub sized-deposited : (s : Measures) (a : ClientAnswer) (v : Version) (len : ℕ) → Sized s (answered a) → a ≡ ClientAnswer.Deposited v len → len ≤ row_size s
+pub sized-deposited : (s : Measures) (a : ClientAnswer) (v : Version) (len : ℕ) → Sized s (answered (Ok a)) → a ≡ ClientAnswer.Deposited v len → len ≤ row_size s
 sized-deposited s a v len z e = rw e at z
 
 -- ---- a call
 
-module _ (c : ℕ) (a : ClientAnswer) (room : List ℕ) where
-  pub scan-sent : a ≡ ClientAnswer.Scan → call c (0 ∷ []) ∷ [] ≡ call_by c (answered a) room
-  scan-sent e = rw e refl
-
-  pub update-sent : (len to : ℕ) → a ≡ ClientAnswer.Update len → to ≡ min len (length room)
-      → call c ((1 ∷ []) ++ take to room) ∷ [] ≡ call_by c (answered a) room
-  update-sent len to e f = rw e (ap (λ (b : List ℕ). call c (1 ∷ b) ∷ []) (least_taken len to room f))
-
 -- the answers that are no call
-pub no_call : (c : ℕ) (a : ClientAnswer) (room : List ℕ) → a ≢ ClientAnswer.Scan → ((len : ℕ) → a ≢ ClientAnswer.Update len) → [] ≡ call_by c (answered a) room
-no_call c (ClientAnswer.Refused r) room k u = refl
+pub no_call : (c : ℕ) (a : ClientAnswer) (room : List ℕ) → a ≢ ClientAnswer.Scan → ((len : ℕ) → a ≢ ClientAnswer.Update len) → [] ≡ call_by c (answered (Ok a)) room
 no_call c ClientAnswer.Waits room k u = refl
 no_call c ClientAnswer.Scan room k u = absurd (k refl)
 no_call c (ClientAnswer.Update len) room k u = absurd (u len refl)
@@ -107,28 +119,18 @@ no_call c ClientAnswer.Failed room k u = refl
 module _ (s : Measures) (c i : ℕ) (a : ClientAnswer) (room : List ℕ) where
   pub stores-sent : (v : Version) (len front from m : ℕ) → a ≡ ClientAnswer.Stores v len → front ≡ min 6 (length room)
       → from ≡ min (6 + (i - 1) * s.f) (length room) → m ≡ min len (length room - from)
-      → to_node c i (take front room ++ take (from + m - from) (drop from room)) ∷ [] ≡ message_in c i (message_to s (answered a) room i)
+      → to_node c i (take front room ++ take (from + m - from) (drop from room)) ∷ [] ≡ message_in c i (message_to s (answered (Ok a)) room i)
   stores-sent v len front from m e f g h =
       rw e (λ j. to_node c i (least_taken 6 front room f j ++ least_part room (6 + (i - 1) * s.f) len from m g h j) ∷ [])
 
-  pub request-sent : (v : Version) (nodes front : ℕ) (b : Bool) → a ≡ ClientAnswer.Requests v nodes → front ≡ min 6 (length room)
-      → b ≡ stands nodes i → b ≡ true → to_node c i (take front room ++ []) ∷ [] ≡ message_in c i (message_to s (answered a) room i)
-  request-sent v nodes front b e f g t =
-      rw (e, ← g, t) (ap (λ (m : List ℕ). to_node c i m ∷ []) (append-nil (take front room) ∙ least_taken 6 front room f))
-
   pub no_request : (v : Version) (nodes : ℕ) (b : Bool) → a ≡ ClientAnswer.Requests v nodes → b ≡ stands nodes i → b ≡ false
-      → [] ≡ message_in c i (message_to s (answered a) room i)
+      → [] ≡ message_in c i (message_to s (answered (Ok a)) room i)
   no_request v nodes b e g t = rw (e, ← g, t) refl
-
-  pub free-sent : (v : Version) (len to : ℕ) → a ≡ ClientAnswer.Deposited v len → to ≡ min len (length room)
-      → to_node c i (take to room ++ []) ∷ [] ≡ message_in c i (message_to s (answered a) room i)
-  free-sent v len to e f = rw e (ap (λ (m : List ℕ). to_node c i m ∷ []) (append-nil (take to room) ∙ least_taken len to room f))
 
 -- the answers with no message
 pub no_message : (s : Measures) (c i : ℕ) (a : ClientAnswer) (room : List ℕ) → ((v : Version) (len : ℕ) → a ≢ ClientAnswer.Stores v len)
     → ((v : Version) (nodes : ℕ) → a ≢ ClientAnswer.Requests v nodes) → ((v : Version) (len : ℕ) → a ≢ ClientAnswer.Deposited v len)
-    → [] ≡ message_in c i (message_to s (answered a) room i)
-no_message s c i (ClientAnswer.Refused r) room k q d = refl
+    → [] ≡ message_in c i (message_to s (answered (Ok a)) room i)
 no_message s c i ClientAnswer.Waits room k q d = refl
 no_message s c i ClientAnswer.Scan room k q d = refl
 no_message s c i (ClientAnswer.Update len) room k q d = refl

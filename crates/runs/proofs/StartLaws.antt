@@ -8,7 +8,9 @@ use lib.ListN.{length}
 use Rattle.parties.specs.Sizes.{Sized}
 use Rattle.parties.specs.declared.Measures.{Measures}
 use Rattle.parties.specs.protocol.ClientEvents.{ClientEnd, start_deposit}
-use Rattle.parties.specs.declared.ClientAnswer.{ClientAnswer as Answer}
+use Rattle.std.specs.Prelude.{Result}
+use Rattle.parties.specs.declared.ClientAnswer.{ClientAnswer}
+use Rattle.parties.specs.declared.Refusal.{Refusal}
 use Rattle.parties.specs.client.Answer.{answered}
 use Rattle.parties.specs.protocol.Run.{deposit}
 use Rattle.parties.proofs.protocol.events.DepositStartLaws.{too_long_lem}
@@ -20,7 +22,7 @@ use Rattle.runs.specs.Happens.{Unready, Ready, Happens}
 use Rattle.runs.specs.Oldest.{alone}
 use Rattle.runs.proofs.GoesLaws.{deposit-goes}
 
-pub deposited-sized : (s : Measures) (a : Answer) (c : ℕ) (b page : List ℕ) → answered a ≡ (start_deposit s c b page).answer → Sized s (answered a)
+pub deposited-sized : (s : Measures) (a : Result ClientAnswer Refusal) (c : ℕ) (b page : List ℕ) → answered a ≡ (start_deposit s c b page).answer → Sized s (answered a)
 deposited-sized s a c b page e = subst (Sized s) (sym e) (deposit_bounded s c b page)
 
 module _ (s : Measures) (honest : ℕ → Bool) (c used : ℕ) (x y : Lent) (p q : List ℕ) (h : s.k * s.f - 4 < length p) (k : s.k * s.f - 4 < length q) where

@@ -1,12 +1,13 @@
 -- The oldest parcel of all, where every node is honest.
-use Rattle.std.specs.Prelude.{◌≡◌, Bool, [], ℕ, ◌≤◌, length, get_or}
+use Rattle.std.specs.Prelude.{◌≡◌, Bool, List, [], ℕ, ◌≤◌, length, get_or, Result, Ok, Err}
 use Rattle.parties.specs.declared.Measures.{Measures}
 use Rattle.parties.specs.protocol.Run.{carry, hand, bring, deliver}
 use Rattle.parties.specs.records.Answer.{number}
 use Rattle.parties.specs.declared.Refusal.{Refusal}
+use Rattle.runs.specs.declared.parcels.Key.{Key}
 use Rattle.runs.specs.declared.answer.Happened.{Happened}
 use Rattle.runs.specs.declared.answer.EventEnd.{EventEnd}
-use Rattle.runs.specs.Parcels.{call_kind, return_kind, to_node_kind, to_client_kind, Broken}
+use Rattle.runs.specs.Parcels.{kind_of, call_kind, return_kind, to_node_kind, to_client_kind, Broken}
 use Rattle.runs.specs.Acts.{Lent}
 use Rattle.runs.specs.Happens.{PostRoomy, Happens, honest_in}
 use Rattle.runs.specs.Event.{Cramped}
@@ -21,6 +22,11 @@ client_in x = get_or x.post 1 0
 
 abbrev pub node_in : Lent → ℕ
 node_in x = get_or x.post 2 0
+
+-- the key in front, or bytes that are no list of parcels
+abbrev pub Fronts : Measures → List ℕ → ℕ → Result Key Refusal → Type 0
+Fronts s post used (Ok key) = (7 ≤ used) × (get_or post 0 0 ≡ kind_of key.kind) × (key.client ≡ get_or post 1 0) × (key.node ≡ get_or post 2 0)
+Fronts s post used (Err r) = (r ≡ Refusal.Form) × Broken s used post
 
 -- where an event has no output, the one that is lent stays
 abbrev pub without : Lent → Lent

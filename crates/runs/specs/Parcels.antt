@@ -1,9 +1,12 @@
 -- Parcels under way: a call, the answer of one, or a message, with its client and its node.
-use Rattle.std.specs.Prelude.{◌≡◌, Bool, true, cond, ◌&&◌, List, [], ◌∷◌, ◌++◌, ℕ, ◌+◌, ◌-◌, ◌≤◌, eqb, leb, ltb, length, take, drop, get_or}
+use Rattle.std.specs.Prelude.{◌≡◌, Bool, true, false, cond, ◌&&◌, List, [], ◌∷◌, ◌++◌, ℕ, ◌+◌, ◌-◌, ◌≤◌, ◌<◌, eqb, leb, ltb, length, take, drop, get_or, Option, Some, None, Result, Ok, Err}
+use Rattle.std.specs.declared.ops.Range.{Range}
 use Rattle.std.proofs.Math.Option.{some}
 use Rattle.parties.specs.declared.Measures.{Measures}
 use Rattle.parties.specs.protocol.Format.{read_number, write_number, write_many}
-use Rattle.runs.specs.declared.parcels.Found.{Found}
+use Rattle.parties.specs.declared.Refusal.{Refusal}
+use Rattle.runs.specs.declared.parcels.Kind.{Kind}
+use Rattle.runs.specs.declared.parcels.Key.{Key}
 
 -- kinds: a directory call, its answer, a message to a node, a message to a client
 abbrev pub call_kind : ℕ
@@ -17,6 +20,18 @@ to_node_kind = 2
 
 abbrev pub to_client_kind : ℕ
 to_client_kind = 3
+
+-- the byte of a kind
+abbrev pub kind_of : Kind → ℕ
+kind_of Kind.Call = call_kind
+kind_of Kind.Return = return_kind
+kind_of Kind.ToNode = to_node_kind
+kind_of Kind.ToClient = to_client_kind
+
+-- a kind is read from its byte; every other byte breaks the form
+abbrev pub ReadsKind : ℕ → Result Kind Refusal → Type 0
+ReadsKind b (Ok kind) = kind_of kind ≡ b
+ReadsKind b (Err r) = (r ≡ Refusal.Form) × (to_client_kind < b)
 
 -- calls and their answers have this for a node
 abbrev pub no_node : ℕ
@@ -95,10 +110,11 @@ pub record NoneStands (s : Measures) (kind c i used : ℕ) (post : List ℕ) : T
   pub list : IsList s used post
   pub none : (q : List Parcel) → Listed s q used post → bodies kind c i q ≡ []
 
-abbrev pub Looks : Measures → ℕ → ℕ → ℕ → ℕ → List ℕ → Found → Type 0
-Looks s kind c i used post (Found.At at end) = Stands s kind c i used post at end
-Looks s kind c i used post Found.Nothing = NoneStands s kind c i used post
-Looks s kind c i used post Found.Broken = Broken s used post
+-- a list that breaks its form is refused for that
+abbrev pub Looks : Measures → ℕ → ℕ → ℕ → ℕ → List ℕ → Result (Option (Range ℕ)) Refusal → Type 0
+Looks s kind c i used post (Ok (Some place)) = Stands s kind c i used post place.start place.end
+Looks s kind c i used post (Ok None) = NoneStands s kind c i used post
+Looks s kind c i used post (Err r) = (r ≡ Refusal.Form) × Broken s used post
 
 -- from a place on, the used part is a list
 pub record ListFrom (s : Measures) (used : ℕ) (post : List ℕ) (at : ℕ) : Type 0 where
@@ -113,6 +129,23 @@ pub record HeadingAt (s : Measures) (used : ℕ) (post : List ℕ) (at end : ℕ
   pub read : read_number 4 (drop (at + 3) post) ≡ some (record { value = len; rest = drop (at + 3 + 4) post })
   pub last : end ≡ at + 7 + len
   pub within : end ≤ used
+
+-- the key that stands at a place, if a parcel may have it
+abbrev pub Heads : Measures → List ℕ → ℕ → Result Key Refusal → Type 0
+Heads s post at (Ok key) =
+    (kind_of key.kind ≡ get_or post at 0) × (key.client ≡ get_or post (at + 1) 0) × (key.node ≡ get_or post (at + 2) 0)
+    × (proper_key s (get_or post at 0) (get_or post (at + 1) 0) (get_or post (at + 2) 0) ≡ true)
+Heads s post at (Err r) = (r ≡ Refusal.Form) × (proper_key s (get_or post at 0) (get_or post (at + 1) 0) (get_or post (at + 2) 0) ≡ false)
+
+-- where the parcel at a place ends, if one stands there
+abbrev pub Follows : Measures → ℕ → List ℕ → ℕ → Result ℕ Refusal → Type 0
+Follows s used post at (Ok end) = HeadingAt s used post at end
+Follows s used post at (Err r) = (r ≡ Refusal.Form) × (ListFrom s used post at → ⊥)
+
+-- whether the used part is a list from a place on
+abbrev pub Sounds : {A : Type 0} → Measures → ℕ → List ℕ → ℕ → Result A Refusal → Type 0
+Sounds s used post at (Ok x) = ListFrom s used post at
+Sounds s used post at (Err r) = (r ≡ Refusal.Form) × (ListFrom s used post at → ⊥)
 
 -- parcels stand after those before; what is beyond them is free
 pub record Appended (q : List Parcel) (post : List ℕ) (used : ℕ) (after : List ℕ) (r : ℕ) : Type 0 where

@@ -1,5 +1,5 @@
 // What an event of a run answers.
-use parties::{ClientAnswer, Refusal, Service};
+use parties::{ClientAnswer, Refusal};
 
 #[derive(Clone, Copy)]
 pub enum Happened {
@@ -9,8 +9,8 @@ pub enum Happened {
     Nothing,
     // The message went to a dishonest node.
     Taken,
-    ByClient(ClientAnswer),
-    ByServer(Service),
+    ByClient(Result<ClientAnswer, Refusal>),
+    ByServer(Result<usize, Refusal>),
 }
 
 #[derive(Clone, Copy)]

@@ -3,54 +3,30 @@ ghost use Rattle.std.specs.Prelude.{◌≡◌, Bool, true, false, ◌&&◌, [], 
 ghost use Rattle.parties.specs.protocol.Measures.{passes};
 ghost use Rattle.parties.specs.Sizes.{sized, Sized};
 ghost use Rattle.parties.specs.protocol.ClientEvents.{room_size};
-ghost use Rattle.parties.specs.protocol.Run.{is_refused, length_of};
+ghost use Rattle.parties.specs.protocol.Run.{length_of};
 ghost use Rattle.parties.specs.records.Answer.{number};
 ghost use Rattle.parties.specs.Answer.{served};
 ghost use Rattle.parties.specs.protocol.Run.{deposit as depositEvent, reading as readingEvent, carry as carryEvent, hand as handEvent, bring as bringEvent, deliver as deliverEvent, lie as lieEvent};
 ghost use Rattle.parties.specs.client.Answer.{answered};
-ghost use Rattle.runs.specs.Parcels.{call_kind, return_kind, to_node_kind, to_client_kind, no_node, Stands};
+ghost use Rattle.runs.specs.Parcels.{kind_of, call_kind, return_kind, to_node_kind, to_client_kind, no_node, Stands};
 ghost use Rattle.runs.specs.Sent.{needed as neededFor};
 ghost use Rattle.runs.specs.Acts.{body, tagged as taggedWith, Sends, Takes, Serves};
-ghost use Rattle.runs.specs.Event.{Readies, Aheads, Clears, lowest_of, Carried};
+ghost use Rattle.runs.specs.Event.{Readies, Waits, Aheads, Clears, lowest_of, Carried};
 ghost use Rattle.runs.specs.Happens.{PostRoomy, Happens, honest_in};
 
 use crate::answer::{EventEnd, Happened};
-use crate::least::least;
-use crate::parcels::{
-    CALL, FILLED, Found, NO_NODE, PLAIN, RETURN, TO_CLIENT, TO_NODE, append, find, proper, remove,
-    sound,
-};
+use crate::parcels::{FILLED, HEADING, Key, Kind, NO_NODE, PLAIN, append, find, remove, sound};
 use crate::send::send;
+use parties::protocol::measures::Passed;
 use parties::records::nodes::has_node;
-use parties::{ClientAnswer, Measures, Refusal, Service, sizes};
+use parties::{ClientAnswer, Measures, Refusal, sizes};
+use std::cmp::min;
+use std::ops::Range;
+use title::table_part;
 use title::title::{
     deposit as start_deposit, read as start_reading, scan, scanned, to_client, to_node, update,
     updated,
 };
-use title::{Part, table_part};
-
-#[derive(Clone, Copy)]
-pub enum Readiness {
-    Yes,
-    No(Refusal),
-}
-
-// What an event that hands over a parcel finds.
-#[derive(Clone, Copy)]
-pub enum Ahead {
-    // It ends here: refused, or nothing is under way.
-    Ends(EventEnd),
-    // The parcel from the first place to the second.
-    Found(usize, usize),
-}
-
-// What an event that goes to a client at once finds.
-#[derive(Clone, Copy)]
-pub enum Clear {
-    Yes,
-    // It ends here, refused.
-    Ends(EventEnd),
-}
 
 // Bytes that the parcels of one event take at most; 0 where the measures do not pass.
 pub fn needed(s: Measures) -> usize
@@ -65,61 +41,64 @@ pub fn needed(s: Measures) -> usize
 }
 
 // Measures, then the slice of parcels.
-pub(crate) fn ready(s: Measures, post: usize, used: usize) -> Readiness
+pub(crate) fn ready(s: Measures, post: usize, used: usize) -> Result<(), Refusal>
     ensures { Readies s post used result }
 {
     if !s.pass() {
-        return Readiness::No(Refusal::Measures);
+        return Err(Refusal::Measures);
     }
     if post < used {
-        return Readiness::No(Refusal::Short);
+        return Err(Refusal::Short);
     }
-    let more = needed(s);
-    if post - used < more {
-        return Readiness::No(Refusal::Short);
+    if post - used < needed(s) {
+        return Err(Refusal::Short);
     }
-    Readiness::Yes
+    Ok(())
 }
 
-// Then numbers, the list, and what is under way.
-fn look_ahead(s: Measures, kind: u8, c: usize, i: usize, post: &[u8], used: usize) -> Ahead
-    ensures { Aheads s kind c i post.now used result }
+// Then numbers, the list, and the parcel that is under way, if one is.
+fn waiting(s: Measures, key: Key, post: &[u8], used: usize) -> Result<Option<Range<usize>>, Refusal>
+    ensures { Waits s (kind_of key.kind) key.client key.node post.now used result }
 {
-    let what = match ready(s, post.len(), used) {
-        Readiness::No(x) => Happened::Refused(x),
-        Readiness::Yes => {
-            if proper(s, kind, c, i) {
-                match find(s, post, used, kind, c, i) {
-                    Found::Broken => Happened::Refused(Refusal::Form),
-                    Found::Nothing => Happened::Nothing,
-                    Found::At(at, end) => return Ahead::Found(at, end),
-                }
-            } else {
-                Happened::Refused(Refusal::Number)
-            }
-        }
+    ready(s, post.len(), used)?;
+    if !key.proper(s) {
+        return Err(Refusal::Number);
+    }
+    let s = Passed { measures: s };
+    find(s, post, used, key)
+}
+
+// Where the parcel stands that an event hands over; an `Err` where it ends here, refused or with nothing under way.
+fn look_ahead(s: Measures, key: Key, post: &[u8], used: usize) -> Result<Range<usize>, EventEnd>
+    ensures { Aheads s (kind_of key.kind) key.client key.node post.now used result }
+{
+    let what = match waiting(s, key, post, used) {
+        Ok(Some(place)) => return Ok(place),
+        Ok(None) => Happened::Nothing,
+        Err(x) => Happened::Refused(x),
     };
-    Ahead::Ends(EventEnd { used, what })
+    Err(EventEnd { used, what })
 }
 
 // The lowest that applies: a client's 2, its 3, or the list's 4.
-fn lowest(s: Measures, c: usize, i: usize, memory: usize, enough: bool) -> Refusal
-    requires { passes s ≡ true }
-    ensures { number result ≡ lowest_of s c i memory enough }
+fn lowest(s: Passed, c: usize, i: usize, memory: usize, enough: bool) -> Refusal
+    ensures { number result ≡ lowest_of s.measures c i memory enough }
 {
-    let part = table_part(s, 1, memory);
-    match part {
-        Part::Refused(x) => x,
-        Part::Within(_, _) => {
-            if !enough {
-                return Refusal::Short;
-            }
-            if !proper(s, TO_CLIENT, c, i) {
-                return Refusal::Number;
-            }
-            Refusal::Form
-        }
+    if let Err(x) = table_part(s.measures, 1, memory) {
+        return x;
     }
+    if !enough {
+        return Refusal::Short;
+    }
+    let key = Key {
+        kind: Kind::ToClient,
+        client: c,
+        node: i,
+    };
+    if !key.proper(s.measures) {
+        return Refusal::Number;
+    }
+    Refusal::Form
 }
 
 // Where a client is asked at once, its own 2 comes before its number and the list; enough says whether its slices beside memory suffice.
@@ -131,22 +110,19 @@ fn clearance(
     enough: bool,
     post: &[u8],
     used: usize,
-) -> Clear
+) -> Result<(), Refusal>
     ensures { Clears s c i memory enough post.now used result }
 {
-    let x = match ready(s, post.len(), used) {
-        Readiness::No(x) => x,
-        Readiness::Yes => {
-            if proper(s, TO_CLIENT, c, i) {
-                if sound(s, post, used, 0) {
-                    return Clear::Yes;
-                }
-            }
-            lowest(s, c, i, memory, enough)
-        }
+    ready(s, post.len(), used)?;
+    let key = Key {
+        kind: Kind::ToClient,
+        client: c,
+        node: i,
     };
-    let what = Happened::Refused(x);
-    Clear::Ends(EventEnd { used, what })
+    if key.proper(s) && sound(Passed { measures: s }, post, used, 0).is_ok() {
+        return Ok(());
+    }
+    Err(lowest(Passed { measures: s }, c, i, memory, enough))
 }
 
 // The room and the output that a message to a client wants; false where the measures do not pass.
@@ -162,20 +138,11 @@ fn message_slices(s: Measures, room: usize, out: usize) -> bool
     s.k * s.f - 4 <= out
 }
 
-fn refused(a: ClientAnswer) -> bool
-    ensures { result ≡ is_refused (answered a) }
-{
-    match a {
-        ClientAnswer::Refused(_) => true,
-        _ => false,
-    }
-}
-
 // A client's answer to a start or to dishonest bytes.
 fn starts(
     s: Measures,
     c: usize,
-    a: ClientAnswer,
+    a: Result<ClientAnswer, Refusal>,
     room: &[u8],
     post: &mut [u8],
     used: usize,
@@ -184,74 +151,71 @@ fn starts(
     ensures { (length post.new ≡ length post.old) × Sends s c a room.now post.old used post.new result }
 {
     let what = Happened::ByClient(a);
-    if refused(a) {
+    let Ok(answer) = a else {
         return EventEnd { used, what };
-    }
-    let to = send(s, c, a, room, post, used);
+    };
+    let s = Passed { measures: s };
+    let to = send(s, c, answer, room, post, used);
     EventEnd { used: to, what }
 }
 
-// A client's answer to the parcel between two places.
+// A client's answer to the parcel at a place.
 fn takes(
     s: Measures,
     c: usize,
-    a: ClientAnswer,
+    a: Result<ClientAnswer, Refusal>,
     room: &[u8],
     post: &mut [u8],
     used: usize,
-    at: usize,
-    end: usize,
+    place: Range<usize>,
 ) -> EventEnd
-    requires { PostRoomy s (length post.old) used × Sized s (answered a) × (at + 7 ≤ end) × (end ≤ used) }
-    ensures { (length post.new ≡ length post.old) × Takes s c a room.now post.old used at end post.new result }
+    requires { PostRoomy s (length post.old) used × Sized s (answered a) × (place.start + 7 ≤ place.end) × (place.end ≤ used) }
+    ensures { (length post.new ≡ length post.old) × Takes s c a room.now post.old used place.start place.end post.new result }
 {
     let what = Happened::ByClient(a);
-    if refused(a) {
+    let Ok(answer) = a else {
         return EventEnd { used, what };
-    }
-    let left = remove(post, used, at, end);
-    let to = send(s, c, a, room, post, left);
+    };
+    let left = remove(post, used, place);
+    let s = Passed { measures: s };
+    let to = send(s, c, answer, room, post, left);
     EventEnd { used: to, what }
 }
 
 // The directory's or a node's answer to it: the front, then so many bytes of the room. The measures are for the contract alone.
 fn serves(
     s: Measures,
-    kind: u8,
-    c: usize,
-    i: usize,
-    a: Service,
+    key: Key,
+    a: Result<usize, Refusal>,
     front: &[u8],
     room: &[u8],
     post: &mut [u8],
     used: usize,
-    at: usize,
-    end: usize,
+    place: Range<usize>,
 ) -> EventEnd
-    requires { PostRoomy s (length post.old) used × (8 + min (length_of (served a)) (length room.now) ≤ neededFor s) × (length front.now ≤ 1) × (at + 7 ≤ end) × (end ≤ used) }
-    ensures { (length post.new ≡ length post.old) × Serves kind c i front.now room.now post.old used at end post.new a result }
+    requires { PostRoomy s (length post.old) used × (8 + min (length_of (served a)) (length room.now) ≤ neededFor s) × (length front.now ≤ 1) × (place.start + 7 ≤ place.end) × (place.end ≤ used) }
+    ensures { (length post.new ≡ length post.old) × Serves (kind_of key.kind) key.client key.node front.now room.now post.old used place.start place.end post.new a result }
 {
     let what = Happened::ByServer(a);
-    match a {
-        Service::Refused(_) => EventEnd { used, what },
-        Service::Served(len) => {
-            let left = remove(post, used, at, end);
-            let part = least(len, room.len());
-            let to = append(post, left, kind, c, i, front, &room[..part]);
-            EventEnd { used: to, what }
-        }
-    }
+    let Ok(len) = a else {
+        return EventEnd { used, what };
+    };
+    let left = remove(post, used, place);
+    let part = min(len, room.len());
+    let to = append(post, left, key, front, &room[..part]);
+    EventEnd { used: to, what }
 }
 
 // Whether a call has fields, or an answer rows.
-fn tagged(post: &[u8], at: usize, end: usize) -> bool
-    requires { (at + 7 ≤ end) × (end ≤ length post.now) }
-    ensures { result ≡ taggedWith (body post.now at end) }
+fn tagged(post: &[u8], place: &Range<usize>) -> bool
+    requires { (place.now.start + 7 ≤ place.now.end) × (place.now.end ≤ length post.now) }
+    ensures { result ≡ taggedWith (body post.now place.now.start place.now.end) }
 {
-    if end <= at + 7 {
+    let first = place.start + HEADING;
+    if place.end <= first {
         return false;
     }
-    post[at + 7] != PLAIN
+    post[first] != PLAIN
 }
 
 // An update's call.
@@ -262,30 +226,22 @@ fn carry_update(
     room: &mut [u8],
     post: &mut [u8],
     used: usize,
-    at: usize,
-    end: usize,
+    place: Range<usize>,
 ) -> EventEnd
-    requires { PostRoomy s (length post.old) used × Stands s call_kind c no_node used post.old at end × (taggedWith (body post.old at end) ≡ true) }
+    requires { PostRoomy s (length post.old) used × Stands s call_kind c no_node used post.old place.start place.end × (taggedWith (body post.old place.start place.end) ≡ true) }
     ensures { (length post.new ≡ length post.old)
         × ((honest : ℕ → Bool) → Carried s honest (carryEvent c room.old) used
         (record { memory = memory.old; post = post.old; room = room.old; out = [] })
         (record { memory = memory.new; post = post.new; room = room.new; out = [] }) result) }
 {
-    let from = at + 8;
-    let a = update(s, c, memory, &post[from..end]);
-    serves(
-        s,
-        RETURN,
-        c,
-        NO_NODE,
-        a,
-        &[PLAIN],
-        &room[..0],
-        post,
-        used,
-        at,
-        end,
-    )
+    let from = place.start + (HEADING + 1);
+    let a = update(s, c, memory, &post[from..place.end]);
+    let key = Key {
+        kind: Kind::Return,
+        client: c,
+        node: NO_NODE,
+    };
+    serves(s, key, a, &[PLAIN], &[], post, used, place)
 }
 
 // A scan's call.
@@ -296,29 +252,21 @@ fn carry_scan(
     room: &mut [u8],
     post: &mut [u8],
     used: usize,
-    at: usize,
-    end: usize,
+    place: Range<usize>,
 ) -> EventEnd
-    requires { PostRoomy s (length post.old) used × Stands s call_kind c no_node used post.old at end × (taggedWith (body post.old at end) ≡ false) }
+    requires { PostRoomy s (length post.old) used × Stands s call_kind c no_node used post.old place.start place.end × (taggedWith (body post.old place.start place.end) ≡ false) }
     ensures { (length post.new ≡ length post.old)
         × ((honest : ℕ → Bool) → Carried s honest (carryEvent c room.old) used
         (record { memory = memory.old; post = post.old; room = room.old; out = [] })
         (record { memory = memory.new; post = post.new; room = room.new; out = [] }) result) }
 {
     let a = scan(s, memory, room);
-    serves(
-        s,
-        RETURN,
-        c,
-        NO_NODE,
-        a,
-        &[FILLED],
-        room,
-        post,
-        used,
-        at,
-        end,
-    )
+    let key = Key {
+        kind: Kind::Return,
+        client: c,
+        node: NO_NODE,
+    };
+    serves(s, key, a, &[FILLED], room, post, used, place)
 }
 
 // An update's answer.
@@ -329,17 +277,16 @@ fn hand_updated(
     room: &mut [u8],
     post: &mut [u8],
     used: usize,
-    at: usize,
-    end: usize,
+    place: Range<usize>,
 ) -> EventEnd
-    requires { PostRoomy s (length post.old) used × Stands s return_kind c no_node used post.old at end × (taggedWith (body post.old at end) ≡ false) }
+    requires { PostRoomy s (length post.old) used × Stands s return_kind c no_node used post.old place.start place.end × (taggedWith (body post.old place.start place.end) ≡ false) }
     ensures { (length post.new ≡ length post.old)
         × ((honest : ℕ → Bool) → Carried s honest (handEvent c room.old) used
         (record { memory = memory.old; post = post.old; room = room.old; out = [] })
         (record { memory = memory.new; post = post.new; room = room.new; out = [] }) result) }
 {
     let a = updated(s, c, memory, room);
-    takes(s, c, a, room, post, used, at, end)
+    takes(s, c, a, room, post, used, place)
 }
 
 // A scan's answer.
@@ -350,18 +297,17 @@ fn hand_rows(
     room: &mut [u8],
     post: &mut [u8],
     used: usize,
-    at: usize,
-    end: usize,
+    place: Range<usize>,
 ) -> EventEnd
-    requires { PostRoomy s (length post.old) used × Stands s return_kind c no_node used post.old at end × (taggedWith (body post.old at end) ≡ true) }
+    requires { PostRoomy s (length post.old) used × Stands s return_kind c no_node used post.old place.start place.end × (taggedWith (body post.old place.start place.end) ≡ true) }
     ensures { (length post.new ≡ length post.old)
         × ((honest : ℕ → Bool) → Carried s honest (handEvent c room.old) used
         (record { memory = memory.old; post = post.old; room = room.old; out = [] })
         (record { memory = memory.new; post = post.new; room = room.new; out = [] }) result) }
 {
-    let from = at + 8;
-    let a = scanned(s, c, memory, &post[from..end], room);
-    takes(s, c, a, room, post, used, at, end)
+    let from = place.start + (HEADING + 1);
+    let a = scanned(s, c, memory, &post[from..place.end], room);
+    takes(s, c, a, room, post, used, place)
 }
 
 // A message to an honest node.
@@ -373,44 +319,22 @@ fn bring_honest(
     room: &mut [u8],
     post: &mut [u8],
     used: usize,
-    at: usize,
-    end: usize,
+    place: Range<usize>,
 ) -> EventEnd
-    requires { PostRoomy s (length post.old) used × Stands s to_node_kind c i used post.old at end }
+    requires { PostRoomy s (length post.old) used × Stands s to_node_kind c i used post.old place.start place.end }
     ensures { (length post.new ≡ length post.old)
         × ((honest : ℕ → Bool) → honest i ≡ true → Carried s honest (bringEvent c i room.old) used
         (record { memory = memory.old; post = post.old; room = room.old; out = [] })
         (record { memory = memory.new; post = post.new; room = room.new; out = [] }) result) }
 {
-    let from = at + 7;
-    let a = to_node(s, i, memory, &post[from..end], room);
-    let none: &[u8] = &[0u8];
-    serves(s, TO_CLIENT, c, i, a, &none[..0], room, post, used, at, end)
-}
-
-// A message to a dishonest node is gone; all but the slice of parcels is for the contract alone.
-fn bring_dishonest(
-    s: Measures,
-    c: usize,
-    i: usize,
-    memory: &mut [u8],
-    room: &mut [u8],
-    post: &mut [u8],
-    used: usize,
-    at: usize,
-    end: usize,
-) -> EventEnd
-    requires { PostRoomy s (length post.old) used × Stands s to_node_kind c i used post.old at end }
-    ensures { (length post.new ≡ length post.old)
-        × ((honest : ℕ → Bool) → honest i ≡ false → Carried s honest (bringEvent c i room.old) used
-        (record { memory = memory.old; post = post.old; room = room.old; out = [] })
-        (record { memory = memory.new; post = post.new; room = room.new; out = [] }) result) }
-{
-    let left = remove(post, used, at, end);
-    EventEnd {
-        used: left,
-        what: Happened::Taken,
-    }
+    let from = place.start + HEADING;
+    let a = to_node(s, i, memory, &post[from..place.end], room);
+    let key = Key {
+        kind: Kind::ToClient,
+        client: c,
+        node: i,
+    };
+    serves(s, key, a, &[], room, post, used, place)
 }
 
 // A message to a client.
@@ -423,18 +347,17 @@ fn deliver_message(
     out: &mut [u8],
     post: &mut [u8],
     used: usize,
-    at: usize,
-    end: usize,
+    place: Range<usize>,
 ) -> EventEnd
-    requires { PostRoomy s (length post.old) used × Stands s to_client_kind c i used post.old at end }
+    requires { PostRoomy s (length post.old) used × Stands s to_client_kind c i used post.old place.start place.end }
     ensures { (length post.new ≡ length post.old)
         × ((honest : ℕ → Bool) → Carried s honest (deliverEvent i c room.old out.old) used
         (record { memory = memory.old; post = post.old; room = room.old; out = out.old })
         (record { memory = memory.new; post = post.new; room = room.new; out = out.new }) result) }
 {
-    let from = at + 7;
-    let a = to_client(s, c, i, memory, &post[from..end], room, out);
-    takes(s, c, a, room, post, used, at, end)
+    let from = place.start + HEADING;
+    let a = to_client(s, c, i, memory, &post[from..place.end], room, out);
+    takes(s, c, a, room, post, used, place)
 }
 
 // A deposit starts at client c.
@@ -451,11 +374,13 @@ pub fn deposit(
         (record { memory = memory.new; post = post.new; room = []; out = [] }) result }
 {
     match clearance(s, c, 1, memory.len(), true, post, used) {
-        Clear::Ends(e) => e,
-        Clear::Yes => {
+        Err(x) => EventEnd {
+            used,
+            what: Happened::Refused(x),
+        },
+        Ok(()) => {
             let a = start_deposit(s, c, memory, page);
-            let none: &[u8] = &[0u8];
-            starts(s, c, a, &none[..0], post, used)
+            starts(s, c, a, &[], post, used)
         }
     }
 }
@@ -475,8 +400,11 @@ pub fn reading(
 {
     let enough = sizes::room(s) <= room.len();
     match clearance(s, c, 1, memory.len(), enough, post, used) {
-        Clear::Ends(e) => e,
-        Clear::Yes => {
+        Err(x) => EventEnd {
+            used,
+            what: Happened::Refused(x),
+        },
+        Ok(()) => {
             let a = start_reading(s, c, memory, room);
             starts(s, c, a, room, post, used)
         }
@@ -496,13 +424,18 @@ pub fn carry(
         (record { memory = memory.old; post = post.old; room = room.old; out = [] })
         (record { memory = memory.new; post = post.new; room = room.new; out = [] }) result }
 {
-    match look_ahead(s, CALL, c, NO_NODE, post, used) {
-        Ahead::Ends(e) => e,
-        Ahead::Found(at, end) => {
-            if tagged(post, at, end) {
-                carry_update(s, c, memory, room, post, used, at, end)
+    let key = Key {
+        kind: Kind::Call,
+        client: c,
+        node: NO_NODE,
+    };
+    match look_ahead(s, key, post, used) {
+        Err(e) => e,
+        Ok(place) => {
+            if tagged(post, &place) {
+                carry_update(s, c, memory, room, post, used, place)
             } else {
-                carry_scan(s, c, memory, room, post, used, at, end)
+                carry_scan(s, c, memory, room, post, used, place)
             }
         }
     }
@@ -521,13 +454,18 @@ pub fn hand(
         (record { memory = memory.old; post = post.old; room = room.old; out = [] })
         (record { memory = memory.new; post = post.new; room = room.new; out = [] }) result }
 {
-    match look_ahead(s, RETURN, c, NO_NODE, post, used) {
-        Ahead::Ends(e) => e,
-        Ahead::Found(at, end) => {
-            if tagged(post, at, end) {
-                hand_rows(s, c, memory, room, post, used, at, end)
+    let key = Key {
+        kind: Kind::Return,
+        client: c,
+        node: NO_NODE,
+    };
+    match look_ahead(s, key, post, used) {
+        Err(e) => e,
+        Ok(place) => {
+            if tagged(post, &place) {
+                hand_rows(s, c, memory, room, post, used, place)
             } else {
-                hand_updated(s, c, memory, room, post, used, at, end)
+                hand_updated(s, c, memory, room, post, used, place)
             }
         }
     }
@@ -548,13 +486,22 @@ pub fn bring(
         (record { memory = memory.old; post = post.old; room = room.old; out = [] })
         (record { memory = memory.new; post = post.new; room = room.new; out = [] }) result }
 {
-    match look_ahead(s, TO_NODE, c, i, post, used) {
-        Ahead::Ends(e) => e,
-        Ahead::Found(at, end) => {
-            if has_node(liars, i) {
-                bring_dishonest(s, c, i, memory, room, post, used, at, end)
-            } else {
-                bring_honest(s, c, i, memory, room, post, used, at, end)
+    let key = Key {
+        kind: Kind::ToNode,
+        client: c,
+        node: i,
+    };
+    match look_ahead(s, key, post, used) {
+        Err(e) => e,
+        Ok(place) => {
+            if !has_node(liars, i) {
+                return bring_honest(s, c, i, memory, room, post, used, place);
+            }
+            // A message to a dishonest node is gone.
+            let left = remove(post, used, place);
+            EventEnd {
+                used: left,
+                what: Happened::Taken,
             }
         }
     }
@@ -575,11 +522,14 @@ pub fn deliver(
         (record { memory = memory.old; post = post.old; room = room.old; out = out.old })
         (record { memory = memory.new; post = post.new; room = room.new; out = out.new }) result }
 {
-    match look_ahead(s, TO_CLIENT, c, i, post, used) {
-        Ahead::Ends(e) => e,
-        Ahead::Found(at, end) => {
-            deliver_message(s, c, i, memory, room, out, post, used, at, end)
-        }
+    let key = Key {
+        kind: Kind::ToClient,
+        client: c,
+        node: i,
+    };
+    match look_ahead(s, key, post, used) {
+        Err(e) => e,
+        Ok(place) => { deliver_message(s, c, i, memory, room, out, post, used, place) }
     }
 }
 
@@ -601,8 +551,11 @@ fn lie_dishonest(
 {
     let enough = message_slices(s, room.len(), out.len());
     match clearance(s, c, i, memory.len(), enough, post, used) {
-        Clear::Ends(e) => e,
-        Clear::Yes => {
+        Err(x) => EventEnd {
+            used,
+            what: Happened::Refused(x),
+        },
+        Ok(()) => {
             let a = to_client(s, c, i, memory, bytes, room, out);
             starts(s, c, a, room, post, used)
         }
@@ -629,9 +582,14 @@ pub fn lie(
     if has_node(liars, i) {
         return lie_dishonest(s, c, i, bytes, memory, room, out, post, used);
     }
-    match look_ahead(s, TO_CLIENT, c, i, post, used) {
-        Ahead::Ends(e) => e,
-        Ahead::Found(_, _) => EventEnd {
+    let key = Key {
+        kind: Kind::ToClient,
+        client: c,
+        node: i,
+    };
+    match look_ahead(s, key, post, used) {
+        Err(e) => e,
+        Ok(_) => EventEnd {
             used,
             what: Happened::Nothing,
         },

@@ -2,19 +2,52 @@
 ghost use Rattle.std.specs.Prelude.{◌≡◌, List, [], ◌∷◌, ◌++◌, ◌+◌, ◌-◌, ◌<◌, ◌≤◌, eqb, true, false, ◌&&◌, length, take, get_or};
 ghost use Rattle.parties.specs.protocol.Measures.{passes};
 ghost use Rattle.parties.specs.protocol.Format.{write_number};
-ghost use Rattle.runs.specs.Parcels.{Parcel, proper_key, Looks, ListFrom, HeadingAt, Appended, Removed};
+ghost use Rattle.runs.specs.Parcels.{Parcel, kind_of, ReadsKind, proper_key, Heads, Looks, Follows, Sounds, Appended, Removed};
 
-use crate::bytes::{copy, move_down, put_u32, u32_at};
-use parties::Measures;
+use parties::protocol::measures::Passed;
+use parties::records::bytes::{copy, put_u32, u32_at};
+use parties::{Measures, Refusal};
+use std::ops::Range;
 
-// The kinds of parcels.
-pub const CALL: u8 = 0;
+// What a parcel is, and which way it goes.
+#[derive(Clone, Copy, PartialEq, Eq)]
+pub enum Kind {
+    // A directory call.
+    Call,
+    // The answer of one.
+    Return,
+    ToNode,
+    ToClient,
+}
 
-pub const RETURN: u8 = 1;
+impl From<Kind> for u8 {
+    ghost from_gives = { λ kind b. b ≡ kind_of kind };
 
-pub const TO_NODE: u8 = 2;
+    fn from(kind: Kind) -> u8 {
+        match kind {
+            Kind::Call => 0,
+            Kind::Return => 1,
+            Kind::ToNode => 2,
+            Kind::ToClient => 3,
+        }
+    }
+}
 
-pub const TO_CLIENT: u8 = 3;
+impl TryFrom<u8> for Kind {
+    type Error = Refusal;
+
+    ghost try_from_gives = { ReadsKind };
+
+    fn try_from(b: u8) -> Result<Kind, Refusal> {
+        match b {
+            0 => Ok(Kind::Call),
+            1 => Ok(Kind::Return),
+            2 => Ok(Kind::ToNode),
+            3 => Ok(Kind::ToClient),
+            _ => Err(Refusal::Form),
+        }
+    }
+}
 
 // The node of calls and of their answers.
 pub const NO_NODE: usize = 0;
@@ -27,140 +60,128 @@ pub const FILLED: u8 = 1;
 // The heading: kind, client and node in a byte each, the length in four.
 pub const HEADING: usize = 7;
 
-#[derive(Clone, Copy)]
-pub enum Found {
-    // The parcel from the first place to the second.
-    At(usize, usize),
-    Nothing,
-    // The bytes are no list of parcels.
-    Broken,
+// A parcel's kind, its client and its node.
+#[derive(Clone, Copy, PartialEq, Eq)]
+pub struct Key {
+    pub kind: Kind,
+    pub client: usize,
+    pub node: usize,
 }
 
-// Whether a parcel of such a kind may stand between client c and node i.
-pub fn proper(s: Measures, kind: u8, c: usize, i: usize) -> bool
-    ensures { result ≡ proper_key s kind c i }
-{
-    if TO_CLIENT < kind {
-        return false;
+impl Key {
+    // Whether a parcel may have it.
+    pub fn proper(self, s: Measures) -> bool
+        ensures { result ≡ proper_key s (kind_of self.kind) self.client self.node }
+    {
+        if s.m <= self.client {
+            return false;
+        }
+        match self.kind {
+            Kind::Call | Kind::Return => self.node == NO_NODE,
+            Kind::ToNode | Kind::ToClient => 1 <= self.node && self.node <= s.n,
+        }
     }
-    if s.m <= c {
-        return false;
-    }
-    if kind <= RETURN {
-        return i == NO_NODE;
-    }
-    if i < 1 {
-        return false;
-    }
-    i <= s.n
 }
 
-fn keyed(post: &[u8], at: usize, kind: u8, c: usize, i: usize) -> bool
+// Whether the parcel at a place has such a key.
+fn keyed(post: &[u8], at: usize, key: Key) -> bool
     requires { at + 7 ≤ length post.now }
-    ensures { result ≡ (eqb (get_or post.now at 0) kind && (eqb (get_or post.now (at + 1) 0) c && eqb (get_or post.now (at + 2) 0) i)) }
+    ensures { result ≡ (eqb (get_or post.now at 0) (kind_of key.kind) && (eqb (get_or post.now (at + 1) 0) key.client && eqb (get_or post.now (at + 2) 0) key.node)) }
 {
-    if post[at] != kind {
-        return false;
-    }
-    if post[at + 1] as usize != c {
-        return false;
-    }
-    post[at + 2] as usize == i
+    post[at] == u8::from(key.kind)
+        && usize::from(post[at + 1]) == key.client
+        && usize::from(post[at + 2]) == key.node
 }
 
-// Where the parcel at a place ends; 0 if none stands there.
-fn next(s: Measures, post: &[u8], used: usize, at: usize) -> usize
-    requires { (passes s ≡ true) × (at < used) × (used ≤ length post.now) }
-    ensures { (result ≡ 0 → ListFrom s used post.now at → ⊥) × ((result ≡ 0 → ⊥) → HeadingAt s used post.now at result) }
+// The key of the parcel at a place, if it may have it.
+pub fn key_at(s: Measures, post: &[u8], at: usize) -> Result<Key, Refusal>
+    requires { at + 7 ≤ length post.now }
+    ensures { Heads s post.now at result }
+{
+    let kind = Kind::try_from(post[at])?;
+    let client = usize::from(post[at + 1]);
+    let node = usize::from(post[at + 2]);
+    let key = Key { kind, client, node };
+    if !key.proper(s) {
+        return Err(Refusal::Form);
+    }
+    Ok(key)
+}
+
+// Where the parcel at a place ends.
+fn next(s: Passed, post: &[u8], used: usize, at: usize) -> Result<usize, Refusal>
+    requires { (at < used) × (used ≤ length post.now) }
+    ensures { Follows s.measures used post.now at result }
 {
     if used - at < HEADING {
-        return 0;
+        return Err(Refusal::Form);
     }
-    if !proper(s, post[at], post[at + 1] as usize, post[at + 2] as usize) {
-        return 0;
-    }
+    key_at(s.measures, post, at)?;
     let len = u32_at(post, at + 3) as usize;
     if used - at - HEADING < len {
-        return 0;
+        return Err(Refusal::Form);
     }
-    at + HEADING + len
+    Ok(at + HEADING + len)
 }
 
-// Whether the used part is a list of parcels from a place on.
-pub fn sound(s: Measures, post: &[u8], used: usize, from: usize) -> bool
-    requires { (passes s ≡ true) × (from ≤ used) × (used ≤ length post.now) }
-    ensures { (result ≡ true → ListFrom s used post.now from) × (result ≡ false → ListFrom s used post.now from → ⊥) }
+// Whether the used part is a list of parcels from a place on. The bytes themselves say how far each step goes, so that no `for` fits.
+pub fn sound(s: Passed, post: &[u8], used: usize, from: usize) -> Result<(), Refusal>
+    requires { (from ≤ used) × (used ≤ length post.now) }
+    ensures { Sounds s.measures used post.now from result }
 {
     let mut at = from;
     while at < used {
-        let end = next(s, post, used, at);
-        if end == 0 {
-            return false;
-        }
-        at = end;
+        at = next(s, post, used, at)?;
     }
-    true
+    Ok(())
 }
 
-// The oldest parcel of a kind between client c and node i; each parcel is looked at once.
-pub fn find(s: Measures, post: &[u8], used: usize, kind: u8, c: usize, i: usize) -> Found
-    requires { (passes s ≡ true) × (used ≤ length post.now) }
-    ensures { Looks s kind c i used post.now result }
+// The oldest parcel of a key; each parcel is looked at once, as above.
+pub fn find(s: Passed, post: &[u8], used: usize, key: Key) -> Result<Option<Range<usize>>, Refusal>
+    requires { used ≤ length post.now }
+    ensures { Looks s.measures (kind_of key.kind) key.client key.node used post.now result }
 {
     let mut at = 0;
     while at < used {
-        let end = next(s, post, used, at);
-        if end == 0 {
-            return Found::Broken;
-        }
-        if keyed(post, at, kind, c, i) {
-            if sound(s, post, used, end) {
-                return Found::At(at, end);
-            }
-            return Found::Broken;
+        let end = next(s, post, used, at)?;
+        if keyed(post, at, key) {
+            sound(s, post, used, end)?;
+            return Ok(Some(at..end));
         }
         at = end;
     }
-    Found::Nothing
+    Ok(None)
 }
 
 // A parcel is no longer under way.
-pub fn remove(post: &mut [u8], used: usize, at: usize, end: usize) -> usize
-    requires { (at ≤ end) × (end ≤ used) × (used ≤ length post.old) }
-    ensures { Removed at end post.old used post.new result }
+pub fn remove(post: &mut [u8], used: usize, place: Range<usize>) -> usize
+    requires { (place.start ≤ place.end) × (place.end ≤ used) × (used ≤ length post.old) }
+    ensures { Removed place.start place.end post.old used post.new result }
 {
-    move_down(post, end, used, end - at);
-    used - (end - at)
+    post.copy_within(place.end..used, place.start);
+    used - (place.end - place.start)
 }
 
 // A parcel's first seven bytes.
-fn put_heading(post: &mut [u8], used: usize, kind: u8, c: usize, i: usize, len: u32)
+fn put_heading(post: &mut [u8], used: usize, key: Key, len: u32)
     requires { used + 7 ≤ length post.old }
-    ensures { (length post.new ≡ length post.old) × (take (used + 7) post.new ≡ take used post.old ++ (kind ∷ (write_number 1 c ++ (write_number 1 i ++ write_number 4 len)))) }
+    ensures { (length post.new ≡ length post.old) × (take (used + 7) post.new ≡ take used post.old ++ (kind_of key.kind ∷ (write_number 1 key.client ++ (write_number 1 key.node ++ write_number 4 len)))) }
 {
-    post[used] = kind;
-    post[used + 1] = (c % 256) as u8;
-    post[used + 2] = (i % 256) as u8;
+    post[used] = u8::from(key.kind);
+    post[used + 1] = (key.client % 256) as u8;
+    post[used + 2] = (key.node % 256) as u8;
     put_u32(post, used + 3, len);
 }
 
 // A parcel more, its bytes in two parts.
-pub fn append(
-    post: &mut [u8],
-    used: usize,
-    kind: u8,
-    c: usize,
-    i: usize,
-    front: &[u8],
-    rest: &[u8],
-) -> usize
+pub fn append(post: &mut [u8], used: usize, key: Key, front: &[u8], rest: &[u8]) -> usize
     requires { (used + (7 + (length front.now + length rest.now)) ≤ length post.old) × (length front.now + length rest.now ≤ 4294967295) }
-    ensures { Appended (record { kind = kind; client = c; node = i; bytes = front.now ++ rest.now } ∷ []) post.old used post.new result }
+    ensures { Appended (record { kind = kind_of key.kind; client = key.client; node = key.node; bytes = front.now ++ rest.now } ∷ []) post.old used post.new result }
 {
     let first = front.len();
     let len = first + rest.len();
-    put_heading(post, used, kind, c, i, len as u32);
-    copy(post, used + 7, front, 0, first);
-    copy(post, used + 7 + first, rest, 0, rest.len());
-    used + 7 + len
+    put_heading(post, used, key, len as u32);
+    copy(post, used + HEADING, front, 0, first);
+    copy(post, used + HEADING + first, rest, 0, rest.len());
+    used + HEADING + len
 }

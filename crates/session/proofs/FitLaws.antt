@@ -10,6 +10,7 @@ use borrow.Author.Tests.{leb-true, le-leb}
 use lib.Dec.{leb, ltb}
 use lib.ListN.{length, take, drop, length-append, length-take, length-drop}
 use lib.Seq.{take_at}
+use Rattle.std.specs.Prelude.{Ok, Err}
 use Rattle.parties.specs.declared.Measures.{Measures}
 use Rattle.parties.specs.declared.Version.{Version}
 use Rattle.parties.specs.protocol.Measures.{passes}
@@ -81,7 +82,6 @@ module _ (s : Measures) (ok : passes s ≡ true) where
 
   module _ (c : ℕ) (h : c < 4294967296) (out l : List ℕ) where
     client-fits : (a : ClientAnswer) → Bounded s a → client_line c a out ≡ some l → length l ≤ 2 * (s.k * s.f) + 32
-    client-fits (ClientAnswer.Refused r) b e = same_line _ l _ e (refused-fits (number r) (number_small r))
     client-fits ClientAnswer.Waits b e = no_line l _ e
     client-fits ClientAnswer.Scan b e = no_line l _ e
     client-fits (ClientAnswer.Update n) b e = no_line l _ e
@@ -99,12 +99,13 @@ module _ (s : Measures) (ok : passes s ≡ true) where
     client-fits ClientAnswer.Failed b e = same_line _ l _ e (refused-fits 9 (omega arith))
 
     -- whatever an operation of client c tells
-    pub line-fits : (what : Happened) → ((a : ClientAnswer) → what ≡ Happened.ByClient a → Bounded s a) → happened_line c what out ≡ some l
+    pub line-fits : (what : Happened) → ((a : ClientAnswer) → what ≡ Happened.ByClient (Ok a) → Bounded s a) → happened_line c what out ≡ some l
         → length l ≤ 2 * (s.k * s.f) + 32
     line-fits (Happened.Refused r) b e = same_line _ l _ e (refused-fits (number r) (number_small r))
     line-fits Happened.Nothing b e = no_line l _ e
     line-fits Happened.Taken b e = no_line l _ e
-    line-fits (Happened.ByClient a) b e = client-fits a (b a refl) e
+    line-fits (Happened.ByClient (Err r)) b e = same_line _ l _ e (refused-fits (number r) (number_small r))
+    line-fits (Happened.ByClient (Ok a)) b e = client-fits a (b a refl) e
     line-fits (Happened.ByServer a) b e = no_line l _ e
 
 -- ---- so each line stands whole in the text, and leaves it as long as it was
@@ -146,7 +147,7 @@ module _ (s : Measures) (ok : passes s ≡ true) (text after : List ℕ) (r : �
   pub refused-whole : (x : ℕ) → x < 100 → written after r ≡ put_line text (refused_line x) → Whole (refused_line x) text after r
   refused-whole x h i = whole _ text after r i (omega (arith, refused-fits s ok x h))
 
-  pub told-whole : (c : ℕ) → c < 4294967296 → (what : Happened) → ((a : ClientAnswer) → what ≡ Happened.ByClient a → Bounded s a) → (out l : List ℕ)
+  pub told-whole : (c : ℕ) → c < 4294967296 → (what : Happened) → ((a : ClientAnswer) → what ≡ Happened.ByClient (Ok a) → Bounded s a) → (out l : List ℕ)
       → happened_line c what out ≡ some l → written after r ≡ put_told text (happened_line c what out) → Whole l text after r
   told-whole c h what b out l e i =
       let f = line-fits s ok c h out l what b e in

@@ -1,4 +1,3 @@
-pub mod SayLaws
 pub mod FitLaws
 pub mod SettleLaws
 pub mod SessionLaws

@@ -1,36 +1,32 @@
 -- Laws of what a line of a session prints.
 use mathlib.Core.Path.{◌≡◌, refl, sym, ap, ◌∙◌}
-use mathlib.Core.Bool.{Bool, true, false, cond, ◌&&◌}
+use mathlib.Core.Bool.{Bool, true, false, cond}
 use mathlib.Core.List.{List, [], ◌∷◌, ◌++◌}
-use mathlib.Core.Logic.{◌≢◌}
-use Prim.Native.Nat.{ℕ, ◌+◌, ◌-◌, ◌*◌, ◌<◌, ◌≤◌, min}
+use Prim.Native.Nat.{ℕ, ◌-◌, ◌*◌, ◌<◌, ◌≤◌, min}
 use native.Mathlib.Decide.{dec_le}
 use native.Mathlib.Nat.{mul-le-mul}
 use native.Mathlib.Omega.{arith}
-use borrow.Author.Tests.{ltb-true, lt-leb, le-leb, lt-ltb, le-ltb}
-use lib.Dec.{leb, ltb}
+use borrow.Author.Tests.{ltb-true, lt-leb, le-leb}
+use lib.Dec.{ltb}
 use lib.ListN.{length, take}
 use lib.Seq.{take_all, length-take-le}
 use Rattle.parties.specs.declared.Measures.{Measures}
 use Rattle.parties.specs.protocol.Measures.{passes}
 use Rattle.parties.specs.protocol.Answer.{refuses as refusal, serves}
-use Rattle.parties.specs.protocol.ClientEvents.{room_size}
-use Rattle.parties.specs.protocol.DirectoryEvents.{directory_size}
 use Rattle.parties.specs.protocol.Run.{deposit, reading}
 use Rattle.parties.proofs.protocol.formats.MeasureLaws.{passed}
 use Rattle.parties.specs.declared.Refusal.{Refusal}
 use Rattle.parties.specs.records.Answer.{number}
-use Rattle.parties.specs.declared.Service.{Service}
 use Rattle.parties.specs.Answer.{served}
 use Rattle.title.specs.Memory.{memory_size, MemoryEnd, memory_fresh}
 use Rattle.title.specs.Part.{short}
 use Rattle.title.proofs.FreshMemoryLaws.{fresh-refused, fresh-served}
 use Rattle.runs.specs.declared.answer.EventEnd.{EventEnd}
 use Rattle.runs.specs.Acts.{Lent}
-use Rattle.runs.specs.Sent.{needed}
 use Rattle.runs.specs.Happens.{Happens}
 use Rattle.runs.specs.Oldest.{honest_all, without, alone}
-use Rattle.runs.proofs.SendLaws.{least_taken}
+use Rattle.std.specs.Prelude.{Option as Told, Some, None, Result, Ok, Err}
+use Rattle.std.proofs.lemmas.List.{take_min}
 use Rattle.runs.proofs.StartLaws.{deposit-long}
 use Rattle.lines.specs.declared.command.Command.{Command}
 use Rattle.lines.specs.declared.read.Reading.{Reading}
@@ -46,21 +42,9 @@ use Rattle.session.specs.declared.session.Session.{Session}
 use Rattle.session.specs.declared.session.Lengths.{Lengths}
 use Rattle.session.specs.declared.settle.Settled.{Settled}
 use Rattle.session.specs.Settle.{Desk, desk, Settles}
-use Rattle.session.specs.Session.{Held, new_line, desk_of, asks, small, slices_long, lengths, Reply, refuses, opens, first_reply, first_measures, Replies, First}
+use Rattle.session.specs.Session.{Held, new_line, desk_of, asks, small, slices_long, lengths, Reply, refuses, opens, first_reply, first_measures, Replies}
 use Rattle.session.specs.Session.{Reads, Deposits as StartsDeposit, Operates, Refuses, Later, Ends, within, taken}
 use Rattle.session.proofs.SessionLaws.{fresh-long}
-
-pub small_not : (s : Measures) → 3 < s.m → false ≡ small s
-small_not s h = rw (lt-leb s.m 3 h) refl
-
-pub small_by : (s : Measures) → (3 < s.m → ⊥) → leb s.f 64 ≡ small s
-small_by s h =
-    let l : s.m ≤ 3 = omega arith in rw (le-leb s.m 3 l) refl
-
-pub not_both : (b : Bool) → b ≡ true → b ≡ false → ⊥
-not_both b e f =
-    let z : true ≡ false = cc in
-    let y : ◌≡◌ {A = ℕ} 0 1 = cc in omega arith
 
 -- ---- whether the slices suffice
 
@@ -68,37 +52,6 @@ pub frame_bound : (s : Measures) → passes s ≡ true → (4 ≤ s.k * s.f) × 
 frame_bound s p =
     let q = passed s p in
     let k : s.k ≤ 16 = omega (arith, q.enough, q.nodes.1) in (q.frame, mul-le-mul k q.bytes.1, mul-le-mul q.nodes.1 q.bytes.1)
-
-module _ (s : Measures) (l : Lengths) where
-  abbrev frame : ℕ
-  frame = s.k * s.f
-
-  pub no_room : l.room < room_size s → false ≡ slices_long s l
-  no_room a = rw (lt-leb (room_size s) l.room a) refl
-
-  module _ (a : room_size s ≤ l.room) where
-    pub no_rows : l.room < directory_size s → false ≡ slices_long s l
-    no_rows b = rw (le-leb (room_size s) l.room a, lt-leb (directory_size s) l.room b) refl
-
-    module _ (b : directory_size s ≤ l.room) where
-      pub no_output : l.out < frame - 4 → false ≡ slices_long s l
-      no_output d = rw (le-leb (room_size s) l.room a, le-leb (directory_size s) l.room b, lt-leb (frame - 4) l.out d) refl
-
-      module _ (d : frame - 4 ≤ l.out) where
-        pub no_page : l.page ≤ frame - 4 → false ≡ slices_long s l
-        no_page e =
-            rw (le-leb (room_size s) l.room a, le-leb (directory_size s) l.room b, le-leb (frame - 4) l.out d, le-ltb (frame - 4) l.page e) refl
-
-        module _ (e : frame - 4 < l.page) where
-          others : slices_long s l ≡ (leb (2 * frame + 32) l.text && leb (2 * needed s) l.post)
-          others =
-              rw (le-leb (room_size s) l.room a, le-leb (directory_size s) l.room b, le-leb (frame - 4) l.out d, lt-ltb (frame - 4) l.page e) refl
-
-          pub no_text : l.text < 2 * frame + 32 → false ≡ slices_long s l
-          no_text f = sym (others ∙ rw (lt-leb (2 * frame + 32) l.text f) refl)
-
-          pub by_post : 2 * frame + 32 ≤ l.text → leb (2 * needed s) l.post ≡ slices_long s l
-          by_post f = sym (others ∙ rw (le-leb (2 * frame + 32) l.text f) refl)
 
 -- ---- a `config`
 
@@ -116,7 +69,7 @@ module _ (s : Measures) (l : Lengths) (memory : List ℕ) where
   opens_scarce e f w = rw (e, f, w) refl
 
   -- the service refuses a memory that is too short, and nothing else
-  pub opens-short : (a : Service) (r : Refusal) (n : ℕ) → passes s ≡ true → small s ≡ true → slices_long s l ≡ true → a ≡ Service.Refused r → served a ≡ (memory_fresh s memory).answer → n ≡ number r
+  pub opens-short : (a : Result ℕ Refusal) (r : Refusal) (n : ℕ) → passes s ≡ true → small s ≡ true → slices_long s l ≡ true → a ≡ Err r → served a ≡ (memory_fresh s memory).answer → n ≡ number r
       → (opens s l memory ≡ refuses n memory) × ((memory_fresh s memory).memory ≡ memory)
   unfolding opens
   opens-short a r n e f w g h m = go (dec_le (memory_size s) (length memory))
@@ -131,7 +84,7 @@ module _ (s : Measures) (l : Lengths) (memory : List ℕ) where
           let j : 2 ≡ n = cc in
           (rw (e, f, w, lt-leb (memory_size s) (length memory) (omega arith)) (ap (λ (x : ℕ). refuses x memory) j), sym d.1)
 
-  pub opens-taken : (a : Service) (k : ℕ) → passes s ≡ true → small s ≡ true → slices_long s l ≡ true → a ≡ Service.Served k → served a ≡ (memory_fresh s memory).answer
+  pub opens-taken : (a : Result ℕ Refusal) (k : ℕ) → passes s ≡ true → small s ≡ true → slices_long s l ≡ true → a ≡ Ok k → served a ≡ (memory_fresh s memory).answer
       → opens s l memory ≡ record { line = header_line s.m s.n s.k s.t s.f; stage = 1; memory = (memory_fresh s memory).memory }
   unfolding opens
   opens-taken a k e f w g h =
@@ -145,37 +98,10 @@ replied w v s text memory' text' y n len e l m q g = rw (e, q) (record { line = 
 
 -- ---- what the line that ended asks for
 
-pub asked_is : (r : Reading) (l : Line) (a : Command) → l ≡ ended_of r → a ≡ asked_of l → asked_of (ended_of r) ≡ a
+pub asked_is : (r : Reading) (l : Line) (a : Told Command) → l ≡ ended_of r → a ≡ asked_of l → asked_of (ended_of r) ≡ a
 asked_is r l a e f = ap asked_of (sym e) ∙ sym f
 
--- ---- a first line
-
-module _ (r : Command) (page : List ℕ) (x : Measures) (l : Lengths) (memory text memory' text' : List ℕ) (y : Session) (len : ℕ) where
-  pub first-config : (s : Measures) → r ≡ Command.Config s.m s.n s.k s.t s.f → Replies (opens s l memory) s text memory' text' y len
-      → First (given r page) x l memory text memory' text' y len
-  first-config s e w = rw e w
-
-pub first-other : (r : Command) (page : List ℕ) (x : Measures) (l : Lengths) (memory text memory' text' : List ℕ) (y : Session) (len : ℕ)
-    → ((m n k t f : ℕ) → r ≢ Command.Config m n k t f) → Replies (refuses 4 memory) x text memory' text' y len → First (given r page) x l memory text memory' text' y len
-first-other (Command.Config m n k t f) page x l memory text memory' text' y len o w = absurd (o m n k t f refl)
-first-other (Command.Read c) page x l memory text memory' text' y len o w = w
-first-other (Command.Deposit c n) page x l memory text memory' text' y len o w = w
-first-other Command.Other page x l memory text memory' text' y len o w = w
-
--- ---- a later line
-
-module _ (r : Command) (page : List ℕ) (s : Measures) (x y : Desk) where
-  pub later-reads : (c : ℕ) → r ≡ Command.Read c → Operates s c (Reads s c x.used x.lent) x y → Later (given r page) s x y
-  later-reads c e o = rw e o
-
-  pub later-deposits : (c n : ℕ) → r ≡ Command.Deposit c n → Operates s c (StartsDeposit s c x.used (take n page) x.lent) x y → Later (given r page) s x y
-  later-deposits c n e o = rw e o
-
-pub later-other : (r : Command) (page : List ℕ) (s : Measures) (x y : Desk) → ((c : ℕ) → r ≢ Command.Read c) → ((c n : ℕ) → r ≢ Command.Deposit c n) → Refuses 4 x y → Later (given r page) s x y
-later-other (Command.Config m n k t f) page s x y o d z = z
-later-other (Command.Read c) page s x y o d z = absurd (o c refl)
-later-other (Command.Deposit c n) page s x y o d z = absurd (d c n refl)
-later-other Command.Other page s x y o d z = z
+-- ---- a refusal at a later line
 
 pub refused_again : (x : Lent) (text text' : List ℕ) (n k used used' len : ℕ) → len ≡ k → used' ≡ used → written text' k ≡ put_line text (refused_line n)
     → Refuses n (desk x used text 0) (desk x used' text' len)
@@ -184,29 +110,29 @@ refused_again x text text' n k used used' len e u l = record { line = rw e l; le
 -- ---- a line of bytes p: what is kept of it asks for what p asks for
 
 module _ (l : Lengths) (memory : List ℕ) (x s : Measures) where
-  first-line : (a : Asked) (page : List ℕ) (r : Command) → Asks a page r
+  first-line : (a : Asked) (page : List ℕ) (r : Told Command) → Asks a page r
       → (first_reply (given r page) l memory ≡ first_reply (within s page a) l memory) × (first_measures (given r page) x ≡ first_measures (within s page a) x)
-  first-line (Asked.config m n k t f) page (Command.Config m' n' k' t' f') h = rw (h.0, h.1, h.2, h.3, h.4) (refl, refl)
-  first-line (Asked.config m n k t f) page (Command.Read c) h = absurd h
-  first-line (Asked.config m n k t f) page (Command.Deposit c b) h = absurd h
-  first-line (Asked.config m n k t f) page Command.Other h = absurd h
-  first-line (Asked.read c) page (Command.Config m n k t f) h = absurd h
-  first-line (Asked.read c) page (Command.Read c') h = (refl, refl)
-  first-line (Asked.read c) page (Command.Deposit c' b) h = absurd h
-  first-line (Asked.read c) page Command.Other h = absurd h
-  first-line (Asked.deposit c bytes) page (Command.Config m n k t f) h = absurd h
-  first-line (Asked.deposit c bytes) page (Command.Read c') h = absurd h
-  first-line (Asked.deposit c bytes) page (Command.Deposit c' n) h = (refl, refl)
-  first-line (Asked.deposit c bytes) page Command.Other h = absurd h
-  first-line Asked.other page (Command.Config m n k t f) h = absurd h
-  first-line Asked.other page (Command.Read c) h = absurd h
-  first-line Asked.other page (Command.Deposit c n) h = absurd h
-  first-line Asked.other page Command.Other h = (refl, refl)
+  first-line (Asked.config m n k t f) page (Some (Command.Config m' n' k' t' f')) h = rw (h.0, h.1, h.2, h.3, h.4) (refl, refl)
+  first-line (Asked.config m n k t f) page (Some (Command.Read c)) h = absurd h
+  first-line (Asked.config m n k t f) page (Some (Command.Deposit c b)) h = absurd h
+  first-line (Asked.config m n k t f) page None h = absurd h
+  first-line (Asked.read c) page (Some (Command.Config m n k t f)) h = absurd h
+  first-line (Asked.read c) page (Some (Command.Read c')) h = (refl, refl)
+  first-line (Asked.read c) page (Some (Command.Deposit c' b)) h = absurd h
+  first-line (Asked.read c) page None h = absurd h
+  first-line (Asked.deposit c bytes) page (Some (Command.Config m n k t f)) h = absurd h
+  first-line (Asked.deposit c bytes) page (Some (Command.Read c')) h = absurd h
+  first-line (Asked.deposit c bytes) page (Some (Command.Deposit c' n)) h = (refl, refl)
+  first-line (Asked.deposit c bytes) page None h = absurd h
+  first-line Asked.other page (Some (Command.Config m n k t f)) h = absurd h
+  first-line Asked.other page (Some (Command.Read c)) h = absurd h
+  first-line Asked.other page (Some (Command.Deposit c n)) h = absurd h
+  first-line Asked.other page None h = (refl, refl)
 
 -- the part of the slice that is deposited: the bytes that were given, as far as there was room
 kept-page : (bytes page : List ℕ) (n : ℕ) → Kept bytes n page → take n page ≡ take (length page) bytes
 kept-page bytes page n k =
-    let w : n ≡ min (length page) (length bytes) = omega (arith, k.size) in k.front ∙ least_taken (length page) n bytes w
+    let w : n ≡ min (length page) (length bytes) = omega (arith, k.size) in k.front ∙ ap (λ (m : ℕ). take m bytes) w ∙ take_min (length page) bytes
 
 -- if more were given, the page is too long for the measures either way
 kept-starts : (s : Measures) (c used n : ℕ) (bytes page : List ℕ) (x y : Lent) (result : EventEnd) → Kept bytes n page
@@ -231,25 +157,25 @@ kept-starts s c used n bytes page x y result k h = go (ltb (s.k * s.f - 4) (leng
     go false q = by (take (length page) bytes) part
 
 module _ (s : Measures) (x y : Desk) where
-  later-line : (a : Asked) (page : List ℕ) (r : Command) → Asks a page r → Later (given r page) s x y → Later (within s page a) s x y
-  later-line (Asked.config m n k t f) page (Command.Config m' n' k' t' f') h z = z
-  later-line (Asked.config m n k t f) page (Command.Read c) h z = absurd h
-  later-line (Asked.config m n k t f) page (Command.Deposit c b) h z = absurd h
-  later-line (Asked.config m n k t f) page Command.Other h z = absurd h
-  later-line (Asked.read c) page (Command.Config m n k t f) h z = absurd h
-  later-line (Asked.read c) page (Command.Read c') h z = rw h at z
-  later-line (Asked.read c) page (Command.Deposit c' b) h z = absurd h
-  later-line (Asked.read c) page Command.Other h z = absurd h
-  later-line (Asked.deposit c bytes) page (Command.Config m n k t f) h z = absurd h
-  later-line (Asked.deposit c bytes) page (Command.Read c') h z = absurd h
-  later-line (Asked.deposit c bytes) page (Command.Deposit c' n) h z =
+  later-line : (a : Asked) (page : List ℕ) (r : Told Command) → Asks a page r → Later (given r page) s x y → Later (within s page a) s x y
+  later-line (Asked.config m n k t f) page (Some (Command.Config m' n' k' t' f')) h z = z
+  later-line (Asked.config m n k t f) page (Some (Command.Read c)) h z = absurd h
+  later-line (Asked.config m n k t f) page (Some (Command.Deposit c b)) h z = absurd h
+  later-line (Asked.config m n k t f) page None h z = absurd h
+  later-line (Asked.read c) page (Some (Command.Config m n k t f)) h z = absurd h
+  later-line (Asked.read c) page (Some (Command.Read c')) h z = rw h at z
+  later-line (Asked.read c) page (Some (Command.Deposit c' b)) h z = absurd h
+  later-line (Asked.read c) page None h z = absurd h
+  later-line (Asked.deposit c bytes) page (Some (Command.Config m n k t f)) h z = absurd h
+  later-line (Asked.deposit c bytes) page (Some (Command.Read c')) h z = absurd h
+  later-line (Asked.deposit c bytes) page (Some (Command.Deposit c' n)) h z =
       let o : Operates s c (StartsDeposit s c x.used (take n page) x.lent) x y = rw h.0 at z in
       record { result = o.result; mid = o.mid; starts = kept-starts s c x.used n bytes page x.lent o.mid o.result h.1 o.starts; settles = o.settles }
-  later-line (Asked.deposit c bytes) page Command.Other h z = absurd h
-  later-line Asked.other page (Command.Config m n k t f) h z = absurd h
-  later-line Asked.other page (Command.Read c) h z = absurd h
-  later-line Asked.other page (Command.Deposit c n) h z = absurd h
-  later-line Asked.other page Command.Other h z = z
+  later-line (Asked.deposit c bytes) page None h z = absurd h
+  later-line Asked.other page (Some (Command.Config m n k t f)) h z = absurd h
+  later-line Asked.other page (Some (Command.Read c)) h z = absurd h
+  later-line Asked.other page (Some (Command.Deposit c n)) h z = absurd h
+  later-line Asked.other page None h z = z
 
 -- so, where the front p of a line was read, its end is as p says
 pub ends-line : (p : List ℕ) (x y : Held) (len : ℕ) → Read p x.session.reading x.page → Ends x (asks x) y len

@@ -9,12 +9,13 @@ use native.Mathlib.Numerals.{add-one}
 use native.Mathlib.Omega.{arith}
 use lib.ListN.{length, take, drop, get_or, length-append}
 use lib.Seq.{take-suc, length-take-le, drop-drop}
+use Rattle.std.specs.Prelude.{Result, Ok}
 use Rattle.parties.specs.declared.Measures.{Measures}
+use Rattle.parties.specs.declared.Refusal.{Refusal}
 use Rattle.parties.specs.protocol.Measures.{passes}
 use Rattle.parties.specs.protocol.Answer.{refuses, serves}
 use Rattle.parties.specs.protocol.Run.{Event}
 use Rattle.parties.specs.protocol.Claim.{Lent as Given}
-use Rattle.parties.specs.declared.Service.{Service}
 use Rattle.parties.specs.Answer.{served}
 use Rattle.title.specs.Memory.{memory_size, memory_fresh}
 use Rattle.title.specs.Part.{short}
@@ -37,7 +38,7 @@ use Rattle.session.proofs.SettleLaws.{settles_continue}
 -- ---- a run begins
 
 -- memory that was made fresh is long enough
-pub fresh-long : (s : Measures) (memory : List ℕ) (a : Service) (k : ℕ) → passes s ≡ true → a ≡ Service.Served k → served a ≡ (memory_fresh s memory).answer
+pub fresh-long : (s : Measures) (memory : List ℕ) (a : Result ℕ Refusal) (k : ℕ) → passes s ≡ true → a ≡ Ok k → served a ≡ (memory_fresh s memory).answer
     → memory_size s ≤ length memory
 fresh-long s memory a k ok e f = go (dec_le (memory_size s) (length memory))
   where
@@ -51,8 +52,8 @@ fresh-long s memory a k ok e f = go (dec_le (memory_size s) (length memory))
 pub started-live : (memory post page : List ℕ) → Live started memory post page
 started-live memory post page = record { runs = λ e. absurd (omega arith); line = []; read = begun-read page }
 
-pub fresh-runs : (x : Session) (s : Measures) (memory after post : List ℕ) (a : Service) (k : ℕ) → x.measures ≡ s → x.used ≡ 0 → passes s ≡ true
-    → a ≡ Service.Served k → served a ≡ (memory_fresh s memory).answer → after ≡ (memory_fresh s memory).memory → Runs x after post
+pub fresh-runs : (x : Session) (s : Measures) (memory after post : List ℕ) (a : Result ℕ Refusal) (k : ℕ) → x.measures ≡ s → x.used ≡ 0 → passes s ≡ true
+    → a ≡ Ok k → served a ≡ (memory_fresh s memory).answer → after ≡ (memory_fresh s memory).memory → Runs x after post
 fresh-runs x s memory after post a k m u ok e f g =
     record {
       events = [];

@@ -1,5 +1,5 @@
 -- The line that tells how an operation ended.
-use Rattle.std.specs.Prelude.{List, ℕ, take}
+use Rattle.std.specs.Prelude.{List, ℕ, take, Ok, Err}
 use Rattle.std.proofs.Math.Option.{Option, some, none}
 use Rattle.lines.specs.Text.{Written, written, put_line}
 use Rattle.lines.specs.Sentences.{refused_line, deposited_line, nothing_line, page_line}
@@ -9,7 +9,6 @@ use Rattle.runs.specs.declared.answer.Happened.{Happened}
 
 -- of client c, with what stands in the output
 abbrev pub client_line : ℕ → ClientAnswer → List ℕ → Option (List ℕ)
-client_line c (ClientAnswer.Refused r) out = some (refused_line (number r))
 client_line c ClientAnswer.Waits out = none
 client_line c ClientAnswer.Scan out = none
 client_line c (ClientAnswer.Update n) out = none
@@ -25,7 +24,8 @@ abbrev pub happened_line : ℕ → Happened → List ℕ → Option (List ℕ)
 happened_line c (Happened.Refused r) out = some (refused_line (number r))
 happened_line c Happened.Nothing out = none
 happened_line c Happened.Taken out = none
-happened_line c (Happened.ByClient a) out = client_line c a out
+happened_line c (Happened.ByClient (Err r)) out = some (refused_line (number r))
+happened_line c (Happened.ByClient (Ok a)) out = client_line c a out
 happened_line c (Happened.ByServer a) out = none
 
 -- it is put at the front of the text; if there is none, the text stays as it was, and the answer is 0

@@ -19,7 +19,8 @@ use Rattle.lines.specs.Text.{written, put_line}
 use Rattle.lines.specs.Sentences.{header_line, refused_line}
 use Rattle.session.specs.declared.session.Session.{Session}
 use Rattle.session.specs.declared.session.Lengths.{Lengths}
-use Rattle.session.specs.Settle.{Desk, desk, Settles}
+use Rattle.session.specs.declared.space.Slices.{Slices}
+use Rattle.session.specs.Settle.{Desk, lent_of, desk, Settles}
 
 -- ---- what is kept from byte to byte
 
@@ -56,6 +57,10 @@ LiveIn x = Live x.session x.lent.memory x.lent.post x.page
 
 abbrev pub held : Session → Lent → List ℕ → List ℕ → Held
 held x lent page text = record { session = x; lent = lent; page = page; text = text }
+
+-- in the slices
+abbrev pub held_in : Session → Slices → List ℕ → Held
+held_in x s page = held x (lent_of s) page s.text.now
 
 -- with the length of a line in the text
 abbrev pub desk_of : Held → ℕ → Desk

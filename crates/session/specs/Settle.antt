@@ -9,6 +9,7 @@ use Rattle.runs.specs.Acts.{Lent}
 use Rattle.runs.specs.Oldest.{Oldest}
 use Rattle.lines.specs.Text.{written}
 use Rattle.session.specs.declared.settle.Settled.{Settled}
+use Rattle.session.specs.declared.space.Slices.{Slices}
 use Rattle.session.specs.Say.{happened_line, put_told}
 
 -- what is lent, the bytes of parcels under way, the text, and the length of its line
@@ -20,6 +21,18 @@ pub record Desk : Type 0 where
 
 abbrev pub lend : List ℕ → List ℕ → List ℕ → List ℕ → Lent
 lend memory post room out = record { memory = memory; post = post; room = room; out = out }
+
+-- what stands in the slices, the text apart
+abbrev pub lent_of : Slices → Lent
+lent_of s = lend s.memory.now s.post.now s.room.now s.out.now
+
+-- they are the same slices, whatever stands in them
+pub record SameSlices (x y : Slices) : Type 0 where
+  pub memory : y.memory.ghost_name ≡ x.memory.ghost_name
+  pub room : y.room.ghost_name ≡ x.room.ghost_name
+  pub out : y.out.ghost_name ≡ x.out.ghost_name
+  pub post : y.post.ghost_name ≡ x.post.ghost_name
+  pub text : y.text.ghost_name ≡ x.text.ghost_name
 
 abbrev pub desk : Lent → ℕ → List ℕ → ℕ → Desk
 desk lent used text len = record { lent = lent; used = used; text = text; len = len }

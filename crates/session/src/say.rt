@@ -6,13 +6,11 @@ ghost use Rattle.session.specs.Say.{client_line, happened_line, put_told};
 use lines::text::{deposited, read_nothing, read_page, refused};
 use parties::ClientAnswer;
 use runs::answer::Happened;
-use runs::least::least;
 
 fn client(c: usize, a: ClientAnswer, out: &[u8], text: &mut [u8]) -> usize
     ensures { written text.new result ≡ put_told text.old (client_line c a out.now) }
 {
     match a {
-        ClientAnswer::Refused(r) => refused(text, r.number()),
         ClientAnswer::Deposited(v, _) => {
             let q = v.sequence;
             deposited(text, c, q.0)
@@ -20,7 +18,7 @@ fn client(c: usize, a: ClientAnswer, out: &[u8], text: &mut [u8]) -> usize
         ClientAnswer::Empty => read_nothing(text, c),
         ClientAnswer::Page(v, n) => {
             let q = v.sequence;
-            let to = least(n, out.len());
+            let to = n.min(out.len());
             read_page(text, c, q.0, v.client, &out[..to])
         }
         ClientAnswer::Spent => refused(text, 7),
@@ -34,8 +32,8 @@ pub fn say(c: usize, what: Happened, out: &[u8], text: &mut [u8]) -> usize
     ensures { written text.new result ≡ put_told text.old (happened_line c what out.now) }
 {
     match what {
-        Happened::Refused(r) => refused(text, r.number()),
-        Happened::ByClient(a) => client(c, a, out, text),
+        Happened::Refused(r) | Happened::ByClient(Err(r)) => refused(text, r.number()),
+        Happened::ByClient(Ok(a)) => client(c, a, out, text),
         _ => 0,
     }
 }

@@ -3,17 +3,26 @@ ghost use Rattle.std.specs.Prelude.{◌≡◌, true, List, ℕ, take};
 ghost use Rattle.parties.specs.protocol.Measures.{passes};
 ghost use Rattle.lines.specs.Read.{ended_of};
 ghost use Rattle.lines.specs.Command.{asked_of, given};
-ghost use Rattle.session.specs.Settle.{lend, desk};
-ghost use Rattle.session.specs.Session.{Runs, Live, new_line, started, held, small as fits, slices_long as suffice, opens, Replies, First, Reads, Deposits, Operates, Later, Ends, Feeds, Closes};
+ghost use Rattle.lines.specs.Text.{written, put_line};
+ghost use Rattle.lines.specs.Sentences.{refused_line};
+ghost use Rattle.session.specs.Settle.{lend, lent_of, SameSlices, desk};
+ghost use Rattle.session.specs.Session.{Runs, Live, new_line, started, held_in, small as fits, slices_long as suffice, opens, Replies, First, Reads, Deposits, Operates, Later, Ends, Feeds, Closes};
 
 use crate::settle::settle;
+use crate::space::Slices;
 use lines::command::{Command, asked};
 use lines::read::{Reading, begin, ended, next};
 use lines::text::{header, refused};
-use parties::{Measures, Service, sizes};
+use parties::{Measures, sizes};
 use runs::event::{deposit, needed, reading};
-use runs::least::least;
 use title::fresh::fresh;
+
+// Bytes and no enum: a caller's session may hold any byte, and `feed`, `close` and `feed_input` say what each does.
+const OPENING: u8 = 0;
+
+const RUNNING: u8 = 1;
+
+pub(crate) const OVER: u8 = 2;
 
 #[derive(Clone, Copy)]
 pub struct Session {
@@ -30,12 +39,12 @@ pub struct Session {
 #[derive(Clone, Copy)]
 pub struct Answer {
     pub session: Session,
-    // The length of the line that answers, or 0.
+    // The length of the line that answers, or 0. No option: no bytes are written either way, so that who writes would test for 0 besides.
     pub len: usize,
 }
 
 // How long the slices are that are lent with the memory.
-#[derive(Clone, Copy)]
+#[derive(Clone, Copy, Debug, PartialEq, Eq)]
 pub struct Lengths {
     pub room: usize,
     pub out: usize,
@@ -48,7 +57,7 @@ pub fn start() -> Session
     ensures { result ≡ started }
 {
     Session {
-        stage: 0,
+        stage: OPENING,
         measures: Measures {
             m: 0,
             n: 0,
@@ -78,14 +87,20 @@ fn at_stage(stage: u8, measures: Measures, used: usize, len: usize) -> Answer
     }
 }
 
+// A refusal is printed, and a new line is read.
+fn refuse(x: usize, stage: u8, s: Measures, used: usize, text: &mut [u8]) -> Answer
+    ensures line { written text.new result.len ≡ put_line text.old (refused_line x) }
+    ensures next { result.session ≡ new_line stage s used }
+{
+    let n = refused(text, x);
+    at_stage(stage, s, used, n)
+}
+
 // Whether the program has memory for such measures.
 fn small(s: Measures) -> bool
     ensures { result ≡ fits s }
 {
-    if 3 < s.m {
-        return false;
-    }
-    s.f <= 64
+    s.m <= 3 && s.f <= 64
 }
 
 // Whether the slices suffice for such measures.
@@ -121,25 +136,19 @@ fn config(s: Measures, l: Lengths, memory: &mut [u8], text: &mut [u8]) -> Answer
         × Replies (opens s l memory.old) s text.old memory.new text.new result.session result.len }
 {
     if !s.pass() {
-        let n = refused(text, 1);
-        return at_stage(2, s, 0, n);
+        return refuse(1, OVER, s, 0, text);
     }
     if !small(s) {
-        let n = refused(text, 2);
-        return at_stage(2, s, 0, n);
+        return refuse(2, OVER, s, 0, text);
     }
     if !slices_long(s, l) {
-        let n = refused(text, 2);
-        return at_stage(2, s, 0, n);
+        return refuse(2, OVER, s, 0, text);
     }
     match fresh(s, memory) {
-        Service::Refused(x) => {
-            let n = refused(text, x.number());
-            at_stage(2, s, 0, n)
-        }
-        Service::Served(_) => {
+        Err(x) => refuse(x.number(), OVER, s, 0, text),
+        Ok(_) => {
             let n = header(text, s.m, s.n, s.k, s.t, s.f);
-            at_stage(1, s, 0, n)
+            at_stage(RUNNING, s, 0, n)
         }
     }
 }
@@ -149,17 +158,17 @@ fn first(x: Session, l: Lengths, memory: &mut [u8], text: &mut [u8]) -> Answer
     ensures { ((post page : List ℕ) → Live result.session memory.new post page)
         × ((page : List ℕ) → First (given (asked_of (ended_of x.reading)) page) x.measures l memory.old text.old memory.new text.new result.session result.len) }
 {
-    let r = x.reading;
-    match asked(ended(r)) {
-        Command::Config(m, n, k, t, f) => config(Measures { m, n, k, t, f }, l, memory, text),
-        _ => {
-            let s = x.measures;
-            let n = refused(text, 4);
-            at_stage(2, s, 0, n)
+    match asked(ended(x.reading)) {
+        Some(Command::Config(m, n, k, t, f)) => {
+            config(Measures { m, n, k, t, f }, l, memory, text)
         }
+        Some(Command::Read(_)) => refuse(4, OVER, x.measures, 0, text),
+        Some(Command::Deposit(_, _)) => refuse(4, OVER, x.measures, 0, text),
+        None => refuse(4, OVER, x.measures, 0, text),
     }
 }
 
+// This one and `put` take the slices one by one: of a slice in a struct the prover does not know that bytes stand in it.
 fn read(
     s: Measures,
     used: usize,
@@ -178,7 +187,7 @@ fn read(
 {
     let result = reading(s, c, memory, room, post, used);
     let e = settle(s, c, result, memory, room, out, post, text);
-    at_stage(1, s, e.used, e.len)
+    at_stage(RUNNING, s, e.used, e.len)
 }
 
 fn put(
@@ -199,120 +208,102 @@ fn put(
         (desk (lend memory.new post.new room.new out.new) result.session.used text.new result.len)
         × (result.session ≡ new_line 1 s result.session.used) }
 {
-    let n = least(bytes, page.len());
+    let n = bytes.min(page.len());
     let result = deposit(s, c, memory, &page[..n], post, used);
     let e = settle(s, c, result, memory, room, out, post, text);
-    at_stage(1, s, e.used, e.len)
+    at_stage(RUNNING, s, e.used, e.len)
 }
 
 // A later line.
-fn later(
-    x: Session,
-    memory: &mut [u8],
-    room: &mut [u8],
-    out: &mut [u8],
-    post: &mut [u8],
-    page: &[u8],
-    text: &mut [u8],
-) -> Answer
-    ensures { (x.stage ≡ 1 → Live x memory.old post.old page.now → Live result.session memory.new post.new page.now)
+fn later(x: Session, lent: &mut Slices<'_>, page: &[u8]) -> Answer
+    ensures same { SameSlices lent.old lent.new }
+    ensures goes { (x.stage ≡ 1 → Live x lent.old.memory.now lent.old.post.now page.now
+        → Live result.session lent.new.memory.now lent.new.post.now page.now)
         × Later (given (asked_of (ended_of x.reading)) page.now) x.measures
-        (desk (lend memory.old post.old room.old out.old) x.used text.old 0)
-        (desk (lend memory.new post.new room.new out.new) result.session.used text.new result.len)
+        (desk (lent_of lent.old) x.used lent.old.text.now 0)
+        (desk (lent_of lent.new) result.session.used lent.new.text.now result.len)
         × (result.session ≡ new_line 1 x.measures result.session.used) }
 {
-    let r = x.reading;
     let s = x.measures;
-    match asked(ended(r)) {
-        Command::Read(c) => read(s, x.used, c, memory, room, out, post, text),
-        Command::Deposit(c, bytes) => {
-            put(s, x.used, c, bytes, memory, room, out, post, page, text)
+    match asked(ended(x.reading)) {
+        Some(Command::Read(c)) => read(
+            s,
+            x.used,
+            c,
+            lent.memory,
+            lent.room,
+            lent.out,
+            lent.post,
+            lent.text,
+        ),
+        Some(Command::Deposit(c, bytes)) => {
+            put(
+                s,
+                x.used,
+                c,
+                bytes,
+                lent.memory,
+                lent.room,
+                lent.out,
+                lent.post,
+                page,
+                lent.text,
+            )
         }
-        _ => {
-            let n = refused(text, 4);
-            at_stage(1, s, x.used, n)
-        }
+        Some(Command::Config(_, _, _, _, _)) => refuse(4, RUNNING, s, x.used, lent.text),
+        None => refuse(4, RUNNING, s, x.used, lent.text),
     }
 }
 
 // A line ended.
-fn line(
-    x: Session,
-    memory: &mut [u8],
-    room: &mut [u8],
-    out: &mut [u8],
-    post: &mut [u8],
-    page: &[u8],
-    text: &mut [u8],
-) -> Answer
-    ensures { (Live x memory.old post.old page.now → Live result.session memory.new post.new page.now)
-        × Ends (held x (lend memory.old post.old room.old out.old) page.now text.old)
-        (given (asked_of (ended_of x.reading)) page.now)
-        (held result.session (lend memory.new post.new room.new out.new) page.now text.new) result.len }
+fn line(x: Session, lent: &mut Slices<'_>, page: &[u8]) -> Answer
+    ensures same { SameSlices lent.old lent.new }
+    ensures goes { (Live x lent.old.memory.now lent.old.post.now page.now → Live result.session lent.new.memory.now lent.new.post.now page.now)
+        × Ends (held_in x lent.old page.now) (given (asked_of (ended_of x.reading)) page.now)
+        (held_in result.session lent.new page.now) result.len }
 {
-    if x.stage == 0 {
-        let l = Lengths {
-            room: room.len(),
-            out: out.len(),
-            post: post.len(),
-            page: page.len(),
-            text: text.len(),
-        };
-        return first(x, l, memory, text);
+    match x.stage {
+        OPENING => {
+            let l = Lengths {
+                room: lent.room.len(),
+                out: lent.out.len(),
+                post: lent.post.len(),
+                page: page.len(),
+                text: lent.text.len(),
+            };
+            first(x, l, lent.memory, lent.text)
+        }
+        RUNNING => later(x, lent, page),
+        _ => Answer { session: x, len: 0 },
     }
-    if x.stage == 1 {
-        return later(x, memory, room, out, post, page, text);
-    }
-    Answer { session: x, len: 0 }
 }
 
 // A byte of the input.
-pub fn feed(
-    x: Session,
-    b: u8,
-    memory: &mut [u8],
-    room: &mut [u8],
-    out: &mut [u8],
-    post: &mut [u8],
-    page: &mut [u8],
-    text: &mut [u8],
-) -> Answer
-    ensures { Feeds (held x (lend memory.old post.old room.old out.old) page.old text.old) b
-        (held result.session (lend memory.new post.new room.new out.new) page.new text.new) result.len }
+pub fn feed(x: Session, b: u8, lent: &mut Slices<'_>, page: &mut [u8]) -> Answer
+    ensures same { SameSlices lent.old lent.new }
+    ensures feeds { Feeds (held_in x lent.old page.old) b (held_in result.session lent.new page.new) result.len }
 {
     if b == 10 {
-        return line(x, memory, room, out, post, page, text);
+        return line(x, lent, page);
     }
-    let r = x.reading;
-    let s = x.measures;
-    let more = next(r, b, page);
+    let reading = next(x.reading, b, page);
     Answer {
         session: Session {
-            stage: x.stage,
-            measures: s,
-            used: x.used,
             open: true,
-            reading: more,
+            reading,
+            ..x
         },
         len: 0,
     }
 }
 
 // The end of the input: a last line may lack its line feed.
-pub fn close(
-    x: Session,
-    memory: &mut [u8],
-    room: &mut [u8],
-    out: &mut [u8],
-    post: &mut [u8],
-    page: &[u8],
-    text: &mut [u8],
-) -> Answer
-    ensures { Closes (held x (lend memory.old post.old room.old out.old) page.now text.old)
-        (held result.session (lend memory.new post.new room.new out.new) page.now text.new) result.len }
+pub fn close(x: Session, lent: &mut Slices<'_>, page: &[u8]) -> Answer
+    ensures same { SameSlices lent.old lent.new }
+    ensures closes { Closes (held_in x lent.old page.now) (held_in result.session lent.new page.now) result.len }
 {
     if x.open {
-        return line(x, memory, room, out, post, page, text);
+        return line(x, lent, page);
     }
     Answer { session: x, len: 0 }
 }

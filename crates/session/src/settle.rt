@@ -7,7 +7,7 @@ use parties::Measures;
 use runs::answer::EventEnd;
 use runs::oldest::oldest;
 
-#[derive(Clone, Copy)]
+#[derive(Clone, Copy, Debug, PartialEq, Eq)]
 pub struct Settled {
     // How many bytes of parcels are still under way: none after an operation.
     pub used: usize,
@@ -19,10 +19,7 @@ pub struct Settled {
 fn latest(n: usize, len: usize) -> usize
     ensures { result ≡ cond (ltb 0 n) n len }
 {
-    if n == 0 {
-        return len;
-    }
-    n
+    if n == 0 { len } else { n }
 }
 
 // The oldest parcel is handed over.
@@ -72,14 +69,11 @@ pub fn settle(
         used: start.used,
         len,
     };
-    let mut left: usize = MOST_PARCELS;
-    while 0 < left {
+    for turn in 0..MOST_PARCELS {
         if x.used == 0 {
             return x;
         }
-        let y = hand_over(s, c, x, memory, room, out, post, text);
-        x = y;
-        left -= 1;
+        x = hand_over(s, c, x, memory, room, out, post, text);
     }
     x
 }

@@ -1,10 +1,11 @@
 // A session from a reader's bytes to a writer.
 ghost use Rattle.std.specs.Prelude.{◌≡◌, ◌<◌, ◌≤◌, length, take, IfOk, OnOk, OnErr};
 ghost use Rattle.std.specs.Io.KnownBytes.{Appends, Consumes, IsAtEnd};
-ghost use Rattle.session.specs.Settle.{lend};
-ghost use Rattle.session.specs.Session.{held, FeedsAll, FeedsSome, Gives, FeedsInput, FeedsPart, Closed, Closing};
+ghost use Rattle.session.specs.Settle.{lent_of, SameSlices};
+ghost use Rattle.session.specs.Session.{held_in, FeedsAll, FeedsSome, Gives, FeedsInput, FeedsPart, Closed, Closing};
 
-use crate::session::{Answer, Session, close, feed};
+use crate::session::{Answer, OVER, Session, close, feed};
+use crate::space::Slices;
 use std::io;
 use std::io::{Read, Write};
 
@@ -26,21 +27,19 @@ pub fn feed_all<W: Write>(
     writer: &mut W,
     x: Session,
     input: &[u8],
-    memory: &mut [u8],
-    room: &mut [u8],
-    out: &mut [u8],
-    post: &mut [u8],
+    lent: &mut Slices<'_>,
     page: &mut [u8],
-    text: &mut [u8],
 ) -> io::Result<Session>
-    ensures all { IfOk result (λ y. FeedsAll (held x (lend memory.old post.old room.old out.old) page.old text.old) input.now
-        (held y (lend memory.new post.new room.new out.new) page.new text.new)) }
-    ensures some { OnErr result (FeedsSome (held x (lend memory.old post.old room.old out.old) page.old text.old) input.now
-        (lend memory.new post.new room.new out.new) page.new text.new) }
+    ensures same { SameSlices lent.old lent.new }
+    ensures all { IfOk result (λ y. FeedsAll (held_in x lent.old page.old) input.now
+        (held_in y lent.new page.new)) }
+    ensures some { OnErr result (FeedsSome (held_in x lent.old page.old) input.now
+        (lent_of lent.new) page.new lent.new.text.now) }
 {
     let mut y = x;
-    for i in 0..input.len() {
-        let a = feed(y, input[i], memory, room, out, post, page, text);
+    for b in input {
+        let a = feed(y, *b, lent, page);
+        let text = &mut *lent.text;
         y = put(writer, a, text)?;
     }
     Ok(y)
@@ -54,7 +53,7 @@ fn more<R: Read>(reader: &mut R, stage: u8, most: usize, input: &mut [u8]) -> io
     ensures end { IfOk result (λ n. n ≡ 0 → 0 < most → 0 < length input.new → (stage ≡ 2 → ⊥) → IsAtEnd (R.remaining reader.new)) }
     ensures fails { OnErr result ((stage ≡ 2 → ⊥) × Gives most input.old input.new 0) }
 {
-    if stage == 2 {
+    if stage == OVER {
         return Ok(0);
     }
     if input.len() <= most {
@@ -77,17 +76,14 @@ pub fn feed_input<R: Read, W: Write>(
     x: Session,
     most: usize,
     input: &mut [u8],
-    memory: &mut [u8],
-    room: &mut [u8],
-    out: &mut [u8],
-    post: &mut [u8],
+    lent: &mut Slices<'_>,
     page: &mut [u8],
-    text: &mut [u8],
 ) -> io::Result<Fed>
-    ensures all { IfOk result (λ r. FeedsInput (held x (lend memory.old post.old room.old out.old) page.old text.old) input.old most
-        (held r.session (lend memory.new post.new room.new out.new) page.new text.new) input.new r.left) }
-    ensures part { OnErr result (FeedsPart (held x (lend memory.old post.old room.old out.old) page.old text.old) input.old most
-        (lend memory.new post.new room.new out.new) page.new text.new input.new) }
+    ensures same { SameSlices lent.old lent.new }
+    ensures all { IfOk result (λ r. FeedsInput (held_in x lent.old page.old) input.old most
+        (held_in r.session lent.new page.new) input.new r.left) }
+    ensures part { OnErr result (FeedsPart (held_in x lent.old page.old) input.old most
+        (lent_of lent.new) page.new lent.new.text.now input.new) }
 {
     let mut y = x;
     let mut left = most;
@@ -96,7 +92,7 @@ pub fn feed_input<R: Read, W: Write>(
         if n == 0 {
             return Ok(Fed { session: y, left });
         }
-        y = feed_all(writer, y, &input[..n], memory, room, out, post, page, text)?;
+        y = feed_all(writer, y, &input[..n], lent, page)?;
         left -= n;
     }
     Ok(Fed { session: y, left })
@@ -106,18 +102,16 @@ pub fn feed_input<R: Read, W: Write>(
 pub fn end<W: Write>(
     writer: &mut W,
     x: Session,
-    memory: &mut [u8],
-    room: &mut [u8],
-    out: &mut [u8],
-    post: &mut [u8],
+    lent: &mut Slices<'_>,
     page: &[u8],
-    text: &mut [u8],
 ) -> io::Result<Session>
-    ensures closed { IfOk result (λ y. Closed (held x (lend memory.old post.old room.old out.old) page.now text.old)
-        (held y (lend memory.new post.new room.new out.new) page.now text.new)) }
-    ensures closing { OnErr result (Closing (held x (lend memory.old post.old room.old out.old) page.now text.old)
-        (lend memory.new post.new room.new out.new) page.now text.new) }
+    ensures same { SameSlices lent.old lent.new }
+    ensures closed { IfOk result (λ y. Closed (held_in x lent.old page.now)
+        (held_in y lent.new page.now)) }
+    ensures closing { OnErr result (Closing (held_in x lent.old page.now)
+        (lent_of lent.new) page.now lent.new.text.now) }
 {
-    let a = close(x, memory, room, out, post, page, text);
+    let a = close(x, lent, page);
+    let text = &mut *lent.text;
     put(writer, a, text)
 }

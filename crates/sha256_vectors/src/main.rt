@@ -9,10 +9,6 @@ ghost use Rattle.std.specs.Prelude.{◌≤◌};
 use std::io;
 use std::io::Write;
 
-fn wide(b: u8) -> u64 {
-    b as u64
-}
-
 fn word<W: Write>(writer: &mut W, s: &[u8]) -> io::Result<()> {
     writer.write_all(s)
 }
@@ -22,11 +18,8 @@ fn number<W: Write>(writer: &mut W, n: usize) -> io::Result<()> {
 }
 
 fn hex<W: Write>(writer: &mut W, s: &[u8]) -> io::Result<()> {
-    let mut i = 0;
-    while i < s.len() {
-        let b = wide(s[i]);
+    for b in s {
         write!(writer, "{b:02x}")?;
-        i += 1;
     }
     Ok(())
 }
@@ -46,10 +39,8 @@ fn line<W: Write>(writer: &mut W, name: &[u8], message: &[u8]) -> io::Result<()>
 // All byte values.
 fn pattern() -> [u8; 5000] {
     let mut p = [0u8; 5000];
-    let mut i = 0;
-    while i < 5000 {
+    for i in 0..5000 {
         p[i] = ((i * 7 + 3) % 256) as u8;
-        i += 1;
     }
     p
 }
@@ -79,8 +70,7 @@ fn place<W: Write>(
     word(writer, name)?;
     hex(writer, &version)?;
     word(writer, b" ")?;
-    let i = wide(node);
-    write!(writer, "{i}")?;
+    write!(writer, "{node}")?;
     word(writer, b" ")?;
     number(writer, n)
 }
@@ -96,19 +86,10 @@ fn placed<W: Write>(writer: &mut W, version: [u8; 5], node: u8, n: usize) -> io:
 
 // The pattern behind the node and the version.
 fn node_first(version: [u8; 5], node: u8) -> [u8; 5006] {
-    let p = pattern();
     let mut m = [0u8; 5006];
-    let mut i = 0;
-    while i < 5000 {
-        m[6 + i] = p[i];
-        i += 1;
-    }
     m[0] = node;
-    m[1] = version[0];
-    m[2] = version[1];
-    m[3] = version[2];
-    m[4] = version[3];
-    m[5] = version[4];
+    m[1..6].copy_from_slice(&version);
+    m[6..].copy_from_slice(&pattern());
     m
 }
 
@@ -136,31 +117,18 @@ const NEXT_CLIENT: [u8; 5] = [0, 0, 0, 1, 1];
 
 const HIGHEST: [u8; 5] = [255, 255, 255, 255, 7];
 
-// One place, and lengths about which a block or the padding begins.
+// Lengths about which a block or the padding begins.
+const LENGTHS: [usize; 23] = [
+    0, 1, 2, 48, 49, 50, 51, 57, 58, 59, 63, 64, 65, 112, 113, 114, 121, 122, 123, 127, 128, 1000,
+    4096,
+];
+
+// One place, at each of them.
 fn lengths<W: Write>(writer: &mut W) -> io::Result<()> {
-    placed(writer, VERSION, 1, 0)?;
-    placed(writer, VERSION, 1, 1)?;
-    placed(writer, VERSION, 1, 2)?;
-    placed(writer, VERSION, 1, 48)?;
-    placed(writer, VERSION, 1, 49)?;
-    placed(writer, VERSION, 1, 50)?;
-    placed(writer, VERSION, 1, 51)?;
-    placed(writer, VERSION, 1, 57)?;
-    placed(writer, VERSION, 1, 58)?;
-    placed(writer, VERSION, 1, 59)?;
-    placed(writer, VERSION, 1, 63)?;
-    placed(writer, VERSION, 1, 64)?;
-    placed(writer, VERSION, 1, 65)?;
-    placed(writer, VERSION, 1, 112)?;
-    placed(writer, VERSION, 1, 113)?;
-    placed(writer, VERSION, 1, 114)?;
-    placed(writer, VERSION, 1, 121)?;
-    placed(writer, VERSION, 1, 122)?;
-    placed(writer, VERSION, 1, 123)?;
-    placed(writer, VERSION, 1, 127)?;
-    placed(writer, VERSION, 1, 128)?;
-    placed(writer, VERSION, 1, 1000)?;
-    placed(writer, VERSION, 1, 4096)
+    for n in LENGTHS {
+        placed(writer, VERSION, 1, n)?;
+    }
+    Ok(())
 }
 
 // A piece at other places, then with its fields in another order, then alone.
@@ -189,28 +157,13 @@ fn main(rt: HostRuntime) -> io::Result<()> {
         b"112 letters",
         b"abcdefghbcdefghicdefghijdefghijkefghijklfghijklmghijklmnhijklmnoijklmnopjklmnopqklmnopqrlmnopqrsmnopqrstnopqrstu",
     )?;
-    first(writer, 1)?;
-    first(writer, 55)?;
-    first(writer, 56)?;
-    first(writer, 57)?;
-    first(writer, 63)?;
-    first(writer, 64)?;
-    first(writer, 65)?;
-    first(writer, 119)?;
-    first(writer, 120)?;
-    first(writer, 128)?;
-    first(writer, 1000)?;
-    first(writer, 4096)?;
-    first(writer, 5000)?;
+    for n in [1, 55, 56, 57, 63, 64, 65, 119, 120, 128, 1000, 4096, 5000] {
+        first(writer, n)?;
+    }
     million(writer)?;
     lengths(writer)?;
-    places(writer, 1)?;
-    places(writer, 57)?;
-    places(writer, 58)?;
-    places(writer, 59)?;
-    places(writer, 63)?;
-    places(writer, 64)?;
-    places(writer, 121)?;
-    places(writer, 122)?;
-    places(writer, 4096)
+    for n in [1, 57, 58, 59, 63, 64, 121, 122, 4096] {
+        places(writer, n)?;
+    }
+    Ok(())
 }

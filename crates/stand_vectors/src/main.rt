@@ -2,31 +2,17 @@
 // first).
 #![tactic(auto)]
 
-ghost use Rattle.std.specs.Prelude.{◌≡◌, ◌<◌, ◌≤◌, length, IfOk, OnErr};
+ghost use Rattle.std.specs.Prelude.{◌≡◌, ◌≤◌, length, IfOk, OnErr};
 
 use session::session::start;
-use session::space;
+use session::space::{Slices, Space, page};
 use session::stream::{end, feed_input};
 use std::io;
 use std::io::{Read, Write};
 
-fn wide(b: u8) -> usize
-    ensures { result < 256 }
-{
-    b as usize
-}
-
-// The length of the next session; 2^32 at the end of the input.
-fn size<R: Read>(reader: &mut R) -> io::Result<usize>
-    ensures { IfOk result (λ n. n ≤ 4294967296) }
-{
-    let mut space = [0u8; 4];
-    let s: &mut [u8] = &mut space;
-    let got = vectors::fill(reader, s)?;
-    if got != 4 {
-        return Ok(4294967296);
-    }
-    Ok(((wide(s[0]) * 256 + wide(s[1])) * 256 + wide(s[2])) * 256 + wide(s[3]))
+// The length of the next session; none at the end of the input.
+fn size<R: Read>(reader: &mut R) -> io::Result<Option<u32>> {
+    Ok(vectors::head(reader)?.map(u32::from_be_bytes))
 }
 
 // At most so many bytes of the input, and at most as many as the slice has.
@@ -34,9 +20,7 @@ fn receive<R: Read>(reader: &mut R, most: usize, input: &mut [u8]) -> io::Result
     ensures within { IfOk result (λ n. (n ≤ most) × (n ≤ length input.new)) }
     ensures same { OnErr result (length input.new ≡ length input.old) }
 {
-    if input.len() <= most {
-        return vectors::fill(reader, input);
-    }
+    let most = most.min(input.len());
     vectors::fill(reader, &mut input[..most])
 }
 
@@ -58,59 +42,30 @@ fn next<R: Read, W: Write>(
     reader: &mut R,
     writer: &mut W,
     input: &mut [u8],
-    memory: &mut [u8],
-    room: &mut [u8],
-    out: &mut [u8],
-    post: &mut [u8],
+    lent: &mut Slices<'_>,
     page: &mut [u8],
-    text: &mut [u8],
 ) -> io::Result<bool> {
-    let n = size(reader)?;
-    if 4294967295 < n {
+    let Some(n) = size(reader)? else {
         return Ok(false);
-    }
-    let x = feed_input(
-        reader,
-        writer,
-        start(),
-        n,
-        input,
-        memory,
-        room,
-        out,
-        post,
-        page,
-        text,
-    )?;
+    };
+    let x = feed_input(reader, writer, start(), n as usize, input, lent, page)?;
     skip(reader, x.left, input)?;
-    end(writer, x.session, memory, room, out, post, page, text)?;
-    writer.write_all(b"=\n")?;
+    end(writer, x.session, lent, page)?;
+    writeln!(writer, "=")?;
     Ok(true)
 }
 
 fn main(rt: HostRuntime) -> io::Result<()> {
     let reader = &mut rt.stdin();
     let writer = &mut rt.stdout();
-    let mut memory_space = space::memory();
-    let memory: &mut [u8] = &mut memory_space;
-    let mut room_space = space::room();
-    let room: &mut [u8] = &mut room_space;
-    let mut out_space = space::page();
-    let out: &mut [u8] = &mut out_space;
-    let mut post_space = space::post();
-    let post: &mut [u8] = &mut post_space;
-    let mut page_space = space::page();
-    let page: &mut [u8] = &mut page_space;
-    let mut text_space = space::text();
-    let text: &mut [u8] = &mut text_space;
-    let mut input_space = [0u8; 4096];
-    let input: &mut [u8] = &mut input_space;
-    let mut turns = u64::MAX;
-    while 0 < turns {
-        if !next(reader, writer, input, memory, room, out, post, page, text)? {
+    let mut input = [0u8; 4096];
+    let mut space = Space::new();
+    let lent = &mut space.lend();
+    let mut page = page();
+    for _ in 0..u64::MAX {
+        if !next(reader, writer, &mut input, lent, &mut page)? {
             return Ok(());
         }
-        turns -= 1;
     }
     Ok(())
 }

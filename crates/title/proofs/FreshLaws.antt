@@ -2,11 +2,10 @@
 use mathlib.Core.Path.{◌≡◌, sym, ap, ap₂, ◌∙◌}
 use mathlib.Core.Bool.{true}
 use mathlib.Core.List.{List, [], ◌++◌, append_assoc}
-use Prim.Native.Nat.{ℕ, zero, suc, ◌+◌, ◌-◌, ◌*◌, ◌≤◌, ◌<◌}
-use native.Mathlib.Nat.{suc-mul}
+use Prim.Native.Nat.{ℕ, ◌+◌, ◌-◌, ◌*◌, ◌≤◌}
 use native.Mathlib.Omega.{arith}
 use lib.ListN.{length, take, drop, length-append, length-drop}
-use lib.Seq.{take_at, drop-append-add}
+use lib.Seq.{take_at}
 use Rattle.parties.specs.declared.Measures.{Measures}
 use Rattle.parties.specs.protocol.Measures.{passes}
 use Rattle.parties.specs.protocol.Directory.{write_directory, fresh_directory}
@@ -16,34 +15,10 @@ use Rattle.parties.specs.protocol.DirectoryEvents.{directory_size}
 use Rattle.parties.specs.protocol.NodeEvents.{table_size}
 use Rattle.parties.specs.protocol.Run.{fresh}
 use Rattle.parties.proofs.protocol.events.FreshTableLaws.{directory-long, table-long, client-long}
-use Rattle.parties.proofs.directory.RoomLaws.{many-first}
 use Rattle.title.specs.Memory.{memory_size, table_at, record_at, fresh_memory, memory_fresh}
 use Rattle.title.specs.Service.{MemoryShows}
 use Rattle.title.proofs.MemoryLaws.{table_own, record_own, part_is}
-use Rattle.title.proofs.FreshMemoryLaws.{copies, tables, records, tables_long, records_long, front_long, fresh-served}
-
--- ---- over plain lists: the j-th of n copies, behind a front
-
-first_off : (x rest : List ℕ) (n : ℕ) → copies x (suc n) ++ rest ≡ x ++ (copies x n ++ rest)
-first_off x rest n = ap (λ (u : List ℕ). u ++ rest) (many-first (λ t. t) x n) ∙ append_assoc x (copies x n) rest
-
-copy : (x rest : List ℕ) (size : ℕ) → length x ≡ size → (j n : ℕ) → j < n → take size (drop (j * size) (copies x n ++ rest)) ≡ x
-copy x rest size e j zero h = absurd (omega arith)
-copy x rest size e zero (suc n) h =
-    let z : zero * size ≡ 0 = omega arith in
-    ap₂ (λ (k : ℕ) (u : List ℕ). take size (drop k u)) z (first_off x rest n) ∙ take_at x (copies x n ++ rest) size e
-copy x rest size e (suc j) (suc n) h =
-    let k : suc j * size ≡ length x + j * size = omega (arith, suc-mul j size) in
-    ap₂ (λ (k : ℕ) (u : List ℕ). take size (drop k u)) k (first_off x rest n)
-    ∙ ap (take size) (drop-append-add x (copies x n ++ rest) (j * size))
-    ∙ copy x rest size e j n (omega arith)
-
-copy_behind : (front x rest : List ℕ) (at size : ℕ) → length front ≡ at → length x ≡ size → (j n : ℕ) → j < n
-    → take size (drop (at + j * size) (front ++ (copies x n ++ rest))) ≡ x
-copy_behind front x rest at size f e j n h =
-    ap (λ (k : ℕ). take size (drop (k + j * size) (front ++ (copies x n ++ rest)))) (sym f)
-    ∙ ap (take size) (drop-append-add front (copies x n ++ rest) (j * size))
-    ∙ copy x rest size e j n h
+use Rattle.title.proofs.FreshMemoryLaws.{copy_behind, tables, records, tables_long, records_long, front_long, fresh-served}
 
 long-sum : (x y z w d t r k : ℕ) → x ≡ d → y ≡ t → z ≡ r → k ≡ w - (d + t + r) → d + t + r ≤ w → d + t + r ≤ x + (y + z) + k
 long-sum x y z w d t r k e f g h l = omega arith

@@ -1,5 +1,5 @@
 -- The memory's parts: their sizes and places, and what a part that was lent leaves when it is back.
-use mathlib.Core.Path.{◌≡◌, sym, ap, ap₂, subst, subst⁻¹, ◌∙◌}
+use mathlib.Core.Path.{◌≡◌, sym, ap, ap₂, subst⁻¹, ◌∙◌}
 use mathlib.Core.Bool.{true}
 use mathlib.Core.List.{List, [], ◌++◌}
 use Prim.Native.Nat.{ℕ, ◌+◌, ◌-◌, ◌*◌, ◌<◌, ◌≤◌}
@@ -9,7 +9,10 @@ use native.Mathlib.Omega.{arith}
 use borrow.Author.Tests.{le-leb, lt-leb, lt-ltb, le-ltb}
 use lib.ListN.{length, take, drop, length-drop}
 use lib.Seq.{length-take-le}
+use Rattle.std.specs.Prelude.{Result, Err, IsErrAnd}
+use Rattle.std.proofs.lemmas.Result.{err_from_is_err_and}
 use Rattle.parties.specs.declared.Measures.{Measures}
+use Rattle.parties.specs.declared.Refusal.{Refusal}
 use Rattle.parties.specs.protocol.Measures.{passes}
 use Rattle.parties.specs.protocol.Client.{client_size}
 use Rattle.parties.specs.protocol.DirectoryEvents.{directory_size}
@@ -17,16 +20,13 @@ use Rattle.parties.specs.protocol.NodeEvents.{table_size}
 use Rattle.parties.proofs.protocol.formats.MeasureLaws.{passed}
 use Rattle.parties.proofs.protocol.events.LacksLaws as lacks
 use Rattle.parties.proofs.protocol.events.LacksLaws.{Lacks}
-use Rattle.parties.specs.declared.Refusal.{Refusal}
-use Rattle.parties.specs.records.Answer.{number}
 use Rattle.parties.specs.records.Places.{splice}
 use Rattle.parties.proofs.records.SizeLaws.{table_bound, below_rows}
 use Rattle.parties.proofs.records.SpliceLaws.{splice_self, splice-back}
 use Rattle.parties.proofs.client.FormLaws.{sizes as clientSizes}
 use Rattle.parties.proofs.node.SizeLaws.{sizes as tableSizes}
-use Rattle.title.specs.declared.memory.Part.{Part}
 use Rattle.title.specs.Memory.{memory_size, table_at, record_at, part_of, PutBack}
-use Rattle.title.specs.Part.{Refuses, measures, short, Stands, Placed}
+use Rattle.title.specs.Part.{Refuses, measures, short, Stands}
 
 -- ---- sizes
 
@@ -118,20 +118,15 @@ module _ (s : Measures) (at size : ℕ) (memory : List ℕ) where
 
 -- ---- where the code finds a part
 
+-- the refusal that a `?` hands on
+pub handed : {A : Type 0} (n : Refusal) (r : Result A Refusal) → IsErrAnd r (λ x. x ≡ n) → r ≡ Err n
+handed n r e = let p = err_from_is_err_and r e in p.1 ∙ ap Err p.2
+
 module _ (s : Measures) (len at size : ℕ) where
-  pub placed_within : (r : Part) → Placed s len at size r → (a b : ℕ) → r ≡ Part.Within a b → Stands s len at size a b
-  placed_within r h a b e = subst (Placed s len at size) e h
-
-  pub placed_refused : (r : Part) → Placed s len at size r → (n : Refusal) → r ≡ Part.Refused n → Refuses s len (number n)
-  placed_refused r h n e = subst (Placed s len at size) e h
-
   pub stands : passes s ≡ true → memory_size s ≤ len → at + size ≤ memory_size s → (a b : ℕ) → a ≡ at → b ≡ at + size → Stands s len at size a b
   stands h l w a b e f = record { measures = h; long = l; first = e; last = f; within = omega arith }
 
 module _ (s : Measures) (at size : ℕ) (memory : List ℕ) (a b : ℕ) (z : Stands s (length memory) at size a b) where
-  pub part-order : a ≤ b
-  part-order = omega (arith, z.first, z.last)
-
   -- the bytes that are lent are the part
   pub part-lent : take (b - a) (drop a memory) ≡ part_of s at size memory
   part-lent =

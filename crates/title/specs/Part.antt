@@ -1,9 +1,10 @@
 -- Where a part of the memory stands, as the code finds it.
-use Rattle.std.specs.Prelude.{◌≡◌, true, false, ℕ, ◌+◌, ◌<◌, ◌≤◌}
+use Rattle.std.specs.Prelude.{◌≡◌, true, false, ℕ, ◌+◌, ◌<◌, ◌≤◌, Result, Ok, Err}
+use Rattle.std.specs.declared.ops.Range.{Range}
+use Rattle.parties.specs.declared.Refusal.{Refusal}
 use Rattle.parties.specs.declared.Measures.{Measures}
 use Rattle.parties.specs.protocol.Measures.{passes}
 use Rattle.parties.specs.records.Answer.{number}
-use Rattle.title.specs.declared.memory.Part.{Part}
 use Rattle.title.specs.Memory.{memory_size}
 
 -- a memory of so many bytes is refused with this number
@@ -19,6 +20,11 @@ pub record Stands (s : Measures) (len at size a b : ℕ) : Type 0 where
   pub last : b ≡ at + size
   pub within : b ≤ len
 
-abbrev pub Placed : Measures → ℕ → ℕ → ℕ → Part → Type 0
-Placed s len at size (Part.Within a b) = Stands s len at size a b
-Placed s len at size (Part.Refused r) = Refuses s len (number r)
+-- measures that pass, and a memory of so many bytes that has all parts, or why it is refused
+abbrev pub Fits : {A : Type 0} → Measures → ℕ → Result A Refusal → Type 0
+Fits s len (Ok x) = (passes s ≡ true) × (memory_size s ≤ len)
+Fits s len (Err r) = Refuses s len (number r)
+
+abbrev pub Placed : Measures → ℕ → ℕ → ℕ → Result (Range ℕ) Refusal → Type 0
+Placed s len at size (Ok part) = Stands s len at size part.start part.end
+Placed s len at size (Err r) = Refuses s len (number r)

@@ -1,73 +1,60 @@
 // One page's tables and records in lent memory.
 ghost use Rattle.std.specs.Prelude.{◌≡◌, true, ◌+◌, ◌*◌};
-ghost use Rattle.parties.specs.protocol.Measures.{passes};
 ghost use Rattle.parties.specs.protocol.DirectoryEvents.{directory_size};
 ghost use Rattle.parties.specs.protocol.NodeEvents.{table_size};
 ghost use Rattle.parties.specs.protocol.Client.{client_size};
 ghost use Rattle.title.specs.Memory.{memory_size, table_at, record_at};
-ghost use Rattle.title.specs.Part.{Placed};
+ghost use Rattle.title.specs.Part.{Fits, Placed};
 
+use parties::protocol::measures::Passed;
 use parties::{Measures, Refusal, sizes};
-
-// Where a part of the memory stands.
-#[derive(Clone, Copy)]
-pub enum Part {
-    // From the first place to the second.
-    Within(usize, usize),
-    Refused(Refusal),
-}
+use std::ops::Range;
 
 // The sizes of measures that pass.
-fn directory_size(s: Measures) -> usize
-    requires { passes s ≡ true }
-    ensures { result ≡ directory_size s }
+fn directory_size(s: Passed) -> usize
+    ensures { result ≡ directory_size s.measures }
 {
-    sizes::directory(s)
+    sizes::directory(s.measures)
 }
 
-pub fn table_size(s: Measures) -> usize
-    requires { passes s ≡ true }
-    ensures { result ≡ table_size s }
+pub fn table_size(s: Passed) -> usize
+    ensures { result ≡ table_size s.measures }
 {
-    sizes::table(s)
+    sizes::table(s.measures)
 }
 
-pub fn record_size(s: Measures) -> usize
-    requires { passes s ≡ true }
-    ensures { result ≡ client_size s }
+pub fn record_size(s: Passed) -> usize
+    ensures { result ≡ client_size s.measures }
 {
-    sizes::record(s)
+    sizes::record(s.measures)
 }
 
 // Where the records begin.
-pub fn records_at(s: Measures) -> usize
-    requires { passes s ≡ true }
-    ensures { result ≡ directory_size s + s.n * table_size s }
+pub fn records_at(s: Passed) -> usize
+    ensures { result ≡ directory_size s.measures + s.measures.n * table_size s.measures }
 {
     let directory = directory_size(s);
     let table = table_size(s);
-    directory + s.n * table
+    directory + s.measures.n * table
 }
 
-fn memory_size(s: Measures) -> usize
-    requires { passes s ≡ true }
-    ensures { result ≡ memory_size s }
+fn memory_size(s: Passed) -> usize
+    ensures { result ≡ memory_size s.measures }
 {
     let tables = records_at(s);
     let record = record_size(s);
-    tables + s.m * record
+    tables + s.measures.m * record
 }
 
 // Node i's table; of a number out of bounds the first one's place.
-fn table_at(s: Measures, i: usize) -> usize
-    requires { passes s ≡ true }
-    ensures { result ≡ table_at s i }
+fn table_at(s: Passed, i: usize) -> usize
+    ensures { result ≡ table_at s.measures i }
 {
     let directory = directory_size(s);
     if i < 1 {
         return directory;
     }
-    if s.n < i {
+    if s.measures.n < i {
         return directory;
     }
     let table = table_size(s);
@@ -75,61 +62,55 @@ fn table_at(s: Measures, i: usize) -> usize
 }
 
 // Client c's record, likewise.
-fn record_at(s: Measures, c: usize) -> usize
-    requires { passes s ≡ true }
-    ensures { result ≡ record_at s c }
+fn record_at(s: Passed, c: usize) -> usize
+    ensures { result ≡ record_at s.measures c }
 {
     let tables = records_at(s);
-    if s.m <= c {
+    if s.measures.m <= c {
         return tables;
     }
     let record = record_size(s);
     tables + c * record
 }
 
-// The directory in a memory of so many bytes.
-pub fn directory_part(s: Measures, len: usize) -> Part
-    ensures { Placed s len 0 (directory_size s) result }
+// Whether measures pass, and a memory of so many bytes has all parts.
+fn fits(s: Measures, len: usize) -> Result<(), Refusal>
+    ensures { Fits s len result }
 {
     if !s.pass() {
-        return Part::Refused(Refusal::Measures);
+        return Err(Refusal::Measures);
     }
-    let size = memory_size(s);
-    if len < size {
-        return Part::Refused(Refusal::Short);
+    if len < memory_size(Passed { measures: s }) {
+        return Err(Refusal::Short);
     }
-    let directory = directory_size(s);
-    Part::Within(0, directory)
+    Ok(())
+}
+
+// The directory in a memory of so many bytes.
+pub fn directory_part(s: Measures, len: usize) -> Result<Range<usize>, Refusal>
+    ensures { Placed s len 0 (directory_size s) result }
+{
+    fits(s, len)?;
+    let s = Passed { measures: s };
+    Ok(0..directory_size(s))
 }
 
 // Node i's table, likewise.
-pub fn table_part(s: Measures, i: usize, len: usize) -> Part
+pub fn table_part(s: Measures, i: usize, len: usize) -> Result<Range<usize>, Refusal>
     ensures { Placed s len (table_at s i) (table_size s) result }
 {
-    if !s.pass() {
-        return Part::Refused(Refusal::Measures);
-    }
-    let size = memory_size(s);
-    if len < size {
-        return Part::Refused(Refusal::Short);
-    }
+    fits(s, len)?;
+    let s = Passed { measures: s };
     let at = table_at(s, i);
-    let table = table_size(s);
-    Part::Within(at, at + table)
+    Ok(at..at + table_size(s))
 }
 
 // Client c's record, likewise.
-pub fn record_part(s: Measures, c: usize, len: usize) -> Part
+pub fn record_part(s: Measures, c: usize, len: usize) -> Result<Range<usize>, Refusal>
     ensures { Placed s len (record_at s c) (client_size s) result }
 {
-    if !s.pass() {
-        return Part::Refused(Refusal::Measures);
-    }
-    let size = memory_size(s);
-    if len < size {
-        return Part::Refused(Refusal::Short);
-    }
+    fits(s, len)?;
+    let s = Passed { measures: s };
     let at = record_at(s, c);
-    let record = record_size(s);
-    Part::Within(at, at + record)
+    Ok(at..at + record_size(s))
 }

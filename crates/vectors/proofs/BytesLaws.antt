@@ -1,5 +1,5 @@
 -- Laws of bytes to work on, and of their sums.
-use Rattle.std.proofs.Common.{◌≡◌, refl, sym, ap, ◌∙◌, List, [], ◌∷◌, ◌++◌, ℕ, ◌+◌, ◌<◌, ◌≤◌, add-one, arith, length, get_or, take, drop, set, drop_of_length-le, take_all, take-suc-set, drop-cons}
+use Rattle.std.proofs.Common.{◌≡◌, refl, sym, ap, ◌∙◌, List, [], ◌∷◌, ◌++◌, ℕ, ◌+◌, ◌<◌, ◌≤◌, add-one, length, get_or, take, drop, set, drop_of_length-le, take-suc-set, drop-cons}
 use Rattle.std.proofs.lemmas.List.{take_more}
 use Rattle.vectors.specs.Bytes.{poison_at, poison_of, summed, checksum_from, hex_pair, hex_of}
 
@@ -11,9 +11,6 @@ pub poison_more : (s : List ℕ) (i : ℕ) → i < length s → take i s ≡ poi
 unfolding poison_of
 poison_more s i h e =
     rw (add-one i) (take-suc-set s i (poison_at i) h ∙ ap (λ (l : List ℕ). l ++ (poison_at i ∷ [])) e)
-
-pub poison_all : (s : List ℕ) (i n : ℕ) → i ≡ n → length s ≡ n → take i s ≡ poison_of i → s ≡ poison_of n
-poison_all s i n a b e = sym (take_all i s (omega arith)) ∙ e ∙ ap poison_of a
 
 pub sum_more : (s : List ℕ) (i h b : ℕ) → i < length s → b ≡ get_or s i 0 → checksum_from (summed h b) (drop (i + 1) s) ≡ checksum_from h (drop i s)
 unfolding checksum_from

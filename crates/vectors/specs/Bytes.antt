@@ -18,6 +18,10 @@ unfoldable pub checksum_from : ℕ → List ℕ → ℕ
 checksum_from h [] = h
 checksum_from h (b ∷ s) = checksum_from (summed h b) s
 
+-- a sum that goes on with the bytes of another slice
+abbrev pub chained_from : ℕ → List ℕ → ℕ
+chained_from h s = (h % 4294967296 * 31 + checksum_from 0 s) % 4294967296
+
 -- a digit in hexadecimal: `0` to `9`, `a` to `f`
 abbrev pub hex_digit : ℕ → ℕ
 hex_digit d = cond (ltb d 10) (48 + d) (87 + d)

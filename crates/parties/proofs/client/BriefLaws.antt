@@ -13,10 +13,10 @@ use Rattle.parties.specs.protocol.ClientEvents.{ClientEnd, unchanged}
 use Rattle.parties.proofs.protocol.events.LacksLaws.{Lacks, measures, short}
 
 pub brief_lacks : (s : Measures) (client : List ℕ) → length client < 5
-    → (n : ℕ) × Lacks s (client_size s) client n × (cond (passes s) (refused 2) (refused 1) ≡ refused n)
+    → (n : ℕ) × Lacks s (client_size s) client n × (cond (passes s) 2 1 ≡ n)
 brief_lacks s client h = go (passes s) refl
   where
-    go : (b : Bool) → passes s ≡ b → (n : ℕ) × Lacks s (client_size s) client n × (cond b (refused 2) (refused 1) ≡ refused n)
+    go : (b : Bool) → passes s ≡ b → (n : ℕ) × Lacks s (client_size s) client n × (cond b 2 1 ≡ n)
     go true e = (2, short e (omega arith), refl)
     go false e = (1, measures e, refl)
 

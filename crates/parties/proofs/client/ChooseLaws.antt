@@ -1,8 +1,8 @@
 -- Laws of what the rows of a scan offer a reading.
 use mathlib.Core.Path.{◌≡◌, refl, sym, ap, ap₂, subst, ◌∙◌}
-use mathlib.Core.Bool.{Bool, true, false, cond, ◌&&◌, ◌||◌, true≢false}
+use mathlib.Core.Bool.{Bool, true, false, cond, ◌&&◌, ◌||◌}
 use mathlib.Core.List.{List, [], ◌∷◌, ◌++◌, append_assoc, append-nil}
-use mathlib.Core.Option.{Option, some, none}
+use mathlib.Core.Option.{Option, some}
 use Prim.Native.Nat.{ℕ, suc, ◌+◌, ◌-◌, ◌*◌, ◌^◌, ◌<◌, ◌≤◌}
 use native.Mathlib.Omega.{arith}
 use borrow.Author.Tests.{le-ltb, leb-true, eqb-true, ne_eqb}
@@ -10,7 +10,7 @@ use lib.Dec.{leb, ltb, eqb}
 use lib.ListN.{length, take, drop, get_or, replicate, length-replicate, length-append, length-drop}
 use lib.Seq.{length-take-le, drop-drop, drop-cons, drop-length, split_at, paste}
 use Rattle.coding.specs.Bytes.{Bytes}
-use Rattle.coding.proofs.PageLaws.{none≢some, some_eq}
+use Rattle.coding.proofs.PageLaws.{some_eq}
 use Rattle.coding.proofs.Cases.{and-true}
 use Rattle.parties.specs.declared.Measures.{Measures}
 use Rattle.parties.specs.declared.ReadingIndex.{ReadingIndex}
@@ -45,10 +45,6 @@ use Rattle.parties.proofs.records.SizeLaws.{below_rows}
 use Rattle.parties.proofs.directory.UpdateEndLaws.{own_row_lem}
 use Rattle.parties.proofs.client.GateLaws.{some_value}
 use Rattle.parties.proofs.client.DrawLaws.{rows-count}
-
-pub no_rest : {A : Type 0} (o : Option (Read A)) → is_some o ≡ true → rest o ≡ none → ⊥
-no_rest none e n = true≢false (sym e)
-no_rest (some r) e n = none≢some (sym n)
 
 -- ---- a row's parts
 

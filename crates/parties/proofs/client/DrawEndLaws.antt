@@ -12,7 +12,7 @@ use Rattle.coding.specs.Pieces.{columns}
 use Rattle.parties.specs.declared.Measures.{Measures}
 use Rattle.parties.specs.declared.Sequence.{Sequence}
 use Rattle.parties.specs.declared.Version.{Version}
-use Rattle.parties.specs.declared.NextSequence.{NextSequence}
+use Rattle.std.specs.Prelude.{Some}
 use Rattle.parties.specs.protocol.Format.{Read, read_number, write_number, write_many, write_area}
 use Rattle.parties.specs.protocol.Measures.{passes}
 use Rattle.parties.specs.protocol.Pointer.{write_version}
@@ -102,7 +102,7 @@ module _ (s : Measures) (own : ℕ) (within : own < s.m) (p : Phase) (area : Lis
       drawn_bytes =
           let c = read.value in
           let g = storing_good s h v bytes ((hq, omega (arith, (sizes s h).clients)), simp (le-leb 1 q.0 one, lt-ltb own s.m within)) in
-          ap (λ (x : Option (Read Client)). on_client s client room [] x (λ c. draw s own c room (page_of c.phase) (NextSequence.Drawn q))) (found-reads s p area opened)
+          ap (λ (x : Option (Read Client)). on_client s client room [] x (λ c. draw s own c room (page_of c.phase) (Some q))) (found-reads s p area opened)
           ∙ (λ j. record {
             answer = stores v (columns s.k (length bytes));
             client =

@@ -1,19 +1,20 @@
 -- Laws of a deposit's first scan: what the rows show, the front of the store messages, the digests of the pieces.
 use mathlib.Core.Path.{◌≡◌, refl, sym, ap, subst, ◌∙◌}
-use mathlib.Core.Bool.{Bool, true, false, true≢false, cond}
+use mathlib.Core.Bool.{true, cond}
 use mathlib.Core.List.{List, [], ◌∷◌, ◌++◌, append_assoc, append-nil}
 use mathlib.Core.Option.{some}
-use Prim.Native.Nat.{ℕ, suc, ◌+◌, ◌-◌, ◌*◌, ◌%◌, ◌^◌, ◌<◌, ◌≤◌}
+use Prim.Native.Nat.{ℕ, suc, ◌+◌, ◌-◌, ◌*◌, ◌^◌, ◌<◌, ◌≤◌}
 use native.Mathlib.Omega.{arith}
 use borrow.Author.Tests.{leb-true}
 use lib.Dec.{ltb}
-use lib.ListN.{length, get_or, take, drop, set, replicate, length-replicate, length-append, length-set, length-drop, take-append-drop}
-use lib.Seq.{take_at, get_or_at, paste-suc, drop_at, set_at, take_all, drop-cons, drop-length, drop-drop, paste, length-paste, length-take-le}
+use lib.ListN.{length, get_or, take, drop, set, replicate, length-replicate, length-append, length-drop, take-append-drop}
+use lib.Seq.{take_at, drop_at, take_all, drop-cons, drop-length, drop-drop, paste, length-take-le}
 use Rattle.coding.specs.Bytes.{Bytes, tabulate}
 use Rattle.coding.specs.Pieces.{columns, piece}
 use Rattle.coding.specs.declared.answer.Refusal.{Refusal}
-use Rattle.coding.specs.declared.answer.SplitAnswer.{SplitAnswer}
-use Rattle.coding.specs.Answer.{Outcome, split_outcome}
+use Rattle.coding.specs.Answer.{Outcome, outcome}
+use Rattle.std.specs.Prelude.{Result, Ok, Err}
+use Rattle.std.specs.Result.{result_unwrap_or}
 use Rattle.coding.specs.Split.{SplitEnd, written, split}
 use Rattle.coding.proofs.SplitLaws.{split_done}
 use Rattle.coding.specs.Placed.{piece_digest}
@@ -44,7 +45,8 @@ use Rattle.parties.specs.client.Record.{work_at, is_some}
 use Rattle.parties.specs.client.Draw.{rows_of, room_digest, room_digests, stores_work}
 use Rattle.parties.proofs.records.BytesLaws.{Copied, copied_length, copied_block, copied_all}
 use Rattle.parties.proofs.records.PlaceLaws.{number_read}
-use Rattle.parties.proofs.records.SpliceLaws.{to_end, paste-join, many-part}
+use Rattle.parties.specs.records.Places.{splice}
+use Rattle.parties.proofs.records.SpliceLaws.{tagged, splice_front, to_end, paste-join, many-part}
 use Rattle.parties.proofs.client.AreaLaws.{byte_written, ShownClient, work_front}
 use Rattle.parties.proofs.client.FormLaws.{sizes}
 use Rattle.parties.proofs.client.GateLaws.{some_value}
@@ -129,28 +131,16 @@ module _ (l : List Row) (n : ℕ) (e : length l ≡ n) where
 
 -- ---- the front of the store messages
 
-pub front_put : (v : Version) (room : List ℕ) → v.client < 256 → 6 ≤ length room
-    → set (paste (set room 0 1) 1 (write_number 4 v.sequence.0) 4) 5 v.client ≡ write_to_node (ToNode.store v []) ++ drop 6 room
-unfolding write_to_node write_version
-front_put v [] b h = absurd (omega arith)
-front_put v (x ∷ t) b h =
-    let w = write_number 4 v.sequence.0 in
-    let one = write_number 1 v.client in
-    let m : v.client % 256 ≡ v.client = omega arith in
-    ap (λ (l : List ℕ). set ((1 ∷ take 4 w) ++ l) 5 v.client) (drop-cons t 4 0 (omega arith))
-    ∙ set_at (1 ∷ take 4 w) (get_or t 4 0) (drop 5 t) v.client 5 (ap suc (length-take-le 4 w (omega (arith, length-number 4 v.sequence.0))))
-    ∙ ap (λ (l : List ℕ). 1 ∷ (l ++ v.client ∷ drop 5 t)) (take_all 4 w (omega (arith, length-number 4 v.sequence.0)))
-    ∙ ap (λ (l : List ℕ). 1 ∷ (w ++ l)) (sym (byte_written v.client (drop 5 t) m))
-    ∙ ap (λ (l : List ℕ). 1 ∷ l) (sym (ap (λ (l : List ℕ). l ++ drop 5 t) (append-nil (w ++ one)) ∙ append_assoc w one (drop 5 t)))
-
-pub length_front_put : (v : Version) (room : List ℕ) → 6 ≤ length room
-    → length (set (paste (set room 0 1) 1 (write_number 4 v.sequence.0) 4) 5 v.client) ≡ length room
-length_front_put v room h =
-    let w = write_number 4 v.sequence.0 in
-    let l : length (set room 0 1) ≡ length room = length-set room 0 1 in
-    length-set (paste (set room 0 1) 1 w 4) 5 v.client
-    ∙ length-paste (set room 0 1) 1 w 4 (omega arith) (omega (arith, length-number 4 v.sequence.0))
-    ∙ l
+pub front_put : (v : Version) (room : List ℕ) → 6 ≤ length room
+    → paste (set room 0 1) 1 (write_version v) 5 ≡ write_to_node (ToNode.store v []) ++ drop 6 room
+unfolding write_to_node
+front_put v room h =
+    let w = write_version v in
+    let l : length w ≡ 5 = length-version v in
+    tagged room 1 w 0 5 (omega arith) (omega arith)
+    ∙ ap (λ (x : List ℕ). splice room 0 (1 ∷ x)) (take_all 5 w (omega arith))
+    ∙ splice_front room (1 ∷ w)
+    ∙ (λ j. (1 ∷ sym (append-nil w) j) ++ drop (suc (l j)) room)
 
 -- ---- digests
 
@@ -234,20 +224,6 @@ digests-there s h v bytes room short enough =
 
 -- ---- the work area
 
-pub version_put : (t : List ℕ) (at : ℕ) (v : Version) → v.client < 256 → at + 5 ≤ length t
-    → set (paste t at (write_number 4 v.sequence.0) 4) (at + 4) v.client ≡ paste t at (write_version v) 5
-unfolding write_version
-version_put t at v b h =
-    let w = write_number 4 v.sequence.0 in
-    let lw : length w ≡ 4 = length-number 4 v.sequence.0 in
-    let one = write_number 1 v.client in
-    let m : v.client % 256 ≡ v.client = omega arith in
-    let e : one ≡ v.client ∷ [] = sym (append-nil one) ∙ byte_written v.client [] m in
-    let g : get_or (w ++ one) 4 0 ≡ v.client = ap (λ (l : List ℕ). get_or (w ++ l) 4 0) e ∙ get_or_at w v.client [] 0 4 lw in
-    let k : take 4 w ≡ take 4 (w ++ one) = take_all 4 w (omega arith) ∙ sym (take_at w one 4 lw) in
-    let l : 4 < length (w ++ one) = omega (arith, length-append w one, length-number 1 v.client) in
-    (λ i. set (take at t ++ k i ++ drop (at + 4) t) (at + 4) (sym g i)) ∙ paste-suc t at (w ++ one) 4 0 (omega arith) l
-
 -- the four writes of a deposit's work
 pub stores_put : (s : Measures) → passes s ≡ true → (v : Version) (ds t : List ℕ) (at rest : ℕ) → length ds ≡ 32 * s.n → at + work_size s ≤ length t
     → rest ≡ at + 7 + 32 * s.n
@@ -320,23 +296,20 @@ module _ (s : Measures) (h : passes s ≡ true) (v : Version) (page room : List 
   cut_end =
       split_done s.n s.k s.f page behind (proper_passed s (passed s h)) (rw (to_end room 6) (omega (arith, length-drop 6 room))) short
 
-  -- the answer is a length of pieces
-  pub split-gives : (a : SplitAnswer) → split_outcome a ≡ (split s.n s.k s.f page behind).outcome → (len : ℕ) → a ≡ SplitAnswer.Pieces len
-      → len ≡ columns s.k (length page)
-  split-gives a e len f =
-      ap given (sym (ap split_outcome f) ∙ e ∙ ap (λ (x : SplitEnd). x.outcome) cut_end)
+  -- the measures and the room that pass are not refused
+  pub split-refuses : (r : Refusal) → outcome (Err r) ≡ (split s.n s.k s.f page behind).outcome → ⊥
+  split-refuses r e = gives_none (sym (ap (λ (x : SplitEnd). x.outcome) cut_end) ∙ sym e)
     where
-      given : Outcome → ℕ
-      given (Outcome.gives n) = n
-      given (Outcome.refuses n) = 0
+      gives_none : {m n : ℕ} → Outcome.gives m ≡ Outcome.refuses n → ⊥
+      gives_none f = cc
 
-  pub split-refuses : (a : SplitAnswer) → split_outcome a ≡ (split s.n s.k s.f page behind).outcome → (r : Refusal) → a ≡ SplitAnswer.Refused r → ⊥
-  split-refuses a e r f =
-      true≢false (ap gives (sym (ap (λ (x : SplitEnd). x.outcome) cut_end) ∙ sym e ∙ ap split_outcome f))
+  -- the answer is the length of a piece
+  pub split-gives : (a : Result ℕ Refusal) → outcome a ≡ (split s.n s.k s.f page behind).outcome → result_unwrap_or a 0 ≡ columns s.k (length page)
+  split-gives (Ok len) e = gives_same (e ∙ ap (λ (x : SplitEnd). x.outcome) cut_end)
     where
-      gives : Outcome → Bool
-      gives (Outcome.gives n) = true
-      gives (Outcome.refuses n) = false
+      gives_same : {m n : ℕ} → Outcome.gives m ≡ Outcome.gives n → m ≡ n
+      gives_same f = cc
+  split-gives (Err r) e = absurd (split-refuses r e)
 
   pub split-room : (u : List ℕ) → u ≡ (split s.n s.k s.f page behind).room
       → write_to_node (ToNode.store v []) ++ drop 6 (take 6 room ++ (u ++ drop (length room - 6) (drop 6 room))) ≡ stores_room s v page room

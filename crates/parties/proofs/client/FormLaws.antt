@@ -404,13 +404,20 @@ module _ (s : Measures) (u : List ℕ) where
   unfolding read_work
   work_storing = rest-mapped (λ x. Work.storing x.version x.acknowledged x.digests) (read_stores s) u
 
-  pub work_updating : rest (read_work s 3 u) ≡ rest (read_some s u)
+  work_updating : rest (read_work s 3 u) ≡ rest (read_some s u)
   unfolding read_work
   work_updating = rest-mapped Work.updating (read_some s) u
 
-  pub work_freezing : rest (read_work s 4 u) ≡ rest (read_some s u)
+  work_freezing : rest (read_work s 4 u) ≡ rest (read_some s u)
   unfolding read_work
   work_freezing = rest-mapped Work.freezing (read_some s) u
+
+  pub work_some : (n : ℕ) → 3 ≤ n → n ≤ 4 → rest (read_work s n u) ≡ rest (read_some s u)
+  work_some n a b = go (ℕ_discrete n 3)
+    where
+      go : Dec (n ≡ 3) → rest (read_work s n u) ≡ rest (read_some s u)
+      go (yes e) = rw e work_updating
+      go (no e) = let f : n ≡ 4 = omega arith in rw f work_freezing
 
   work_raising : rest (read_work s 5 u) ≡ some u
   unfolding read_work

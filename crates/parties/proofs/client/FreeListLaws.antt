@@ -386,10 +386,6 @@ module _ (t : List ℕ) (b : Bytes t) (v : Version) (n j : ℕ) (e : j ≡ rank 
             ∙ ap (splice t 1) (sym (ap (write_many write_version) q ∙ many-append write_version (list_in j t) (v ∷ r)));
       }
 
-pub adds_out : (b : Bool) (v : Version) (n : ℕ) (t : List ℕ) → b ≡ true → Adds b v n t n t
-adds_out true v n t e = (refl, refl)
-adds_out false v n t e = absurd (true≢false (sym e))
-
 pub adds_in : (b : Bool) (v : Version) (n : ℕ) (t : List ℕ) (r : ℕ) (u : List ℕ) → b ≡ false → Added v n t r u → Adds b v n t r u
 adds_in true v n t r u e a = absurd (true≢false e)
 adds_in false v n t r u e a = a
@@ -530,10 +526,3 @@ pub kept_second : (v a f b g : Version) → a ≡ f → same_version v a ≡ fal
 kept_second v a f b g p e q =
     same-listed v b ∙ ap (λ (x : Version). listed v (x ∷ [])) q
     ∙ ap (λ (c : Bool). c || listed v (g ∷ [])) (sym e ∙ same-listed v a ∙ ap (λ (x : Version). listed v (x ∷ [])) p)
-
-module _ (t : List ℕ) (n j : ℕ) (v : Version) where
-  pub reaches_none : n ≤ j → false ≡ (ltb j n && not (below v (version_at t (1 + j * 5))))
-  reaches_none h = sym (simp (le-ltb j n h))
-
-  pub reaches_here : j < n → (w : Version) → w ≡ version_at t (1 + j * 5) → not (below v w) ≡ (ltb j n && not (below v (version_at t (1 + j * 5))))
-  reaches_here h w e = ap (λ (x : Version). not (below v x)) e ∙ sym (simp (lt-ltb j n h))

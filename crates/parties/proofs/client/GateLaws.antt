@@ -20,7 +20,10 @@ use Rattle.parties.specs.protocol.ClientEvents.{Step, ClientEnd, unchanged, afte
 use Rattle.parties.proofs.protocol.formats.PointerLaws.{length-number}
 use Rattle.parties.specs.declared.Phase.{Phase}
 use Rattle.parties.specs.declared.Refusal.{Refusal}
-use Rattle.parties.specs.declared.client.gate.Gate.{Gate}
+use Rattle.std.specs.Prelude.{Option as StdOption, Some, None, Result, Ok, Err}
+use Rattle.std.specs.Option.{ok_or}
+use Rattle.std.specs.Result.{IsErrAnd}
+use Rattle.std.proofs.lemmas.Result.{err_from_is_err_and}
 use Rattle.parties.specs.records.Answer.{number}
 use Rattle.parties.specs.client.Record.{record_of, area_size, is_some, work_at}
 use Rattle.parties.specs.client.Gate.{Gated}
@@ -95,13 +98,13 @@ some_value none e = absurd (true≢false (sym e))
 some_value (some a) e = (a, refl)
 
 -- the gate of an event: measures that pass and slices that are long enough are told in one
-module _ (s : Measures) (p : Phase) (area : List ℕ) (long enough within : Bool) (e : enough ≡ (passes s && long)) (r : Gate) (g : Gated s p area enough within r) where
-  pub gated_open : r ≡ Gate.Open → (passes s ≡ true) × (long ≡ true) × (within ≡ true) × (is_some (read_client s (record_of p area)) ≡ true)
-  gated_open q =
+module _ (s : Measures) (p : Phase) (area : List ℕ) (long enough within : Bool) (e : enough ≡ (passes s && long)) (r : Result (Unit {0}) Refusal) (g : Gated s p area enough within r) where
+  pub gated_open : (x : Unit {0}) → r ≡ Ok x → (passes s ≡ true) × (long ≡ true) × (within ≡ true) × (is_some (read_client s (record_of p area)) ≡ true)
+  gated_open x q =
       let o = subst (Gated s p area enough within) q g in
       let m = and-true (passes s) long (sym e ∙ o.0) in (m.0, m.1, o.1, o.2)
 
-  pub gated_shut : (n : Refusal) → r ≡ Gate.Shut n → (room out : List ℕ) (f : Client → Step)
+  pub gated_shut : (n : Refusal) → r ≡ Err n → (room out : List ℕ) (f : Client → Step)
       → guarded s long within (on_client s (record_of p area) room out (read_client s (record_of p area)) f) (λ a. unchanged a (record_of p area) room out)
       ≡ unchanged (refused (number n)) (record_of p area) room out
   gated_shut n q room out f =
@@ -132,6 +135,10 @@ pub record Opened (s : Measures) (p : Phase) (area : List ℕ) : Type 0 where
   pub bytes : Bytes area
   pub reads : is_some (read_client s (record_of p area)) ≡ true
 
+pub opens : (s : Measures) (p : Phase) (area : List ℕ) → passes s ≡ true → is_some (read_client s (record_of p area)) ≡ true
+    → p.step < 256 → p.reading.0 < 256 ^ 4 → Bytes area → Opened s p area
+opens s p area h r a b c = record { measures = h; step = a; reading = b; bytes = c; reads = r }
+
 module _ (s : Measures) (p : Phase) (area : List ℕ) (opened : Opened s p area) where
   -- the client whose record it is
   abbrev pub found : Read Client
@@ -145,3 +152,29 @@ module _ (s : Measures) (p : Phase) (area : List ℕ) (opened : Opened s p area)
 
   pub work_within : work_at s + work_size s ≤ length area
   work_within = omega (arith, area_length s opened.measures p area found.value found.rest found-shows)
+
+-- an event that its gate lets through
+pub record Entered (s : Measures) (p : Phase) (area : List ℕ) (long numbers : Bool) : Type 0 where
+  pub opened : Opened s p area
+  pub enough : long ≡ true
+  pub within : numbers ≡ true
+
+pub enters : (s : Measures) (p : Phase) (area : List ℕ) (long enough numbers : Bool) → enough ≡ (passes s && long)
+    → (r : Result (Unit {0}) Refusal) → Gated s p area enough numbers r → (x : Unit {0}) → r ≡ Ok x
+    → p.step < 256 → p.reading.0 < 256 ^ 4 → Bytes area → Entered s p area long numbers
+enters s p area long enough numbers e r g x q a b c =
+    let o = gated_open s p area long enough numbers e r g x q in
+    record { opened = record { measures = o.0; step = a; reading = b; bytes = c; reads = o.3 }; enough = o.1; within = o.2 }
+
+-- the refusal that a `?` hands on
+pub handed : {T : Type 0} (n : Refusal) (r : Result T Refusal) → IsErrAnd r (λ x. x ≡ n) → r ≡ Err n
+handed n r e = let p = err_from_is_err_and r e in p.1 ∙ ap Err p.2
+
+-- an option as a result
+pub some_result : {A : Type 0} (n : Refusal) {o : StdOption A} {x : A} → ok_or o n ≡ Ok x → o ≡ Some x
+some_result n {o = None} e = absurd (cc)
+some_result n {o = Some y} e = cc
+
+pub none_result : {A : Type 0} (n : Refusal) {r : Refusal} {o : StdOption A} → ok_or o n ≡ Err r → (o ≡ None) × (r ≡ n)
+none_result n {o = None} e = (refl, cc)
+none_result n {o = Some y} e = absurd (cc)

@@ -89,25 +89,27 @@ module _ (n map : ℕ) (t : List ℕ) (at : ℕ) where
 -- ---- the walk
 
 -- the digests of the nodes up to i are moved; from the next on, all is as it was
-pub record Gathered (n map : ℕ) (t : List ℕ) (at : ℕ) (u : List ℕ) (from to i : ℕ) : Type 0 where
+pub record Gathered (n map : ℕ) (t : List ℕ) (at : ℕ) (u : List ℕ) (to i : ℕ) : Type 0 where
   pub within : i ≤ n
-  pub source : from ≡ at + 7 + 32 * i
   pub target : to ≡ at + 7 + length (gathered n map t at i)
   pub moved : u ≡ splice t (at + 7) (gathered n map t at i)
 
 module _ (n map : ℕ) (t : List ℕ) (at : ℕ) (ht : at + 7 + 32 * n ≤ length t) where
-  pub walk_none : Gathered n map t at t (at + 7) (at + 7) 0
+  pub walk_none : Gathered n map t at t (at + 7) 0
   walk_none =
       record {
         within = omega arith;
-        source = omega arith;
         target = omega (arith, ap length (gathered_none n map t at));
         moved = splice_self t (at + 7) 0 ∙ ap (splice t (at + 7)) (sym (gathered_none n map t at));
       }
 
-  module _ (u : List ℕ) (from to i : ℕ) (w : Gathered n map t at u from to i) where
+  module _ (u : List ℕ) (to i : ℕ) (w : Gathered n map t at u to i) where
+    -- where the next digest stands
+    abbrev from : ℕ
+    from = at + 7 + 32 * i
+
     pub walk_down : to ≤ from
-    walk_down = omega (arith, w.source, w.target, gathered_length n map t at ht i w.within, nodes-few map i)
+    walk_down = omega (arith, w.target, gathered_length n map t at ht i w.within, nodes-few map i)
 
     pub walk_length : length u ≡ length t
     walk_length =
@@ -116,32 +118,28 @@ module _ (n map : ℕ) (t : List ℕ) (at : ℕ) (ht : at + 7 + 32 * n ≤ lengt
 
     pub walk_more : i < n → (r : ℕ) (v : List ℕ) → r ≡ cond (stands map (i + 1)) (to + 32) to
         → v ≡ cond (stands map (i + 1)) (splice u to (take 32 (drop from u))) u
-        → Gathered n map t at v (from + 32) r (i + 1)
+        → Gathered n map t at v r (i + 1)
     walk_more h r v e f = go (stands map (i + 1)) refl e f
       where
         go : (b : Bool) → stands map (i + 1) ≡ b → r ≡ cond b (to + 32) to → v ≡ cond b (splice u to (take 32 (drop from u))) u
-            → Gathered n map t at v (from + 32) r (i + 1)
+            → Gathered n map t at v r (i + 1)
         go true e x y =
             let g = gathered n map t at i in
-            let d = take 32 (drop (at + 7 + 32 * i) t) in
+            let d = take 32 (drop from t) in
             let ld : length d ≡ 32 = part_length n map t at ht i h in
             let lg : at + 7 + length g ≤ from = omega (arith, walk_down, w.target) in
-            let f : drop from u ≡ drop (at + 7 + 32 * i) t =
-            ap (drop from) w.moved ∙ drop-splice t (at + 7) g (omega arith) from lg ∙ ap (λ (k : ℕ). drop k t) w.source
-            in
+            let f : drop from u ≡ drop from t = ap (drop from) w.moved ∙ drop-splice t (at + 7) g (omega arith) from lg in
             record {
               within = omega arith;
-              source = omega (arith, w.source);
               target = omega (arith, x, w.target, ap length (gathered_more n map t at i h e), length-append g d, ld);
               moved =
                   y ∙ (λ j. splice (w.moved j) to (take 32 (f j)))
-                  ∙ splice-next t (at + 7) g d to w.target (omega (arith, walk_down, w.source, ld))
+                  ∙ splice-next t (at + 7) g d to w.target (omega (arith, walk_down, ld))
                   ∙ ap (splice t (at + 7)) (sym (gathered_more n map t at i h e));
             }
         go false e x y =
             record {
               within = omega arith;
-              source = omega (arith, w.source);
               target = x ∙ w.target ∙ ap (λ (l : List ℕ). at + 7 + length l) (sym (gathered_skip n map t at i e));
               moved = y ∙ w.moved ∙ ap (splice t (at + 7)) (sym (gathered_skip n map t at i e));
             }
@@ -159,8 +157,8 @@ module _ (s : Measures) (h : passes s ≡ true) (map : ℕ) (b : map < 2 ^ s.n) 
   digests_are =
       ap (λ (l : List ℕ). write_many (λ d. d) (each (λ j. get_or (digests_in s.n t at) (j - 1) []) l)) (sym (nodes-all map s.n b (sizes s h).nodes))
 
-  pub walk_all : (u : List ℕ) (from to i : ℕ) → Gathered s.n map t at u from to i → s.n ≤ i → u ≡ splice t (at + 7) digests
-  walk_all u from to i w l =
+  pub walk_all : (u : List ℕ) (to i : ℕ) → Gathered s.n map t at u to i → s.n ≤ i → u ≡ splice t (at + 7) digests
+  walk_all u to i w l =
       let e : i ≡ s.n = omega (arith, w.within) in
       w.moved ∙ ap (λ (k : ℕ). splice t (at + 7) (gathered s.n map t at k)) e ∙ ap (splice t (at + 7)) digests_are
 

@@ -6,8 +6,8 @@ use Prim.Native.Nat.{ℕ, suc, ◌+◌, ◌-◌, ◌<◌, ◌≤◌}
 use native.Mathlib.Omega.{arith}
 use borrow.Author.Tests.{eq-eqb, ne_eqb, le-leb, lt-leb, not-true}
 use lib.Dec.{eqb}
-use lib.ListN.{length, get_or, take, drop, length-append, drop_of_length-le}
-use lib.Seq.{drop-cons}
+use lib.ListN.{length, get_or, take, drop, length-append}
+use lib.Pointwise.{pointwise}
 use Rattle.coding.specs.Placed.{piece_digest}
 use Rattle.coding.specs.Nodes.{all, nodes_of}
 use Rattle.coding.proofs.Cases.{and-true}
@@ -53,28 +53,13 @@ module _ (named counted : ℕ) where
 
 -- ---- bytes that are the same
 
-module _ (d t : List ℕ) (at : ℕ) (k : length d ≡ 32) (h : at + 32 ≤ length t) where
-  -- the bytes from place l on
-  abbrev pub same_from : ℕ → Bool
-  same_from l = same_bytes (drop l d) (take (32 - l) (drop (at + l) t))
-
-  pub same_start : same_bytes d (take 32 (drop at t)) ≡ same_from 0
-  same_start = let e : at ≡ at + 0 = omega arith in ap (λ (x : ℕ). same_bytes d (take 32 (drop x t))) e
-
-  pub same_turn : (l : ℕ) → l < 32 → same_from l ≡ (eqb (get_or d l 0) (get_or t (at + l) 0) && same_from (l + 1))
-  unfolding same_bytes
-  same_turn l b =
-      let e : 32 - l ≡ suc (32 - (l + 1)) = omega arith in
-      let f : suc l ≡ l + 1 = omega arith in
-      let g : suc (at + l) ≡ at + (l + 1) = omega arith in
-      (λ i. same_bytes (drop-cons d l 0 (omega arith) i) (take (e i) (drop-cons t (at + l) 0 (omega arith) i)))
-      ∙ (λ i. eqb (get_or d l 0) (get_or t (at + l) 0) && same_bytes (drop (f i) d) (take (32 - (l + 1)) (drop (g i) t)))
-
-  pub same_end : (l : ℕ) → 32 ≤ l → same_from l ≡ true
-  unfolding same_bytes
-  same_end l b =
-      let e : 32 - l ≡ 0 = omega arith in
-      (λ i. same_bytes (drop_of_length-le d {i = l} (omega arith) i) (take (e i) (drop (at + l) t)))
+-- as the library compares them
+pub same_pointwise : (s t : List ℕ) → pointwise eqb s t ≡ same_bytes s t
+unfolding same_bytes
+same_pointwise [] [] = refl
+same_pointwise [] (y ∷ t) = refl
+same_pointwise (x ∷ s) [] = refl
+same_pointwise (x ∷ s) (y ∷ t) = ap (λ (b : Bool). eqb x y && b) (same_pointwise s t)
 
 -- ---- a node's digest
 

@@ -19,6 +19,7 @@ use Rattle.parties.specs.protocol.Answer.{ClientAnswer, refused, waits}
 use Rattle.parties.specs.protocol.Client.{Client, read_client}
 use Rattle.parties.specs.protocol.ClientEvents.{stays, ClientEnd, room_size, unchanged, on_client, guarded, on_message, message_at, client_message}
 use Rattle.parties.specs.declared.Phase.{Phase}
+use Rattle.std.specs.Prelude.{Option as StdOption, Some, None}
 use Rattle.parties.specs.declared.client.tell.Told.{Told}
 use Rattle.parties.specs.client.Record.{record_of, area_size, is_some}
 use Rattle.parties.specs.client.Publish.{stored_end}
@@ -30,8 +31,8 @@ use Rattle.parties.proofs.client.TellLaws.{reply-long}
 
 -- ---- by what is told
 
-module _ (s : Measures) (i : ℕ) (client message room out : List ℕ) (r : Told) (e : told_by message r ≡ read_to_client s message) where
-  told_as : (k : Told) → r ≡ k
+module _ (s : Measures) (i : ℕ) (client message room out : List ℕ) (r : StdOption Told) (e : told_by message r ≡ read_to_client s message) where
+  told_as : (k : StdOption Told) → r ≡ k
       → received_end s i client message room out
       ≡ on_client s client room out (read_client s client) (λ c. on_message (told_by message k) (λ m. message_at s i c room out m))
   unfolding received_end
@@ -39,35 +40,35 @@ module _ (s : Measures) (i : ℕ) (client message room out : List ℕ) (r : Told
       ap (λ (x : Option ToClient). on_client s client room out (read_client s client) (λ c. on_message x (λ m. message_at s i c room out m)))
       (sym e ∙ ap (told_by message) f)
 
-  pub told-stored : (v : Version) → r ≡ Told.Stored v → received_end s i client message room out ≡ stored_end s i v client room out
+  pub told-stored : (v : Version) → r ≡ Some (Told.Stored v) → received_end s i client message room out ≡ stored_end s i v client room out
   unfolding stored_end
-  told-stored v f = told_as (Told.Stored v) f
+  told-stored v f = told_as (Some (Told.Stored v)) f
 
   -- with the piece as the code lends it
-  pub told-reply : (v : Version) → r ≡ Told.Reply v
+  pub told-reply : (v : Version) → r ≡ Some (Told.Reply v)
       → received_end s i client message room out ≡ replied_end s i v (some (take (length message - 7) (drop 7 message))) client room out
   unfolding replied_end
   told-reply v f =
-      told_as (Told.Reply v) f
+      told_as (Some (Told.Reply v)) f
       ∙ ap (λ (x : List ℕ). replied_end s i v (some x) client room out)
       (sym (take_all (length message - 7) (drop 7 message) (omega (arith, length-drop 7 message))))
 
-  pub told-missing : (v : Version) → r ≡ Told.Missing v → received_end s i client message room out ≡ replied_end s i v none client room out
+  pub told-missing : (v : Version) → r ≡ Some (Told.Missing v) → received_end s i client message room out ≡ replied_end s i v none client room out
   unfolding replied_end
-  told-missing v f = told_as (Told.Missing v) f
+  told-missing v f = told_as (Some (Told.Missing v)) f
 
   -- a step that changes nothing
   still : (a : ClientAnswer) (o : Option (Read Client)) → is_some o ≡ true → on_client s client room out o (λ c. stays a) ≡ unchanged a client room out
   still a none g = absurd (true≢false (sym g))
   still a (some x) g = refl
 
-  pub told-freed : r ≡ Told.Freed → is_some (read_client s client) ≡ true → received_end s i client message room out ≡ unchanged waits client room out
-  told-freed f g = told_as Told.Freed f ∙ still waits (read_client s client) g
+  pub told-freed : r ≡ Some Told.Freed → is_some (read_client s client) ≡ true → received_end s i client message room out ≡ unchanged waits client room out
+  told-freed f g = told_as (Some Told.Freed) f ∙ still waits (read_client s client) g
 
-  pub told-broken : r ≡ Told.Broken → is_some (read_client s client) ≡ true → received_end s i client message room out ≡ unchanged (refused 4) client room out
-  told-broken f g = told_as Told.Broken f ∙ still (refused 4) (read_client s client) g
+  pub told-broken : r ≡ None → is_some (read_client s client) ≡ true → received_end s i client message room out ≡ unchanged (refused 4) client room out
+  told-broken f g = told_as None f ∙ still (refused 4) (read_client s client) g
 
-pub told-long : (s : Measures) (message : List ℕ) (r : Told) → told_by message r ≡ read_to_client s message → (v : Version) → r ≡ Told.Reply v → 7 ≤ length message
+pub told-long : (s : Measures) (message : List ℕ) (r : StdOption Told) → told_by message r ≡ read_to_client s message → (v : Version) → r ≡ Some (Told.Reply v) → 7 ≤ length message
 told-long s message r e v f = reply-long s message v (drop 7 message) (sym (ap (told_by message) f) ∙ e)
 
 -- ---- the gate

@@ -25,13 +25,6 @@ pub part_cut : (s : List ℕ) (n : ℕ) → n ≡ count (map_of s) → take (7 +
 unfolding pointer_part
 part_cut s n e = ap (λ (x : ℕ). take (7 + 32 * x) s) e
 
-module _ (written frozen : List ℕ) (i frozen_index : ReadingIndex) where
-  pub picked_written : ltb frozen_index.0 i.0 ≡ true → picked_part written frozen i frozen_index ≡ pointer_part written
-  picked_written e = ap (λ (b : Bool). cond b (pointer_part written) (pointer_part frozen)) e
-
-  pub picked_frozen : ltb frozen_index.0 i.0 ≡ false → picked_part written frozen i frozen_index ≡ pointer_part frozen
-  picked_frozen e = ap (λ (b : Bool). cond b (pointer_part written) (pointer_part frozen)) e
-
 -- ---- the part is the pointer, where one stands
 
 module _ (m : Measures) (p : Pointer) (g : GoodPointer m p) where

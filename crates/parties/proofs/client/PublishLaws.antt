@@ -63,9 +63,8 @@ abbrev frozen_to : Measures → List ℕ → ℕ → List ℕ
 frozen_to s area q = write_many write_pointer (take q (retained_in s area).frozen)
 
 -- they stand in the room from a place on
-pub record Laid (s : Measures) (area room : List ℕ) (at : ℕ) (u : List ℕ) (end from q : ℕ) : Type 0 where
+pub record Laid (s : Measures) (area room : List ℕ) (at : ℕ) (u : List ℕ) (end q : ℕ) : Type 0 where
   pub within : q ≤ s.m
-  pub source : from ≡ (q + 1) * pointer_size s
   pub target : end ≡ at + length (frozen_to s area q)
   pub laid : u ≡ splice room at (frozen_to s area q)
 
@@ -103,20 +102,23 @@ module _ (s : Measures) (area : List ℕ) (b : Bytes area) (o : is_some (read_re
   frozen_full : frozen_to s area s.m ≡ write_many write_pointer x.frozen
   frozen_full = ap (write_many write_pointer) (take_all s.m x.frozen (omega (arith, there.good.frozen.1)))
 
-  pub laid_none : (room : List ℕ) (at size : ℕ) → size ≡ pointer_size s → at ≤ length room → Laid s area room at room at size 0
+  pub laid_none : (room : List ℕ) (at : ℕ) → at ≤ length room → Laid s area room at room at 0
   unfolding write_many
-  laid_none room at size e h =
-      record { within = omega arith; source = omega arith; target = omega arith; laid = splice_self room at 0 }
+  laid_none room at h = record { within = omega arith; target = omega arith; laid = splice_self room at 0 }
 
-  module _ (room : List ℕ) (at : ℕ) (fits : at + s.m * pointer_size s ≤ length room) (u : List ℕ) (end from q : ℕ) (w : Laid s area room at u end from q) where
+  module _ (room : List ℕ) (at : ℕ) (fits : at + s.m * pointer_size s ≤ length room) (u : List ℕ) (end q : ℕ) (w : Laid s area room at u end q) where
     pub laid-length : length u ≡ length room
     laid-length = ap length w.laid ∙ length-splice room at (frozen_to s area q) (omega (arith, frozen-few q, mul-le-mul_right (pointer_size s) w.within))
 
+    -- where the next pointer stands
+    abbrev from : ℕ
+    from = (q + 1) * pointer_size s
+
     pub laid_from : q < s.m → area_size s ≤ length area → from ≤ length area
-    laid_from l h = omega (arith, w.source, stride q (pointer_size s), below_rows q s.m (pointer_size s) l, stride s.m (pointer_size s))
+    laid_from l h = omega (arith, stride q (pointer_size s), below_rows q s.m (pointer_size s) l, stride s.m (pointer_size s))
 
     part_is : q < s.m → pointer_part (drop from area) ≡ write_pointer (nth q)
-    part_is l = ap (λ (k : ℕ). pointer_part (drop k area)) w.source ∙ nth_own q l
+    part_is l = nth_own q l
 
     pub laid-fits : q < s.m → end + length (pointer_part (drop from area)) ≤ length u
     laid-fits l =
@@ -131,13 +133,12 @@ module _ (s : Measures) (area : List ℕ) (b : Bytes area) (o : is_some (read_re
         )
 
     pub laid_more : q < s.m → (r : ℕ) (v : List ℕ) → r ≡ end + length (pointer_part (drop from area)) → v ≡ splice u end (pointer_part (drop from area))
-        → (size : ℕ) → size ≡ pointer_size s → Laid s area room at v r (from + size) (q + 1)
-    laid_more l r v e f size g =
+        → Laid s area room at v r (q + 1)
+    laid_more l r v e f =
         let y = write_pointer (nth q) in
         let z : length (pointer_part (drop from area)) ≡ length y = ap length (part_is l) in
         record {
           within = omega arith;
-          source = omega (arith, w.source, stride (q + 1) (pointer_size s));
           target = omega (arith, w.target, ap length (frozen-next q l), length-append (frozen_to s area q) y);
           laid =
               f ∙ (λ j. splice (w.laid j) end (part_is l j))

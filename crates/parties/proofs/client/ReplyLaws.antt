@@ -36,6 +36,7 @@ use Rattle.parties.proofs.protocol.formats.ClientLaws.{GoodDigest, ShortPiece, G
 use Rattle.parties.specs.declared.Phase.{Phase}
 use Rattle.parties.specs.declared.ClientAnswer.{ClientAnswer}
 use Rattle.parties.specs.declared.client.reply.Standing.{Standing}
+use Rattle.std.specs.Prelude.{Ok}
 use Rattle.parties.specs.client.Answer.{answered}
 use Rattle.parties.specs.records.Places.{number_at}
 use Rattle.parties.specs.client.Record.{record_of, work_at}
@@ -377,7 +378,7 @@ module _ (s : Measures) (h : passes s ≡ true) (p : Phase) (area : List ℕ) (c
   module _ (n' m' : ℕ) (fits : n' < 256 ^ 2) (bits : m' < 2 ^ s.n) (few : count m' < s.k) (room out : List ℕ) where
     going : (client : List ℕ) → after s client room out rest (go_on c room out q n' m' ps)
         ≡ record {
-          answer = answered (went_on (all_counted q n'));
+          answer = answered (Ok (went_on (all_counted q n')));
           client = record_of (phase_after p (went_on (all_counted q n'))) (cond (all_counted q n') (cleared s area) (mapped s n' m' area));
           room = room;
           out = out;
@@ -394,7 +395,7 @@ module _ (s : Measures) (h : passes s ≡ true) (p : Phase) (area : List ℕ) (c
 
         go : (b : Bool) → after s client room out rest (cond b (does failed (with_phase Work.idle c) room out) (does waits (with_phase (Work.fetching q n' m' ps) c) room out))
             ≡ record {
-              answer = answered (went_on b);
+              answer = answered (Ok (went_on b));
               client = record_of (phase_after p (went_on b)) (cond b (cleared s area) (mapped s n' m' area));
               room = room;
               out = out;
@@ -512,18 +513,18 @@ module _ (s : Measures) (p : Phase) (area : List ℕ) (opened : Opened s p area)
       Ends x t y n' m' =
           (room out : List ℕ) (r : ClientAnswer) → r ≡ went_on (all (stands n') (nodes_in x.named))
           → (a : List ℕ) → a ≡ cond (all (stands n') (nodes_in x.named)) (cleared s t) (mapped s n' m' t)
-          → replied_end s i v y client room out ≡ record { answer = answered r; client = record_of (phase_after p r) a; room = room; out = out }
+          → replied_end s i v y client room out ≡ record { answer = answered (Ok r); client = record_of (phase_after p r) a; room = room; out = out }
 
       ends_at : (t : List ℕ) (y : Option (List ℕ)) (n' m' : ℕ)
           → ((room out : List ℕ) → replied_end s i v y client room out
           ≡ record {
-            answer = answered (went_on (all_counted held.pointer n'));
+            answer = answered (Ok (went_on (all_counted held.pointer n')));
             client = record_of (phase_after p (went_on (all_counted held.pointer n'))) (cond (all_counted held.pointer n') (cleared s t) (mapped s n' m' t));
             room = room;
             out = out;
           }) → Ends st t y n' m'
       ends_at t y n' m' f room out r re a ae =
-          f room out ∙ (λ j. record { answer = answered (sym re j); client = record_of (phase_after p (sym re j)) (sym ae j); room = room; out = out })
+          f room out ∙ (λ j. record { answer = answered (Ok (sym re j)); client = record_of (phase_after p (sym re j)) (sym ae j); room = room; out = out })
 
       went : (y : Option (List ℕ)) → counts_at st i v ≡ true
           → ((room out : List ℕ) → counted s i read.value room out held.pointer (with_node held.counted i) held.matching held.pieces y

@@ -10,7 +10,7 @@ use lib.ListN.{length, replicate}
 use lib.Seq.{paste}
 use Rattle.parties.specs.declared.Measures.{Measures}
 use Rattle.parties.specs.declared.Sequence.{Sequence}
-use Rattle.parties.specs.declared.NextSequence.{NextSequence}
+use Rattle.std.specs.Prelude.{Option as StdOption, Some, None}
 use Rattle.parties.specs.protocol.Format.{Read}
 use Rattle.parties.specs.protocol.Measures.{row_size}
 use Rattle.parties.specs.protocol.Version.{next_sequence}
@@ -94,20 +94,20 @@ module _ (s : Measures) (p : Phase) (area : List ℕ) (opened : Opened s p area)
         ∙ ap (after s client room [] read.rest) e
         ∙ ap (λ (x : Option (Read Client)). on_client s client room [] x f) (sym (found-reads s p area opened))
 
-    scanned-first : p.step ≡ 1 → (n : NextSequence) → next_sequence (highest l) ≡ n
+    scanned-first : p.step ≡ 1 → (n : StdOption Sequence) → next_sequence (highest l) ≡ n
         → scanned_end s own client rows room ≡ on_client s client room [] (read_client s client) (λ c. draw s own c room (page_of c.phase) n)
     scanned-first d n e =
         through_rows (λ c. draw s own c room (page_of c.phase) n)
         (ap (scanned_at s own c room l) (scanning-step c.phase (sym shows.stands ∙ d)) ∙ ap (draw s own c room (page_of c.phase)) e)
 
-    pub scanned_draws : p.step ≡ 1 → (q : Sequence) → next_sequence (highest l) ≡ NextSequence.Drawn q
+    pub scanned_draws : p.step ≡ 1 → (q : Sequence) → next_sequence (highest l) ≡ Some q
         → scanned_end s own client rows room ≡ draw_end s own q client room
     unfolding draw_end
-    scanned_draws d q e = scanned-first d (NextSequence.Drawn q) e
+    scanned_draws d q e = scanned-first d (Some q) e
 
-    pub scanned-spent : p.step ≡ 1 → next_sequence (highest l) ≡ NextSequence.Spent → scanned_end s own client rows room ≡ spent_end s client room
+    pub scanned-spent : p.step ≡ 1 → next_sequence (highest l) ≡ None → scanned_end s own client rows room ≡ spent_end s client room
     unfolding spent_end
-    scanned-spent d e = scanned-first d NextSequence.Spent e
+    scanned-spent d e = scanned-first d None e
 
     pub scanned_freezes : p.step ≡ 4 → scanned_end s own client rows room ≡ freeze_end s own client rows room
     unfolding freeze_end
@@ -127,14 +127,14 @@ module _ (s : Measures) (p : Phase) (area : List ℕ) (opened : Opened s p area)
         (other s own c room l c.phase (λ x. d (shows.stands ∙ x)) (λ x. e (shows.stands ∙ x)) (λ x. f (shows.stands ∙ x)))
 
 -- a sequence that is drawn is at least 1
-abbrev drawn_of : NextSequence → ℕ
-drawn_of (NextSequence.Drawn q) = q.0
-drawn_of NextSequence.Spent = 1
+abbrev drawn_of : StdOption Sequence → ℕ
+drawn_of (Some q) = q.0
+drawn_of None = 1
 
-pub drawn_one : (t q : Sequence) → next_sequence t ≡ NextSequence.Drawn q → 1 ≤ q.0
+pub drawn_one : (t q : Sequence) → next_sequence t ≡ Some q → 1 ≤ q.0
 drawn_one t q e = go (ltb t.0 4294967295) (ap drawn_of e)
   where
-    go : (b : Bool) → drawn_of (cond b (NextSequence.Drawn (record { 0 = t.0 + 1 })) NextSequence.Spent) ≡ q.0 → 1 ≤ q.0
+    go : (b : Bool) → drawn_of (cond b (Some (record { 0 = t.0 + 1 })) None) ≡ q.0 → 1 ≤ q.0
     go true f = omega arith
     go false f = omega arith
 

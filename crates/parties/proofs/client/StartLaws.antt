@@ -11,7 +11,7 @@ use lib.Seq.{drop_at, take_all, drop-drop, paste, take-paste, drop-paste}
 use Rattle.coding.specs.Bytes.{Bytes}
 use Rattle.parties.specs.declared.Measures.{Measures}
 use Rattle.parties.specs.declared.ReadingIndex.{ReadingIndex}
-use Rattle.parties.specs.declared.NextIndex.{NextIndex}
+use Rattle.std.specs.Prelude.{Option as StdOption, Some, None}
 use Rattle.parties.specs.protocol.Format.{Read, write_number, write_many, write_area}
 use Rattle.parties.specs.protocol.Version.{next_index}
 use Rattle.parties.specs.protocol.Directory.{write_index, map_of, write_content, write_fields, write_record}
@@ -133,18 +133,18 @@ module _ (s : Measures) (own : ℕ) (p : Phase) (area : List ℕ) (opened : Open
         reading_through ∙ ap (λ (x : Bool). went (cond x (raise read.value room (next_index read.value.reading_index)) (stays (refused 5))))
         (busy_step read.value.phase (λ e. d (shows.stands ∙ e)))
 
-    reading-idle : p.step ≡ 0 → (n : NextIndex) → next_index p.reading ≡ n → start_reading s own client room ≡ went (raise read.value room n)
+    reading-idle : p.step ≡ 0 → (n : StdOption ReadingIndex) → next_index p.reading ≡ n → start_reading s own client room ≡ went (raise read.value room n)
     unfolding begin_reading
     reading-idle d n e =
         reading_through
         ∙ ap (λ (x : Work). went (cond (is_idle x) (raise read.value room (next_index read.value.reading_index)) (stays (refused 5))))
         (idle-step read.value.phase (sym shows.stands ∙ d))
-        ∙ ap (λ (x : NextIndex). went (raise read.value room x)) (ap next_index (sym shows.reading) ∙ e)
+        ∙ ap (λ (x : StdOption ReadingIndex). went (raise read.value room x)) (ap next_index (sym shows.reading) ∙ e)
 
-    pub reading-spent : p.step ≡ 0 → next_index p.reading ≡ NextIndex.Spent → start_reading s own client room ≡ unchanged (refused 7) client room []
-    reading-spent d e = reading-idle d NextIndex.Spent e
+    pub reading-spent : p.step ≡ 0 → next_index p.reading ≡ None → start_reading s own client room ≡ unchanged (refused 7) client room []
+    reading-spent d e = reading-idle d None e
 
-    pub reading_raised : p.step ≡ 0 → (i : ReadingIndex) → next_index p.reading ≡ NextIndex.Raised i → 5 ≤ length room
+    pub reading_raised : p.step ≡ 0 → (i : ReadingIndex) → next_index p.reading ≡ Some i → 5 ≤ length room
         → start_reading s own client room
         ≡ record {
           answer = update 5;
@@ -157,7 +157,7 @@ module _ (s : Measures) (own : ℕ) (p : Phase) (area : List ℕ) (opened : Open
         let c = read.value in
         let n : length (write_record (reading_fields i)) ≡ 5 = ap length (reading_record i) ∙ omega (arith, length-number 4 i.0) in
         let w : write_work s Work.raising ≡ write_work s c.phase = ap (write_work s) (sym (idle-step c.phase (sym shows.stands ∙ d))) in
-        reading-idle d (NextIndex.Raised i) e
+        reading-idle d (Some i) e
         ∙ (λ j. record {
           answer = update (n j);
           client = turned-kept s opened.measures p area c read.rest shows Work.raising i w j;

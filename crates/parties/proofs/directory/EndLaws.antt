@@ -3,11 +3,11 @@ use mathlib.Core.Path.{◌≡◌, sym, ap, ◌∙◌}
 use mathlib.Core.Bool.{true, false}
 use mathlib.Core.List.{List, ◌++◌}
 use mathlib.Core.Option.{some}
-use Prim.Native.Nat.{ℕ, ◌<◌, ◌≤◌}
+use Prim.Native.Nat.{ℕ, ◌*◌, ◌<◌, ◌≤◌}
 use borrow.Author.Tests.{le-leb, lt-leb}
 use lib.ListN.{length, take, drop}
 use Rattle.parties.specs.declared.Measures.{Measures}
-use Rattle.parties.specs.protocol.Measures.{passes}
+use Rattle.parties.specs.protocol.Measures.{passes, row_size}
 use Rattle.parties.specs.protocol.Answer.{refuses, serves}
 use Rattle.parties.specs.protocol.Directory.{read_directory}
 use Rattle.parties.specs.protocol.Owner.{own_rows}
@@ -22,6 +22,10 @@ ends-room x e q = (sym (ap (λ (d : DirectoryEnd). d.answer) q), sym (ap (λ (d 
 
 pub ends-table : (x e : DirectoryEnd) → x ≡ e → (e.answer ≡ x.answer) × (e.table ≡ x.table)
 ends-table x e q = (sym (ap (λ (d : DirectoryEnd). d.answer) q), sym (ap (λ (d : DirectoryEnd). d.table) q))
+
+-- so many rows are the directory's bytes
+pub directory_bytes : (s : Measures) (size : ℕ) → size ≡ row_size s → s.m * size ≡ directory_size s
+directory_bytes s size e = ap (λ (k : ℕ). s.m * k) e
 
 -- ---- scan
 

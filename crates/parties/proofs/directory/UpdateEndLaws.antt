@@ -8,6 +8,7 @@ use native.Mathlib.Omega.{arith}
 use borrow.Author.Tests.{eq-eqb, leb-true, le-leb, lt-leb, lt-ltb, le-ltb}
 use lib.ListN.{length, take, drop, get_or, set, length-drop}
 use lib.Seq.{take_all, paste}
+use Rattle.std.specs.Prelude.{Result, Ok, Err}
 use Rattle.coding.specs.Bytes.{Bytes}
 use Rattle.coding.proofs.PageLaws.{none≢some, some_eq}
 use Rattle.parties.specs.declared.Measures.{Measures}
@@ -26,7 +27,7 @@ use Rattle.parties.proofs.protocol.formats.DirectoryLaws.{GoodRecord, format_rec
 use Rattle.parties.proofs.protocol.formats.VerdictLaws.{as_before}
 use Rattle.parties.proofs.protocol.formats.RowLaws.{GoodRow, FitsRow, format_row, format_directory, update_good, row_fits}
 use Rattle.parties.specs.declared.records.form.Ends.{Ends}
-use Rattle.parties.specs.declared.records.form.Record.{Record}
+use Rattle.parties.specs.declared.records.form.Fields.{Fields}
 use Rattle.parties.specs.declared.Refusal.{Refusal}
 use Rattle.parties.specs.records.Answer.{number}
 use Rattle.parties.specs.records.Form.{rest, Ended, holds, Walked, Recorded}
@@ -40,11 +41,11 @@ use Rattle.parties.proofs.directory.UpdateLaws.{ShownRecord, shown, renewed_row}
 
 -- ---- the record
 
-module _ (s : Measures) (own : ℕ) (t : List ℕ) (r : Record) (h : Recorded s own t r) where
-  pub recorded_sound : (e : Ends) (owned : Bool) → r ≡ Record.Sound e owned → Recorded s own t (Record.Sound e owned)
-  recorded_sound e owned q = subst (Recorded s own t) q h
+module _ (s : Measures) (own : ℕ) (t : List ℕ) (r : Result Fields Refusal) (h : Recorded s own t r) where
+  pub recorded_sound : (x : Fields) → r ≡ Ok x → Recorded s own t (Ok x)
+  recorded_sound x q = subst (Recorded s own t) q h
 
-  pub recorded_broken : (n : Refusal) → r ≡ Record.Broken n → record_verdict s t ≡ broken (number n)
+  pub recorded_broken : (n : Refusal) → r ≡ Err n → record_verdict s t ≡ broken (number n)
   recorded_broken n q = subst (Recorded s own t) q h
 
 record_reads : (s : Measures) (t : List ℕ) (r : Read (List (Option Content))) → 0 < length t → get_or t 0 0 < 16
@@ -195,37 +196,37 @@ module _ (s : Measures) (own : ℕ) (table record-bytes : List ℕ) where
         foreign = record { answer = refuses 14; table = table; room = [] }
 
         -- by whether all pointers of the table and of a sound record are their owners'
-        module _ (all owned : Bool) (v : List ℕ) (d : rest (read_directory s table) ≡ some v) (q : all ≡ holds (own_rows 0) (read_directory s table))
-            (a : Bytes record-bytes) (e : Ends) (recorded : Recorded s own record-bytes (Record.Sound e owned)) where
+        module _ (all : Bool) (v : List ℕ) (d : rest (read_directory s table) ≡ some v) (q : all ≡ holds (own_rows 0) (read_directory s table))
+            (a : Bytes record-bytes) (x : Fields) (recorded : Recorded s own record-bytes (Ok x)) where
           update_judged : directory_update s own table record-bytes
-              ≡ cond (all && owned) (puts (left_read (read_directory s table) v d).0 (says s record-bytes e a recorded.0).update) foreign
+              ≡ cond (all && x.owned) (puts (left_read (read_directory s table) v d).0 (says s record-bytes x.ends a recorded.0).update) foreign
           update_judged =
-              let x = left_read (read_directory s table) v d in
-              let u = says s record-bytes e a recorded.0 in
-              update-reads ∙ ap₂ (on_table s own table) x.1 ((as_before s record-bytes).conversely u.update u.read)
-              ∙ ap₂ (λ (f g : Bool). cond (f && g) (puts x.0 u.update) foreign)
-              (sym (q ∙ ap (holds (own_rows 0)) x.1)) (sym (recorded.1 ∙ u.held (own_fields own)))
+              let y = left_read (read_directory s table) v d in
+              let u = says s record-bytes x.ends a recorded.0 in
+              update-reads ∙ ap₂ (on_table s own table) y.1 ((as_before s record-bytes).conversely u.update u.read)
+              ∙ ap₂ (λ (f g : Bool). cond (f && g) (puts y.0 u.update) foreign)
+              (sym (q ∙ ap (holds (own_rows 0)) y.1)) (sym (recorded.1 ∙ u.held (own_fields own)))
 
-          pub update_foreign : (all && owned) ≡ false → directory_update s own table record-bytes ≡ foreign
+          pub update_foreign : (all && x.owned) ≡ false → directory_update s own table record-bytes ≡ foreign
           update_foreign f =
               update_judged
-              ∙ ap (λ (b : Bool). cond b (puts (left_read (read_directory s table) v d).0 (says s record-bytes e a recorded.0).update) foreign) f
+              ∙ ap (λ (b : Bool). cond b (puts (left_read (read_directory s table) v d).0 (says s record-bytes x.ends a recorded.0).update) foreign) f
 
-        pub update-done : (all owned : Bool) (v : List ℕ) → rest (read_directory s table) ≡ some v → all ≡ holds (own_rows 0) (read_directory s table)
-            → Bytes table → Bytes record-bytes → (e : Ends) → Recorded s own record-bytes (Record.Sound e owned) → (all && owned) ≡ true
+        pub update-done : (all : Bool) (v : List ℕ) → rest (read_directory s table) ≡ some v → all ≡ holds (own_rows 0) (read_directory s table)
+            → Bytes table → Bytes record-bytes → (f : Fields) → Recorded s own record-bytes (Ok f) → (all && f.owned) ≡ true
             → (end : List ℕ) → Renewed s (own * row_size s) record-bytes table end
             → directory_update s own table record-bytes ≡ record { answer = serves 0; table = end; room = [] }
-        update-done all owned v d q b a e recorded both end renew =
+        update-done all v d q b a f recorded both end renew =
             let x = left_read (read_directory s table) v d in
             let r = x.0 in
-            let u = says s record-bytes e a recorded.0 in
-            let f = (format_directory s).only table r b x.1 in
-            let n : own < length r.value = omega (arith, f.0.1) in
+            let u = says s record-bytes f.ends a recorded.0 in
+            let y = (format_directory s).only table r b x.1 in
+            let n : own < length r.value = omega (arith, y.0.1) in
             let row = get_or r.value own no_row in
             let new = update_row u.update row in
-            let good : GoodRow s new = update_good s u.update row u.good (each_at (FitsRow s) no_row r.value f.0.0 own n).0.0 in
+            let good : GoodRow s new = update_good s u.update row u.good (each_at (FitsRow s) no_row r.value y.0.0 own n).0.0 in
             let fits : FitsRow s new = ((good, tt), le-leb (length (write_row new)) (row_size s) (row_fits s new good)) in
-            update_judged all owned v d q a e recorded
+            update_judged all v d q a f recorded
             ∙ ap (λ (k : Bool). cond k (puts r u.update) foreign) both
             ∙ ap (λ (y : List ℕ). record { answer = serves 0; table = y; room = [] })
             (own_set s table b own o r x.1 new fits ∙ sym (renew u.update row u.read (own_row_lem s table b own o r x.1)))

@@ -2,10 +2,10 @@
 use mathlib.Core.Path.{◌≡◌, refl, sym, ap, ap₂, ◌∙◌}
 use mathlib.Core.Bool.{Bool, true, false, ◌&&◌, not, true≢false}
 use mathlib.Core.List.{List, [], ◌∷◌, map}
-use Prim.Native.Nat.{ℕ, ◌+◌, ◌-◌, ◌<◌, ◌≤◌}
+use Prim.Native.Nat.{ℕ, ◌+◌, ◌-◌, ◌<◌}
 use native.Mathlib.Decide.{dec_lt}
 use native.Mathlib.Omega.{arith}
-use borrow.Author.Tests.{lt-ltb, le-ltb, ltb-true, not-true}
+use borrow.Author.Tests.{lt-ltb, ltb-true, not-true}
 use lib.Dec.{ltb}
 use Rattle.coding.proofs.Cases.{and-true}
 use Rattle.parties.specs.declared.Version.{Version}
@@ -19,24 +19,6 @@ use Rattle.parties.specs.records.Places.{version_at, held_at, held_from}
 use Rattle.parties.specs.node.ToNode.{versions_from}
 use Rattle.parties.specs.node.NodeCode.{list_behind, list_names}
 use Rattle.parties.proofs.records.PositionLaws.{from_first, from-none}
-
--- ---- the tests
-
-module _ (v : Version) (b : List ℕ) (at n : ℕ) where
-  pub behind-none : n < 1 → false ≡ list_behind v b at n
-  behind-none h = sym (simp (le-ltb 0 n (omega arith)))
-
-  pub behind-here : 1 ≤ n → (w : Version) → w ≡ version_at b at → below w v ≡ list_behind v b at n
-  behind-here h w e = rw e (sym (simp (lt-ltb 0 n h)))
-
-  pub names_none : n < 1 → false ≡ list_names v b at n
-  names_none h = sym (simp (le-ltb 0 n (omega arith)))
-
-  pub names_behind : 1 ≤ n → (w : Version) → w ≡ version_at b at → below w v ≡ true → false ≡ list_names v b at n
-  names_behind h w e q = sym (simp (lt-ltb 0 n h, sym (ap (λ (x : Version). below x v) e) ∙ q))
-
-  pub names_here : 1 ≤ n → (w : Version) → w ≡ version_at b at → below w v ≡ false → not (below v w) ≡ list_names v b at n
-  names_here h w e q = rw e (sym (simp (lt-ltb 0 n h, sym (ap (λ (x : Version). below x v) e) ∙ q)))
 
 -- ---- ascending versions
 

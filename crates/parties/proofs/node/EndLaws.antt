@@ -42,6 +42,11 @@ use Rattle.parties.proofs.node.KeepLaws.{overwritten, grown, shrunk}
 ends_of : (e f : NodeEnd) → e ≡ f → Ends e f.answer f.table f.room
 ends_of e f p = record { answer = ap (λ x. x.answer) (sym p); table = ap (λ x. x.table) (sym p); room = ap (λ x. x.room) (sym p) }
 
+-- what the tests before an event make sure of
+pub node_ready : {s : Measures} {t room : List ℕ} → (passes s ≡ true) × (table_size s ≤ length t) × (answer_size s ≤ length room) → sound_table s t ≡ true
+    → NodeReady s t room
+node_ready p q = record { measures = p.0; table = p.1; answer = p.2; sound = q }
+
 module _ (s : Measures) (t b room : List ℕ) where
   pub broken-table : table_size s ≤ length t → sound_table s t ≡ false → Ends (event s t b room) (refuses 4) t room
   broken-table h q =

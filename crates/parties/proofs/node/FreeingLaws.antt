@@ -1,9 +1,9 @@
 -- Kept places go down over dropped ones: the invariant of that walk, one law for each turn.
-use mathlib.Core.Path.{◌≡◌, refl, sym, ap, ◌∙◌}
+use mathlib.Core.Path.{◌≡◌, sym, ap, ◌∙◌}
 use mathlib.Core.Bool.{true, false}
 use mathlib.Core.List.{List, [], ◌++◌, append_assoc, append-nil}
 use Prim.Native.Nat.{ℕ, suc, ◌+◌, ◌-◌, ◌*◌, ◌<◌, ◌≤◌}
-use native.Mathlib.Nat.{zero-add, zero-mul}
+use native.Mathlib.Nat.{zero-mul}
 use native.Mathlib.Omega.{arith}
 use lib.ListN.{length, get_or, take, drop, length-append}
 use lib.Seq.{take_at, drop_at, drop-drop, get_or-drop, length-take-le}
@@ -18,7 +18,7 @@ use Rattle.parties.specs.protocol.NodeTable.{Held, in_order}
 use Rattle.parties.specs.protocol.Node.{release}
 use Rattle.parties.specs.records.Places.{version_at, held_at, held_from, sound_at, every, splice, place_of}
 use Rattle.parties.specs.node.ToNode.{versions_from}
-use Rattle.parties.specs.node.NodeCode.{list_behind, list_names, Listed, Released}
+use Rattle.parties.specs.node.NodeCode.{list_behind, list_names, Released}
 use Rattle.parties.proofs.records.PositionLaws.{from-none, every_first, one_less}
 use Rattle.parties.proofs.records.SpliceLaws.{length-splice}
 use Rattle.parties.proofs.node.ShownLaws.{place_bytes, place_fits, place_size_lem}
@@ -77,24 +77,6 @@ pub record Freeing (s : Measures) (t₀ b : List ℕ) (n m : ℕ) (t : List ℕ)
   pub order : in_order (held_from (place_size s) t₀ from left) ≡ true
   pub ascends : ascending (versions_from b at more) ≡ true
 
-pub freeing_start : (s : Measures) (t b : List ℕ) (n m : ℕ) → Listed s t b n m → Freeing s t b n m t 2 n 1 m 2 0
-freeing_start s t b n m l =
-    record {
-      same = refl;
-      place = omega (arith, zero-mul (place_size s));
-      lower = omega arith;
-      fewer = omega arith;
-      stop = refl;
-      inside = l.places;
-      listed = l.list;
-      rest = refl;
-      front = refl;
-      many = zero-add (length (release (versions_from b 1 m) (held_from (place_size s) t 2 n)));
-      each = l.each;
-      order = l.order;
-      ascends = l.ascends;
-    }
-
 module _ (s : Measures) (t₀ b : List ℕ) (n m : ℕ) (t : List ℕ) (from left at more to kept : ℕ) (i : Freeing s t₀ b n m t from left at more to kept) where
   pub freeing_end : left ≤ 0 → Released s t₀ b n m t kept
   unfolding release write_many
@@ -126,9 +108,9 @@ module _ (s : Measures) (t₀ b : List ℕ) (n m : ℕ) (t : List ℕ) (from lef
     now_there : version_at t from ≡ version_at t₀ from
     now_there = version-same t t₀ from i.rest
 
-    pub freeing_behind : list_behind (version_at t from) b at more ≡ true → (0 < more) × Freeing s t₀ b n m t from left (at + 5) (more - 1) to kept
-    freeing_behind q =
-        let w = walk_behind (place_size s) t₀ b from left at more h i.order (sym (ap (λ (v : Version). list_behind v b at more) now_there) ∙ q) in
+    pub freeing_behind : (v : Version) → v ≡ version_at t from → list_behind v b at more ≡ true → (0 < more) × Freeing s t₀ b n m t from left (at + 5) (more - 1) to kept
+    freeing_behind v e q =
+        let w = walk_behind (place_size s) t₀ b from left at more h i.order (sym (ap (λ (v : Version). list_behind v b at more) (e ∙ now_there)) ∙ q) in
         let k : 0 < more = w.0 in (
           k,
           record {
@@ -155,9 +137,9 @@ module _ (s : Measures) (t₀ b : List ℕ) (n m : ℕ) (t : List ℕ) (from lef
     next-each : every (sound_at s t₀) (place_size s) (from + place_size s) (left - 1) ≡ true
     next-each = (every_first (sound_at s t₀) (place_size s) from left h i.each).1
 
-    pub freeing_named : list_names (version_at t from) b at more ≡ true → Freeing s t₀ b n m t (from + place_size s) (left - 1) at more to kept
-    freeing_named q =
-        let w = walk_named (place_size s) t₀ b from left at more h (sym (ap (λ (v : Version). list_names v b at more) now_there) ∙ q) in
+    pub freeing_named : (v : Version) → v ≡ version_at t from → list_names v b at more ≡ true → Freeing s t₀ b n m t (from + place_size s) (left - 1) at more to kept
+    freeing_named v e q =
+        let w = walk_named (place_size s) t₀ b from left at more h (sym (ap (λ (v : Version). list_names v b at more) (e ∙ now_there)) ∙ q) in
         record {
           same = i.same;
           place = i.place;
@@ -174,13 +156,13 @@ module _ (s : Measures) (t₀ b : List ℕ) (n m : ℕ) (t : List ℕ) (from lef
           ascends = i.ascends;
         }
 
-    pub freeing_kept : Bytes t₀ → list_behind (version_at t from) b at more ≡ false → list_names (version_at t from) b at more ≡ false → (u : List ℕ)
+    pub freeing_kept : Bytes t₀ → (v : Version) → v ≡ version_at t from → list_behind v b at more ≡ false → list_names v b at more ≡ false → (u : List ℕ)
         → u ≡ splice t to (take (place_size s) (drop from t)) → Freeing s t₀ b n m u (from + place_size s) (left - 1) at more (to + place_size s) (kept + 1)
     unfolding write_many
-    freeing_kept bs p q u e =
+    freeing_kept bs v ev p q u e =
         let z = place_size s in
         let x = held_at t₀ from in
-        let w = walk_kept z t₀ b from left at more h i.ascends (sym (ap (λ (v : Version). list_behind v b at more) now_there) ∙ p) (sym (ap (λ (v : Version). list_names v b at more) now_there) ∙ q) in
+        let w = walk_kept z t₀ b from left at more h i.ascends (sym (ap (λ (v : Version). list_behind v b at more) (ev ∙ now_there)) ∙ p) (sym (ap (λ (v : Version). list_names v b at more) (ev ∙ now_there)) ∙ q) in
         let sound : sound_at s t₀ from ≡ true = (every_first (sound_at s t₀) z from left h i.each).0 in
         let piece : take z (drop from t) ≡ place_of s x = ap (take z) i.rest ∙ place_bytes s t₀ from bs place_inside sound in
         let size : length (place_of s x) ≡ z = place_size_lem s x (place_fits s t₀ from bs place_inside sound) in

@@ -1,5 +1,5 @@
 -- The place of a version: what stands before it is below, and a step on the places goes on from there.
-use mathlib.Core.Path.{◌≡◌, refl, sym, ap, ◌∙◌}
+use mathlib.Core.Path.{◌≡◌, refl, sym, ap, ap₂, ◌∙◌}
 use mathlib.Core.Bool.{Bool, true, false, cond, not, true≢false}
 use mathlib.Core.List.{List, [], ◌∷◌, ◌++◌}
 use mathlib.Core.Option.{some, none}
@@ -7,8 +7,9 @@ use Prim.Native.Nat.{ℕ, zero, suc, ◌+◌, ◌-◌, ◌*◌, ◌<◌, ◌≤�
 use native.Mathlib.Nat.{zero-mul}
 use native.Mathlib.Decide.{dec_lt}
 use native.Mathlib.Omega.{arith}
-use borrow.Author.Tests.{lt-ltb, le-ltb, ltb-true, not-true}
+use borrow.Author.Tests.{lt-ltb, ltb-true, not-true}
 use lib.Dec.{ltb}
+use Rattle.coding.proofs.BytesLaws.{stride}
 use Rattle.coding.proofs.Cases.{and-true}
 use Rattle.parties.specs.declared.Version.{Version}
 use Rattle.parties.specs.protocol.Version.{below}
@@ -85,6 +86,14 @@ module _ (z : ℕ) (t : List ℕ) (v : Version) (at n : ℕ) where
     pub rank_on : below w v ≡ true → rank z t v at n ≡ rank z t v (at + z) (n - 1) + 1
     rank_on b = rank-first h ∙ rw (← e) (simp b)
 
+-- a turn of a loop over n places from `first` on, of which j are passed
+pub rank_turn : (z : ℕ) (t : List ℕ) (v : Version) (first n j : ℕ) → j < n → (w : Version) → w ≡ version_at t (first + j * z) → below w v ≡ true
+    → rank z t v (first + j * z) (n - j) ≡ rank z t v (first + (j + 1) * z) (n - (j + 1)) + 1
+rank_turn z t v first n j h w e b =
+    let x : first + j * z + z ≡ first + (j + 1) * z = omega (arith, stride j z) in
+    let y : n - j - 1 ≡ n - (j + 1) = omega arith in
+    rank_on z t v (first + j * z) (n - j) w e (omega arith) b ∙ ap (λ (r : ℕ). r + 1) (ap₂ (rank z t v) x y)
+
 -- ---- the place of a version
 
 module _ (z : ℕ) (t : List ℕ) (n : ℕ) (h : Held) (j : ℕ) (e : j ≡ rank z t h.version 2 n) where
@@ -149,11 +158,3 @@ module _ (z : ℕ) (t : List ℕ) (n : ℕ) (h : Held) (j : ℕ) (e : j ≡ rank
         ap (keep h) seek_split
         ∙ keep_past h (held_from z t 2 j) (held_from z t (2 + j * z) (n - j)) passed
         ∙ ap (λ (l : List Held). held_from z t 2 j ++ l) (absent (λ l. keep h l ≡ h ∷ l) refl (λ x l q. simp q))
-
--- the tests of a place
-module _ (z : ℕ) (t : List ℕ) (n j : ℕ) (v : Version) where
-  pub stands-none : n ≤ j → false ≡ stands_at z t n j v
-  stands-none h = sym (simp (le-ltb j n h))
-
-  pub stands_here : j < n → (w : Version) → w ≡ version_at t (2 + j * z) → not (below v w) ≡ stands_at z t n j v
-  stands_here h w e = rw e (sym (simp (lt-ltb j n h)))

@@ -11,13 +11,12 @@ use borrow.Author.Tests.{le-leb, lt-leb}
 use lib.Dec.{leb, eqb}
 use lib.ListN.{length, take, drop, length-append, length-drop}
 use lib.Seq.{drop-drop}
+use Rattle.std.specs.Prelude.{Option as StdOption, Some, None}
 use Rattle.coding.specs.Nodes.{all}
 use Rattle.coding.specs.Bytes.{Bytes}
 use Rattle.coding.proofs.PageLaws.{none≢some, some_eq}
 use Rattle.parties.specs.protocol.Format.{Read, Reader, bind, check, both, given, mapped, chain, read_byte, read_number, read_many, read_bytes, read_zeros, read_area}
 use Rattle.parties.proofs.protocol.formats.FormatLaws.{Format}
-use Rattle.parties.specs.declared.records.form.Form.{Form}
-use Rattle.parties.specs.declared.records.form.Form.TheVariants.{Sound, Broken}
 use Rattle.parties.specs.records.Form.{rest, told, Within, Formed, holds}
 
 -- what a form test tells
@@ -26,13 +25,17 @@ pub record Goes (t : List ℕ) (at next : ℕ) (o : Option (List ℕ)) : Type 0 
   pub from : at ≤ next
   pub to : next ≤ length t
 
-pub formed_sound : (t : List ℕ) (at next : ℕ) (left : Option (List ℕ)) (r : Form) → Formed t at left r → r ≡ Sound next → Goes t at next left
+pub formed_sound : (t : List ℕ) (at next : ℕ) (left : Option (List ℕ)) (r : StdOption ℕ) → Formed t at left r → r ≡ Some next → Goes t at next left
 formed_sound t at next left r f e =
-    let w : Within at (length t) (Sound next) = subst (Within at (length t)) e f.within in
+    let w : Within at (length t) (Some next) = subst (Within at (length t)) e f.within in
     record { left = sym f.told ∙ ap (told t) e; from = w.0; to = w.1 }
 
-pub formed_broken : (t : List ℕ) (at : ℕ) (left : Option (List ℕ)) (r : Form) → Formed t at left r → r ≡ Broken → left ≡ none
+pub formed_broken : (t : List ℕ) (at : ℕ) (left : Option (List ℕ)) (r : StdOption ℕ) → Formed t at left r → r ≡ None → left ≡ none
 formed_broken t at left r f e = sym f.told ∙ ap (told t) e
+
+-- what a test that breaks off tells
+pub formed_none : (t : List ℕ) (at : ℕ) (left : Option (List ℕ)) (r : StdOption ℕ) → r ≡ None → left ≡ none → Formed t at left r
+formed_none t at left r e f = subst (Formed t at left) (sym e) (record { told = sym f; within = tt })
 
 -- the value goes with what is left
 pub left_read : {A : Type 0} (o : Option (Read A)) (u : List ℕ) → rest o ≡ some u → (r : Read A) × (o ≡ some r) × (r.rest ≡ u)

@@ -1,23 +1,51 @@
 -- Laws of bit maps in code.
-use mathlib.Core.Path.{◌≡◌, sym, ap, ◌∙◌}
-use mathlib.Core.Bool.{Bool, false, cond, ◌&&◌}
-use Prim.Native.Nat.{ℕ, suc, ◌+◌, ◌-◌, ◌*◌, ◌/◌, ◌%◌, ◌^◌, ◌<◌, ◌≤◌}
-use native.Mathlib.Nat.{pow-suc}
-use native.Mathlib.Numerals.{add-one}
+use mathlib.Core.Path.{◌≡◌, refl, sym, ap, ◌∙◌}
+use mathlib.Core.Bool.{Bool, cond, ◌&&◌}
+use Prim.Native.Nat.{ℕ, zero, suc, ◌+◌, ◌-◌, ◌*◌, ◌/◌, ◌%◌, ◌^◌, ◌<◌, ◌≤◌}
+use native.Mathlib.Nat.{pow-suc, mod-one, mod-lt, mod-eq_of_lt, add_comm}
+use Rattle.std.proofs.lemmas.Nat.{mod-pow-add}
+use native.Mathlib.Numerals.{one-add}
 use native.Mathlib.Decide.{ℕ_discrete}
 use native.Mathlib.Omega.{arith}
-use borrow.Author.Tests.{eq-eqb, ne_eqb, lt-leb, le-leb}
-use lib.Bits.{bit_and, bit_or, or_add_and, and_high}
-use lib.Pow.{pow_mono}
-use lib.Dec.{leb, eqb}
+use borrow.Author.Tests.{eq-eqb, ne_eqb, le-leb}
+use lib.Bits.{bit_and, bit_or, or_add_and, and_high, and_mask}
+use lib.Pow.{pow_mono, pow_pos}
+use lib.Count.{ones, ones_cat}
+use lib.Dec.{leb, eqb, lit<}
 use lib.ListN.{length}
 use Rattle.coding.specs.Nodes.{nodes_of}
 use Rattle.coding.proofs.NodesLaws.{nodes-counted}
 use Rattle.parties.specs.protocol.Nodes.{stands, with_node}
 
--- one node more, if its bit is 1
-pub counted-more : (map i : ℕ) → length (nodes_of map (i + 1)) ≡ length (nodes_of map i) + map / 2 ^ i % 2
-counted-more map i = rw (add-one i) (nodes-counted map i)
+-- a bit of a map of 16
+pub one_shifted : (j : ℕ) → j < 16 → 1 * 2 ^ j % 65536 ≡ 2 ^ j
+one_shifted j h = let b : j ≤ 15 = omega arith in omega (arith, pow_mono b)
+
+one_bit : (b : ℕ) → b < 2 → ones b ≡ b
+unfolding ones
+one_bit zero h = refl
+one_bit (suc zero) h = refl
+one_bit (suc (suc b)) h = absurd (omega arith)
+
+-- the nodes up to i are the bits below bit i
+pub ones-below : (map i : ℕ) → ones (map % 2 ^ i) ≡ length (nodes_of map i)
+unfolding ones nodes_of
+ones-below map zero = ap ones (mod-one map)
+ones-below map (suc i) =
+    ap (λ (x : ℕ). ones (map % 2 ^ x)) (sym (one-add i))
+    ∙ ap ones (mod-pow-add map 1 i)
+    ∙ ones_cat i (map / 2 ^ i % 2) (map % 2 ^ i) (mod-lt map (pow_pos i))
+    ∙ (λ j. one_bit (map / 2 ^ i % 2) (mod-lt (map / 2 ^ i) (lit< tt)) j + ones-below map i j)
+    ∙ add_comm (map / 2 ^ i % 2) (length (nodes_of map i))
+    ∙ sym (nodes-counted map i)
+
+-- all 16 of a map of 16 bits
+pub ones_all : (map : ℕ) → map < 65536 → ones map ≡ length (nodes_of map 16)
+ones_all map h = ap ones (sym (mod-eq_of_lt h)) ∙ ones-below map 16
+
+-- those below a node
+pub ones_front : (map k : ℕ) → k < 16 → ones (bit_and map (1 * 2 ^ k % 65536 - 1)) ≡ length (nodes_of map k)
+ones_front map k h = ap (λ (x : ℕ). ones (bit_and map (x - 1))) (one_shifted k h) ∙ ap ones (and_mask map k) ∙ ones-below map k
 
 -- the bit of a power of two
 and_power : (map j : ℕ) → bit_and map (2 ^ j) ≡ (map / 2 ^ j % 2) * 2 ^ j
@@ -47,28 +75,6 @@ pub bit_of : (map i : ℕ) → stands map (i + 1) ≡ eqb (map / 2 ^ i % 2) 1
 unfolding stands
 bit_of map i = let e : i + 1 - 1 ≡ i = omega arith in ap (λ (j : ℕ). eqb (map / 2 ^ j % 2) 1) e
 
--- a bit of a map of 16
-pub one_shifted : (j : ℕ) → j < 16 → 1 * 2 ^ j % 65536 ≡ 2 ^ j
-one_shifted j h = let b : j ≤ 15 = omega arith in omega (arith, pow_mono b)
-
--- a number that may be no node's: whether it is in a map, and the map with it
-pub has_low : (map i : ℕ) → i < 1 → false ≡ (leb 1 i && (leb i 16 && stands map i))
-has_low map i h = rw (lt-leb 1 i h)
-
-pub has_high : (map i : ℕ) → 1 ≤ i → 16 < i → false ≡ (leb 1 i && (leb i 16 && stands map i))
-has_high map i l h = rw (le-leb 1 i l, lt-leb i 16 h)
-
-pub has_within : (map i : ℕ) → 1 ≤ i → i ≤ 16 → (r : Bool) → r ≡ stands map i → r ≡ (leb 1 i && (leb i 16 && stands map i))
-has_within map i l h r e = rw (le-leb 1 i l, le-leb i 16 h) e
-
+-- a node that may be no node's number: whether it is in a map
 pub has_is : (map i : ℕ) → 1 ≤ i → i ≤ 16 → (r : Bool) → r ≡ (leb 1 i && (leb i 16 && stands map i)) → r ≡ stands map i
 has_is map i l h r e = rw (le-leb 1 i l, le-leb i 16 h) at e
-
-pub add_low : (map i : ℕ) → i < 1 → map ≡ cond (leb 1 i && leb i 16) (with_node map i) map
-add_low map i h = rw (lt-leb 1 i h)
-
-pub add_high : (map i : ℕ) → 1 ≤ i → 16 < i → map ≡ cond (leb 1 i && leb i 16) (with_node map i) map
-add_high map i l h = rw (le-leb 1 i l, lt-leb i 16 h)
-
-pub add_within : (map i : ℕ) → 1 ≤ i → i ≤ 16 → (r : ℕ) → r ≡ with_node map i → r ≡ cond (leb 1 i && leb i 16) (with_node map i) map
-add_within map i l h r e = rw (le-leb 1 i l, le-leb i 16 h) e

@@ -10,6 +10,9 @@ use borrow.Author.Tests.{le-leb, lt-leb, eq-eqb, ne_eqb, eqb-true}
 use lib.Dec.{leb, ltb, eqb}
 use lib.ListN.{length, get_or, take, drop, length-append, length-drop}
 use lib.Seq.{drop-cons, drop-drop, length-take-le}
+use Rattle.std.proofs.Common.{w32}
+use Rattle.std.proofs.Math.Nat.{div-div-eq-div-mul}
+use Rattle.std.specs.Int.{to_be_bytes}
 use Rattle.coding.proofs.Cases.{and-true}
 use Rattle.coding.proofs.PageLaws.{some_eq}
 use Rattle.parties.specs.declared.Measures.{Measures}
@@ -61,14 +64,13 @@ version-there t at v y g e =
     (l, ap (λ (r : Read Version). r.value) (some_eq (sym (read-version t at l) ∙ ap read_version e ∙ format_version.back v g y)))
 
 -- a version's five bytes, one by one
-pub version-five : (v : Version) → v.client < 256
-    → v.sequence.0 / 256 / 256 / 256 % 256 ∷ v.sequence.0 / 256 / 256 % 256 ∷ v.sequence.0 / 256 % 256 ∷ v.sequence.0 % 256 ∷ v.client ∷ []
-    ≡ write_version v
+pub version-five : (v : Version) → v.client < 256 → (b : List ℕ) → b ≡ to_be_bytes w32 v.sequence.0
+    → get_or b 0 0 ∷ get_or b 1 0 ∷ get_or b 2 0 ∷ get_or b 3 0 ∷ v.client ∷ [] ≡ write_version v
 unfolding write_version write_number
-version-five v h =
+version-five v h b e =
     let q = v.sequence.0 in
     let m : v.client ≡ v.client % 256 = omega arith in
-    ap (λ (c : ℕ). q / 256 / 256 / 256 % 256 ∷ q / 256 / 256 % 256 ∷ q / 256 % 256 ∷ q % 256 ∷ c ∷ []) m
+    rw e (simp div-div-eq-div-mul (ap (λ (c : ℕ). q / 16777216 % 256 ∷ q / 65536 % 256 ∷ q / 256 % 256 ∷ q % 256 ∷ c ∷ []) m))
 
 -- ---- a place
 

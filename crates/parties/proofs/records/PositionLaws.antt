@@ -1,5 +1,5 @@
 -- Values at positions of some bytes: read one after the other, and in order.
-use mathlib.Core.Path.{◌≡◌, refl, sym, ap, ◌∙◌}
+use mathlib.Core.Path.{◌≡◌, refl, sym, ap, ap₂, ◌∙◌}
 use mathlib.Core.Bool.{Bool, true, false, cond, ◌&&◌}
 use mathlib.Core.List.{List, [], ◌∷◌, ◌++◌, map}
 use mathlib.Core.Option.{some, none}
@@ -158,3 +158,11 @@ module _ (test : ℕ → Bool) (v : ℕ → Version) (z : ℕ) where
 
       pub ordered-next : below p w ≡ true → ordered test v z p at n ≡ ordered test v z w (at + z) (n - 1)
       ordered-next b = ordered-first h ∙ rw (← e) (simp (a, b))
+
+  -- a turn of a loop over n positions from `first` on, of which i are passed
+  pub ordered_turn : (first n : ℕ) (p : Version) (i : ℕ) → i < n → (w : Version) → w ≡ v (first + i * z) → test (first + i * z) ≡ true → below p w ≡ true
+      → ordered test v z p (first + i * z) (n - i) ≡ ordered test v z w (first + (i + 1) * z) (n - (i + 1))
+  ordered_turn first n p i h w e a b =
+      let x : first + i * z + z ≡ first + (i + 1) * z = omega (arith, stride i z) in
+      let y : n - i - 1 ≡ n - (i + 1) = omega arith in
+      ordered-next p (first + i * z) (n - i) w e (omega arith) a b ∙ ap₂ (ordered test v z w) x y

@@ -10,6 +10,8 @@ use borrow.Author.Tests.{eq-eqb, ne_eqb, eqb-true, lt-leb, ltb-true, lt-ltb, le-
 use lib.Dec.{eqb, leb, ltb}
 use lib.ListN.{length, take, drop, get_or, replicate, length-append, length-drop}
 use lib.Seq.{drop-drop, get_or-drop, drop-cons}
+use Rattle.std.specs.Prelude.{Option as StdOption, Some, None, Result, Ok, Err}
+use Rattle.std.specs.Option.{ok_or}
 use Rattle.coding.specs.Nodes.{all}
 use Rattle.coding.specs.Bytes.{Bytes}
 use Rattle.coding.proofs.Cases.{and-true}
@@ -36,12 +38,9 @@ use Rattle.parties.proofs.protocol.formats.OwnerLaws.{client_own, row_pointers, 
 use Rattle.parties.specs.declared.records.form.Ends.{Ends}
 use Rattle.parties.specs.declared.Refusal.{Refusal}
 use Rattle.parties.specs.declared.records.form.Rule.{Rule}
-use Rattle.parties.specs.declared.records.form.Parts.{Parts}
-use Rattle.parties.specs.declared.records.form.OwnParts.{OwnParts}
-use Rattle.parties.specs.declared.records.form.Table.{Table}
-use Rattle.parties.specs.declared.records.form.Verdict.{Verdict}
+use Rattle.parties.specs.declared.records.form.Fields.{Fields}
 use Rattle.parties.specs.records.Answer.{number}
-use Rattle.parties.specs.records.Form.{rest, front, pointer_by, proper_front, allowed_front, after, Ended, Parted, holds, OwnParted, Rowed, Tabled, Judged}
+use Rattle.parties.specs.records.Form.{rest, front, pointer_by, proper_front, allowed_front, after, Ended, Parted, holds, OwnParted, Recorded, Rowed, Tabled, Judged}
 use Rattle.parties.proofs.records.FormLaws.{left_read, none_read, rest-check, given-held, given_unheld, given_both, none_either, rest_make, rest-mapped, rest_both, rest_zeros, rest_area, none_area, Fixed, fixed_fits, fixed_short, fixed_then, fixed_bytes, fixed_number, fixed_mapped, fixed_many}
 
 pub bytes_drop : (at : ℕ) (t : List ℕ) → Bytes t → Bytes (drop at t)
@@ -356,7 +355,7 @@ module _ (s : Measures) (t : List ℕ) (h : Bytes t) (at : ℕ) (room : at + row
           p.ordered,
         )
 
-    pub row_left : rest (read_row s (drop at t))
+    row_left : rest (read_row s (drop at t))
         ≡ cond (all (λ b. eqb b 0) (take (at + row_size s - e.index) (drop e.index t))) (some (drop (at + row_size s) t)) none
     unfolding read_row
     row_left =
@@ -372,20 +371,28 @@ module _ (s : Measures) (t : List ℕ) (h : Bytes t) (at : ℕ) (room : at + row
         ∙ ap (λ (z : List ℕ). cond (all (λ b. eqb b 0) (take (at + row_size s - e.index) (drop e.index t))) (some z) none)
         (drop-drop (at + row_size s - e.index) e.index t ∙ ap (λ (k : ℕ). drop k t) g)
 
+    -- with what the test of its zeros says
+    pub row_zeros : (size : ℕ) (z : Bool) → size ≡ row_size s → z ≡ all (λ b. eqb b 0) (take (at + size - e.index) (drop e.index t))
+        → rest (read_row s (drop at t)) ≡ cond z (some (drop (at + row_size s) t)) none
+    row_zeros size z k q =
+        row_left
+        ∙ ap (λ (x : Bool). cond x (some (drop (at + row_size s) t)) none)
+        (ap (λ (k : ℕ). all (λ b. eqb b 0) (take (at + k - e.index) (drop e.index t))) (sym k) ∙ sym q)
+
 -- ---- a record that is all of the bytes
 
-module _ (s : Measures) (rule : Rule) (t : List ℕ) (at map : ℕ) (r : Parts) (p : Parted s rule t at map r) where
-  pub parted_sound : (e : Ends) → r ≡ Parts.Sound e → Ended s (pointer_by s rule) t at map e
+module _ (s : Measures) (rule : Rule) (t : List ℕ) (at map : ℕ) (r : StdOption Ends) (p : Parted s rule t at map r) where
+  pub parted_sound : (e : Ends) → r ≡ Some e → Ended s (pointer_by s rule) t at map e
   parted_sound e q = subst (Parted s rule t at map) q p
 
-  pub parted_broken : r ≡ Parts.Broken → rest (read_fields (pointer_by s rule) (fields s) map (drop at t)) ≡ none
+  pub parted_broken : r ≡ None → rest (read_fields (pointer_by s rule) (fields s) map (drop at t)) ≡ none
   parted_broken q = subst (Parted s rule t at map) q p
 
-module _ (s : Measures) (own : ℕ) (t : List ℕ) (at map : ℕ) (r : OwnParts) (p : OwnParted s own t at map r) where
-  pub own_parted_sound : (e : Ends) (owned : Bool) → r ≡ OwnParts.Sound e owned → OwnParted s own t at map (OwnParts.Sound e owned)
-  own_parted_sound e owned q = subst (OwnParted s own t at map) q p
+module _ (s : Measures) (own : ℕ) (t : List ℕ) (at map : ℕ) (r : StdOption Fields) (p : OwnParted s own t at map r) where
+  pub own_parted_sound : (x : Fields) → r ≡ Some x → OwnParted s own t at map (Some x)
+  own_parted_sound x q = subst (OwnParted s own t at map) q p
 
-  pub own_parted_broken : r ≡ OwnParts.Broken → rest (read_fields (read_pointer s) (fields s) map (drop at t)) ≡ none
+  pub own_parted_broken : r ≡ None → rest (read_fields (read_pointer s) (fields s) map (drop at t)) ≡ none
   own_parted_broken q = subst (OwnParted s own t at map) q p
 
 whole-none : {A : Type 0} (r : Reader A) (u : List ℕ) → rest (r u) ≡ none → whole r u ≡ none
@@ -456,6 +463,11 @@ module _ (s : Measures) where
                 omega (arith, ap length (some_eq x), ap length walked.2, length-drop e.index t, length-drop f.index t, q.ordered)
             go false x = absurd (none≢some x)
 
+        -- with what the walk by the rules answers
+        pub record_by : (own : ℕ) (o : StdOption Fields) → OwnParted s own t 1 (get_or t 0 0) o → (r : Result Fields Refusal) → r ≡ ok_or o Refusal.Rule → Recorded s own t r
+        record_by own None q r x = subst (Recorded s own t) (sym x) (record_rule q)
+        record_by own (Some f) q r x = subst (Recorded s own t) (sym x) ((l, h, q.0, record_ends f.ends q.0), q.1)
+
 -- ---- a row, and a table
 
 -- the fields of a row that reads
@@ -492,11 +504,11 @@ row_holds s own t at v b e =
     ∙ row_pointers (own_pointer own) x.0.value
     ∙ sym (ap (holds (own_row own)) x.1)
 
-module _ (s : Measures) (own : ℕ) (t : List ℕ) (at : ℕ) (r : Table) (h : Rowed s own t at r) where
-  pub rowed_sound : (owned : Bool) → r ≡ Table.Sound owned → Rowed s own t at (Table.Sound owned)
+module _ (s : Measures) (own : ℕ) (t : List ℕ) (at : ℕ) (r : StdOption Bool) (h : Rowed s own t at r) where
+  pub rowed_sound : (owned : Bool) → r ≡ Some owned → Rowed s own t at (Some owned)
   rowed_sound owned q = subst (Rowed s own t at) q h
 
-  pub rowed_broken : r ≡ Table.Broken → rest (read_row s (drop at t)) ≡ none
+  pub rowed_broken : r ≡ None → rest (read_row s (drop at t)) ≡ none
   rowed_broken q = ap rest (subst (Rowed s own t at) q h)
 
 -- one row more of a table, of which i are read; the end
@@ -521,18 +533,18 @@ module _ (s : Measures) (i : ℕ) (u : List ℕ) where
   unfolding read_many own_rows
   held_end h = let d : s.m - i ≡ 0 = omega arith in rw d refl
 
-module _ (s : Measures) (t : List ℕ) (r : Table) (h : Tabled s t r) where
-  pub tabled_sound : (all : Bool) → r ≡ Table.Sound all → Tabled s t (Table.Sound all)
+module _ (s : Measures) (t : List ℕ) (r : StdOption Bool) (h : Tabled s t r) where
+  pub tabled_sound : (all : Bool) → r ≡ Some all → Tabled s t (Some all)
   tabled_sound all q = subst (Tabled s t) q h
 
-  pub tabled_broken : r ≡ Table.Broken → read_directory s t ≡ none
+  pub tabled_broken : r ≡ None → read_directory s t ≡ none
   tabled_broken q = subst (Tabled s t) q h
 
-module _ (s : Measures) (t : List ℕ) (r : Verdict) (h : Judged s t r) where
-  pub judged_sound : r ≡ Verdict.Sound → Judged s t Verdict.Sound
-  judged_sound q = subst (Judged s t) q h
+module _ (s : Measures) (t : List ℕ) (r : Result (Unit {0}) Refusal) (h : Judged s t r) where
+  pub judged_sound : (x : Unit {0}) → r ≡ Ok x → Judged s t (Ok x)
+  judged_sound x q = subst (Judged s t) q h
 
-  pub judged_broken : (n : Refusal) → r ≡ Verdict.Broken n → rows_verdict s t ≡ broken (number n)
+  pub judged_broken : (n : Refusal) → r ≡ Err n → rows_verdict s t ≡ broken (number n)
   judged_broken n q = subst (Judged s t) q h
 
 -- rows that read

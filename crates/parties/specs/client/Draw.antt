@@ -6,7 +6,7 @@ use Rattle.coding.specs.Placed.{piece_digest}
 use Rattle.parties.specs.declared.Measures.{Measures}
 use Rattle.parties.specs.declared.Sequence.{Sequence}
 use Rattle.parties.specs.declared.Version.{Version}
-use Rattle.parties.specs.declared.NextSequence.{NextSequence}
+use Rattle.std.specs.Prelude.{Some}
 use Rattle.parties.specs.protocol.Format.{Read, write_number, write_many}
 use Rattle.parties.specs.protocol.Pointer.{write_version}
 use Rattle.parties.specs.protocol.Directory.{Row}
@@ -44,4 +44,4 @@ page_of (Work.fetching p c m ps) = []
 -- what drawing sequence q does to a client's record and room
 unfoldable pub draw_end : Measures → ℕ → Sequence → List ℕ → List ℕ → ClientEnd
 draw_end s own q client room =
-    on_client s client room [] (read_client s client) (λ c. draw s own c room (page_of c.phase) (NextSequence.Drawn q))
+    on_client s client room [] (read_client s client) (λ c. draw s own c room (page_of c.phase) (Some q))

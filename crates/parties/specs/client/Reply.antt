@@ -1,5 +1,5 @@
 -- Replies to a reading.
-use Rattle.std.specs.Prelude.{Bool, cond, not, ◌&&◌, List, ℕ, ◌+◌, ◌-◌, ◌*◌, leb, length, take, drop, replicate, set}
+use Rattle.std.specs.Prelude.{Option as StdOption, Some, None, ◌≡◌, Bool, true, cond, not, ◌&&◌, List, ℕ, ◌+◌, ◌-◌, ◌*◌, leb, length, take, drop, replicate, set}
 use Rattle.std.proofs.Math.Option.{Option}
 use Rattle.std.proofs.Math.Seq.{paste}
 use Rattle.coding.specs.Bytes.{tabulate}
@@ -11,13 +11,15 @@ use Rattle.parties.specs.protocol.Format.{write_number, write_area}
 use Rattle.parties.specs.protocol.Measures.{pointer_size}
 use Rattle.parties.specs.protocol.Nodes.{stands}
 use Rattle.parties.specs.protocol.Pointer.{write_version}
-use Rattle.parties.specs.protocol.Client.{read_client, work_size}
+use Rattle.parties.specs.protocol.Answer.{waits}
+use Rattle.parties.specs.protocol.Client.{fetching_step, read_client, work_size}
 use Rattle.parties.specs.protocol.Reading.{same_version, same_bytes}
-use Rattle.parties.specs.protocol.ClientEvents.{ClientEnd, on_client, replied_at}
+use Rattle.parties.specs.protocol.ClientEvents.{ClientEnd, unchanged, on_client, replied_at}
 use Rattle.parties.specs.declared.ClientAnswer.{ClientAnswer}
 use Rattle.parties.specs.declared.client.reply.Standing.{Standing}
 use Rattle.parties.specs.records.Places.{number_at, version_at}
-use Rattle.parties.specs.client.Record.{work_at}
+use Rattle.parties.specs.declared.Phase.{Phase}
+use Rattle.parties.specs.client.Record.{record_of, work_at}
 
 -- what a reply, with a piece or with none, does to a client's record and output
 unfoldable pub replied_end : Measures → ℕ → Version → Option (List ℕ) → List ℕ → List ℕ → List ℕ → ClientEnd
@@ -36,6 +38,12 @@ standing_at t at maps = record { version = version_at t at; named = number_at t 
 -- the first reply of a named node with the picked version
 abbrev pub counts_at : Standing → ℕ → Version → Bool
 counts_at x i v = same_version v x.version && (stands x.named i && not (stands x.counted i))
+
+-- a reading waits for this reply; or else it changes nothing, whatever it brings
+abbrev pub Awaits : Measures → ℕ → Version → Phase → List ℕ → StdOption Standing → Type 0
+Awaits s i v p area (Some x) = (p.step ≡ fetching_step) × (x ≡ standing_at area (work_at s) (maps_at s)) × (counts_at x i v ≡ true)
+Awaits s i v p area None =
+    (y : Option (List ℕ)) (room out : List ℕ) → replied_end s i v y (record_of p area) room out ≡ unchanged waits (record_of p area) room out
 
 -- where a named node's digest stands in the pointer
 abbrev pub digest_place : ℕ → ℕ → ℕ → ℕ

@@ -36,6 +36,11 @@ renewed map fields e table at f =
 abbrev pub Ordered : ℕ → Ends → ℕ → Type 0
 Ordered at e n = (at ≤ e.written) × (e.written ≤ e.frozen) × (e.frozen ≤ e.indices) × (e.indices ≤ e.index) × (e.index ≤ n)
 
+-- bytes are put at a place of a room, and r is the place after them
+pub record PutAt (room : List ℕ) (at : ℕ) (p : List ℕ) (r : ℕ) (end : List ℕ) : Type 0 where
+  pub next : r ≡ at + length p
+  pub bytes : end ≡ paste room at p (length p)
+
 -- the row at a place, updated by a record
 abbrev pub Renewed : Measures → ℕ → List ℕ → List ℕ → List ℕ → Type 0
 Renewed s at fields table end =

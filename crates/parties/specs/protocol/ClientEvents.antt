@@ -7,8 +7,9 @@ use Rattle.coding.specs.Join.{JoinEnd, join}
 use Rattle.coding.specs.Answer.{Outcome}
 use Rattle.parties.specs.declared.Measures.{Measures}
 use Rattle.parties.specs.declared.Version.{Version}
-use Rattle.parties.specs.declared.NextSequence.{NextSequence}
-use Rattle.parties.specs.declared.NextIndex.{NextIndex}
+use Rattle.std.specs.Prelude.{Option as StdOption, Some, None}
+use Rattle.parties.specs.declared.Sequence.{Sequence}
+use Rattle.parties.specs.declared.ReadingIndex.{ReadingIndex}
 use Rattle.parties.specs.protocol.Format.{Read}
 use Rattle.parties.specs.protocol.Measures.{passes, row_size}
 use Rattle.parties.specs.protocol.Version.{next_sequence, next_index}
@@ -62,8 +63,8 @@ begin_deposit s c bytes =
     (stays (refused 5))
 
 -- readindex ← readindex + 1; dir-Update | c, (*, *, *, readindex)
-abbrev pub raise : Client → List ℕ → NextIndex → Step
-raise c room (NextIndex.Raised i) =
+abbrev pub raise : Client → List ℕ → StdOption ReadingIndex → Step
+raise c room (Some i) =
     does (update (length (write_record (reading_fields i))))
     (record {
       phase = raising;
@@ -74,7 +75,7 @@ raise c room (NextIndex.Raised i) =
       frozen_indices = c.frozen_indices;
     })
     (lay (write_record (reading_fields i)) room) []
-raise c room NextIndex.Spent = stays (refused 7)
+raise c room None = stays (refused 7)
 
 -- upon r-Read
 unfoldable pub begin_reading : Client → List ℕ → Step
@@ -96,12 +97,12 @@ abbrev pub stores_room : Measures → Version → List ℕ → List ℕ → List
 stores_room s v bytes room = write_to_node (ToNode.store v []) ++ (split s.n s.k s.f bytes (drop 6 room)).room
 
 -- writeptr.ts ← (wsn + 1, c); the pieces are cut and sent; 7 if there is no number after wsn
-abbrev pub draw : Measures → ℕ → Client → List ℕ → List ℕ → NextSequence → Step
-draw s own c room bytes (NextSequence.Drawn q) =
+abbrev pub draw : Measures → ℕ → Client → List ℕ → List ℕ → StdOption Sequence → Step
+draw s own c room bytes (Some q) =
     does (stores (record { sequence = q; client = own }) (columns s.k (length bytes)))
     (with_phase (storing (record { sequence = q; client = own }) 0 (digests_of s (record { sequence = q; client = own }) bytes)) c)
     (stores_room s (record { sequence = q; client = own }) bytes room) []
-draw s own c room bytes NextSequence.Spent = does spent (with_phase idle c) room []
+draw s own c room bytes None = does spent (with_phase idle c) room []
 
 -- the second scan: freeze, reserve, and free the rest
 abbrev pub freeze : Measures → ℕ → Client → List ℕ → List Row → Pointer → Step

@@ -1,10 +1,8 @@
 -- Versions, and the two counters.
-use Rattle.std.specs.Prelude.{Bool, cond, ◌&&◌, ◌||◌, true, List, [], ◌∷◌, ℕ, ◌+◌, ltb, eqb}
+use Rattle.std.specs.Prelude.{Option, Some, None, Bool, cond, ◌&&◌, ◌||◌, true, List, [], ◌∷◌, ℕ, ◌+◌, ltb, eqb}
 use Rattle.parties.specs.declared.Sequence.{Sequence}
 use Rattle.parties.specs.declared.ReadingIndex.{ReadingIndex}
 use Rattle.parties.specs.declared.Version.{Version}
-use Rattle.parties.specs.declared.NextSequence.{NextSequence}
-use Rattle.parties.specs.declared.NextIndex.{NextIndex}
 
 -- a version is (sequence, client), ordered by sequence, then client
 abbrev pub below : Version → Version → Bool
@@ -24,11 +22,11 @@ is_no_version v = eqb v.sequence.0 0 && eqb v.client no_client
 abbrev pub last_number : ℕ
 last_number = 4294967295
 
-abbrev pub next_sequence : Sequence → NextSequence
-next_sequence s = cond (ltb s.0 last_number) (NextSequence.Drawn (record { 0 = s.0 + 1 })) NextSequence.Spent
+abbrev pub next_sequence : Sequence → Option Sequence
+next_sequence s = cond (ltb s.0 last_number) (Some (record { 0 = s.0 + 1 })) None
 
-abbrev pub next_index : ReadingIndex → NextIndex
-next_index i = cond (ltb i.0 last_number) (NextIndex.Raised (record { 0 = i.0 + 1 })) NextIndex.Spent
+abbrev pub next_index : ReadingIndex → Option ReadingIndex
+next_index i = cond (ltb i.0 last_number) (Some (record { 0 = i.0 + 1 })) None
 
 -- strictly ascending
 unfoldable pub ascending : List Version → Bool

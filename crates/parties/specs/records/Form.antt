@@ -1,7 +1,8 @@
 -- What is left after a reader, without its value, and what a form test says of it.
-use Rattle.std.specs.Prelude.{◌≡◌, Bool, true, false, cond, ◌&&◌, List, [], ℕ, ◌+◌, ◌*◌, ◌/◌, ◌%◌, ◌<◌, ◌≤◌, eqb, length, drop, get_or}
+use Rattle.std.specs.Prelude.{Option as StdOption, Some, None, Result, Ok, Err, ◌≡◌, Bool, true, false, cond, ◌&&◌, List, [], ℕ, ◌+◌, ◌*◌, ◌/◌, ◌%◌, ◌<◌, ◌≤◌, eqb, length, drop, get_or}
 use Rattle.std.proofs.Math.Option.{Option, some, none}
 use Rattle.parties.specs.declared.Measures.{Measures}
+use Rattle.parties.specs.declared.Refusal.{Refusal}
 use Rattle.parties.specs.declared.Version.{Version}
 use Rattle.parties.specs.protocol.Format.{Read, Reader, given}
 use Rattle.parties.specs.protocol.Measures.{row_size}
@@ -10,30 +11,24 @@ use Rattle.parties.specs.protocol.Directory.{Field, fields, read_content, read_f
 use Rattle.parties.specs.protocol.Owner.{own_pointer, own_fields, own_row, own_rows}
 use Rattle.parties.specs.protocol.Verdict.{broken, rows_verdict, record_verdict}
 use Rattle.parties.specs.records.Answer.{number}
-use Rattle.parties.specs.declared.records.form.Form.{Form}
-use Rattle.parties.specs.declared.records.form.Form.TheVariants.{Sound, Broken}
 use Rattle.parties.specs.declared.records.form.Ends.{Ends}
+use Rattle.parties.specs.declared.records.form.Fields.{Fields}
 use Rattle.parties.specs.declared.records.form.Rule.{Rule}
-use Rattle.parties.specs.declared.records.form.Parts.{Parts}
-use Rattle.parties.specs.declared.records.form.OwnParts.{OwnParts}
-use Rattle.parties.specs.declared.records.form.Record.{Record}
-use Rattle.parties.specs.declared.records.form.Table.{Table}
-use Rattle.parties.specs.declared.records.form.Verdict.{Verdict}
 
 abbrev pub rest : {A : Type 0} → Option (Read A) → Option (List ℕ)
 rest none = none
 rest (some r) = some r.rest
 
-abbrev pub told : List ℕ → Form → Option (List ℕ)
-told t (Sound next) = some (drop next t)
-told t Broken = none
+abbrev pub told : List ℕ → StdOption ℕ → Option (List ℕ)
+told t (Some next) = some (drop next t)
+told t None = none
 
-abbrev pub Within : ℕ → ℕ → Form → Type 0
-Within at n (Sound next) = (at ≤ next) × (next ≤ n)
-Within at n Broken = Unit {0}
+abbrev pub Within : ℕ → ℕ → StdOption ℕ → Type 0
+Within at n (Some next) = (at ≤ next) × (next ≤ n)
+Within at n None = Unit {0}
 
 -- the test at a place of t answers what is left after the reader
-pub record Formed (t : List ℕ) (at : ℕ) (left : Option (List ℕ)) (r : Form) : Type 0 where
+pub record Formed (t : List ℕ) (at : ℕ) (left : Option (List ℕ)) (r : StdOption ℕ) : Type 0 where
   pub told : told t r ≡ left
   pub within : Within at (length t) r
 
@@ -63,7 +58,7 @@ abbrev pub after : Reader Pointer → Field → ℕ → List ℕ → Option (Lis
 after r f bit u = after_if r f (eqb bit 1) u
 
 -- a field of indices is tested alike, however pointers are read
-abbrev pub Indexed : ℕ → Bool → List ℕ → ℕ → Form → Type 0
+abbrev pub Indexed : ℕ → Bool → List ℕ → ℕ → StdOption ℕ → Type 0
 Indexed n stands t at f = (r : Reader Pointer) → Formed t at (after_if r (Field.indices n) stands (drop at t)) f
 
 -- the fields of a record from a place of t on, each from the end of the one before it
@@ -74,9 +69,9 @@ pub record Ended (s : Measures) (r : Reader Pointer) (t : List ℕ) (at map : �
   pub index : after r (Field.indices 1) (map / 2 / 2 / 2 % 2) (drop e.indices t) ≡ some (drop e.index t)
   pub ordered : (at ≤ e.written) × (e.written ≤ e.frozen) × (e.frozen ≤ e.indices) × (e.indices ≤ e.index) × (e.index ≤ length t)
 
-abbrev pub Parted : Measures → Rule → List ℕ → ℕ → ℕ → Parts → Type 0
-Parted s rule t at map (Parts.Sound e) = Ended s (pointer_by s rule) t at map e
-Parted s rule t at map Parts.Broken = rest (read_fields (pointer_by s rule) (fields s) map (drop at t)) ≡ none
+abbrev pub Parted : Measures → Rule → List ℕ → ℕ → ℕ → StdOption Ends → Type 0
+Parted s rule t at map (Some e) = Ended s (pointer_by s rule) t at map e
+Parted s rule t at map None = rest (read_fields (pointer_by s rule) (fields s) map (drop at t)) ≡ none
 
 -- what is read passes a test
 abbrev pub holds : {A : Type 0} → (A → Bool) → Option (Read A) → Bool
@@ -84,31 +79,31 @@ holds test none = false
 holds test (some r) = test r.value
 
 -- proper fields, and whether each pointer is the owner's
-abbrev pub OwnParted : Measures → ℕ → List ℕ → ℕ → ℕ → OwnParts → Type 0
-OwnParted s own t at map (OwnParts.Sound e owned) =
-    Ended s (read_pointer s) t at map e × (owned ≡ holds (own_fields own) (read_fields (read_pointer s) (fields s) map (drop at t)))
-OwnParted s own t at map OwnParts.Broken = rest (read_fields (read_pointer s) (fields s) map (drop at t)) ≡ none
+abbrev pub OwnParted : Measures → ℕ → List ℕ → ℕ → ℕ → StdOption Fields → Type 0
+OwnParted s own t at map (Some x) =
+    Ended s (read_pointer s) t at map x.ends × (x.owned ≡ holds (own_fields own) (read_fields (read_pointer s) (fields s) map (drop at t)))
+OwnParted s own t at map None = rest (read_fields (read_pointer s) (fields s) map (drop at t)) ≡ none
 
 -- the record that is all of t
 abbrev pub Walked : Measures → List ℕ → Ends → Type 0
 Walked s t e = (0 < length t) × (get_or t 0 0 < 16) × Ended s (read_pointer s) t 1 (get_or t 0 0) e × (e.index ≡ length t)
 
-abbrev pub Recorded : Measures → ℕ → List ℕ → Record → Type 0
-Recorded s own t (Record.Sound e owned) =
-    Walked s t e × (owned ≡ holds (own_fields own) (read_fields (read_pointer s) (fields s) (get_or t 0 0) (drop 1 t)))
-Recorded s own t (Record.Broken r) = record_verdict s t ≡ broken (number r)
+abbrev pub Recorded : Measures → ℕ → List ℕ → Result Fields Refusal → Type 0
+Recorded s own t (Ok x) =
+    Walked s t x.ends × (x.owned ≡ holds (own_fields own) (read_fields (read_pointer s) (fields s) (get_or t 0 0) (drop 1 t)))
+Recorded s own t (Err r) = record_verdict s t ≡ broken (number r)
 
 -- the row at a place of t
-abbrev pub Rowed : Measures → ℕ → List ℕ → ℕ → Table → Type 0
-Rowed s own t at (Table.Sound owned) =
+abbrev pub Rowed : Measures → ℕ → List ℕ → ℕ → StdOption Bool → Type 0
+Rowed s own t at (Some owned) =
     (rest (read_row s (drop at t)) ≡ some (drop (at + row_size s) t)) × (owned ≡ holds (own_row own) (read_row s (drop at t)))
-Rowed s own t at Table.Broken = read_row s (drop at t) ≡ none
+Rowed s own t at None = read_row s (drop at t) ≡ none
 
 -- the directory at the front of t
-abbrev pub Tabled : Measures → List ℕ → Table → Type 0
-Tabled s t (Table.Sound owned) = (rest (read_directory s t) ≡ some (drop (s.m * row_size s) t)) × (owned ≡ holds (own_rows 0) (read_directory s t))
-Tabled s t Table.Broken = read_directory s t ≡ none
+abbrev pub Tabled : Measures → List ℕ → StdOption Bool → Type 0
+Tabled s t (Some owned) = (rest (read_directory s t) ≡ some (drop (s.m * row_size s) t)) × (owned ≡ holds (own_rows 0) (read_directory s t))
+Tabled s t None = read_directory s t ≡ none
 
-abbrev pub Judged : Measures → List ℕ → Verdict → Type 0
-Judged s t Verdict.Sound = (rest (read_directory s t) ≡ some (drop (s.m * row_size s) t)) × (true ≡ holds (own_rows 0) (read_directory s t))
-Judged s t (Verdict.Broken r) = rows_verdict s t ≡ broken (number r)
+abbrev pub Judged : Measures → List ℕ → Result (Unit {0}) Refusal → Type 0
+Judged s t (Ok x) = (rest (read_directory s t) ≡ some (drop (s.m * row_size s) t)) × (true ≡ holds (own_rows 0) (read_directory s t))
+Judged s t (Err r) = rows_verdict s t ≡ broken (number r)

@@ -1,7 +1,7 @@
 // A reading's scan: which pointer each row offers, and which of them is picked.
-ghost use Rattle.std.specs.Prelude.{◌≡◌, true, cond, [], ◌++◌, ◌+◌, ◌-◌, ◌*◌, ◌≤◌, ◌<◌, length, drop, replicate};
+ghost use Rattle.std.specs.Prelude.{◌≡◌, true, cond, [], ◌++◌, ◌+◌, ◌-◌, ◌*◌, ◌≤◌, ◌<◌, length, drop, replicate, Ok};
 ghost use Rattle.std.proofs.Math.Option.{some};
-ghost use Rattle.parties.specs.protocol.Measures.{passes, row_size};
+ghost use Rattle.parties.specs.protocol.Measures.{row_size};
 ghost use Rattle.parties.specs.protocol.Format.{read_many};
 ghost use Rattle.parties.specs.protocol.Version.{below};
 ghost use Rattle.parties.specs.protocol.Pointer.{read_pointer, write_pointer};
@@ -19,11 +19,12 @@ ghost use Rattle.parties.specs.client.Choose.{offered, fetch_end};
 
 use crate::client::form::{work_at, work_size};
 use crate::client::pick::picked;
+use crate::protocol::measures::Passed;
 use crate::protocol::tags::REQUEST;
 use crate::records::bytes::{clear, copy, u16_at, u32_at};
-use crate::records::form::{Form, Rule, pointers, row_size};
+use crate::records::form::{Rule, pointers, row_size};
 use crate::records::version::version_at;
-use crate::{ClientAnswer, Measures, Phase, ReadingIndex, Version};
+use crate::{ClientAnswer, Phase, ReadingIndex, Version};
 
 // A row, by its place, and the version of the pointer that it offers.
 #[derive(Clone, Copy)]
@@ -33,33 +34,31 @@ pub struct Offer {
 }
 
 // The place after n pointers that stand there.
-pub fn past(s: Measures, n: usize, t: &[u8], at: usize) -> usize
-    requires { (passes s ≡ true) × (at ≤ length t.now) × (is_some (read_many (read_pointer s) n (drop at t.now)) ≡ true) }
-    ensures { (rest (read_many (read_pointer s) n (drop at t.now)) ≡ some (drop result t.now)) × (result ≤ length t.now) }
+pub fn past(s: Passed, n: usize, t: &[u8], at: usize) -> usize
+    requires { (at ≤ length t.now) × (is_some (read_many (read_pointer s.measures) n (drop at t.now)) ≡ true) }
+    ensures { (rest (read_many (read_pointer s.measures) n (drop at t.now)) ≡ some (drop result t.now)) × (result ≤ length t.now) }
 {
-    let Form::Sound(next) = pointers(s, Rule::Proper, n, t, at) else {
-        return at;
-    };
-    next
+    // The other value is not reached: the pointers read.
+    pointers(s, Rule::Proper, n, t, at).unwrap_or(at)
 }
 
 // The pointer that the row at a place offers: the written one, or the one frozen for this client.
-pub fn candidate_at(s: Measures, own: usize, index: ReadingIndex, rows: &[u8], at: usize) -> &[u8]
-    requires { (passes s ≡ true) × (own < s.m) × (at + row_size s ≤ length rows.now) × (is_some (read_row s (drop at rows.now)) ≡ true) }
-    ensures { result.now ≡ write_pointer (offered s own index rows.now at) }
+pub fn candidate_at(s: Passed, own: usize, index: ReadingIndex, rows: &[u8], at: usize) -> &[u8]
+    requires { (own < s.measures.m) × (at + row_size s.measures ≤ length rows.now) × (is_some (read_row s.measures (drop at rows.now)) ≡ true) }
+    ensures { result.now ≡ write_pointer (offered s.measures own index rows.now at) }
 {
     let written = at + 1;
     let frozen = past(s, own + 1, rows, written);
-    let indices = past(s, s.m - own, rows, frozen);
+    let indices = past(s, s.measures.m - own, rows, frozen);
     let i = u32_at(rows, indices + 4 * own);
     let w = &rows[written..];
     let f = &rows[frozen..];
     picked(w, f, index, ReadingIndex(i))
 }
 
-fn offer_at(s: Measures, own: usize, index: ReadingIndex, rows: &[u8], at: usize) -> Offer
-    requires { (passes s ≡ true) × (own < s.m) × (at + row_size s ≤ length rows.now) × (is_some (read_row s (drop at rows.now)) ≡ true) }
-    ensures { result ≡ record { row = at; version = (offered s own index rows.now at).version } }
+fn offer_at(s: Passed, own: usize, index: ReadingIndex, rows: &[u8], at: usize) -> Offer
+    requires { (own < s.measures.m) × (at + row_size s.measures ≤ length rows.now) × (is_some (read_row s.measures (drop at rows.now)) ≡ true) }
+    ensures { result ≡ record { row = at; version = (offered s.measures own index rows.now at).version } }
 {
     let p = candidate_at(s, own, index, rows, at);
     let version = version_at(p, 0);
@@ -77,19 +76,17 @@ fn better(best: Offer, new: Offer) -> Offer
 }
 
 // The place of the row whose offer a reading picks: from the last row to the first, so that on a tie the lowest row's wins.
-pub fn pick_row(s: Measures, own: usize, index: ReadingIndex, rows: &[u8]) -> usize
-    requires { (passes s ≡ true) × (own < s.m) × (s.m * row_size s ≤ length rows.now) × (is_some (read_directory s rows.now) ≡ true) }
-    ensures { (offered s own index rows.now result ≡ pick own index (rows_of (read_directory s rows.now)))
-        × (result + row_size s ≤ length rows.now) × (is_some (read_row s (drop result rows.now)) ≡ true) }
+pub fn pick_row(s: Passed, own: usize, index: ReadingIndex, rows: &[u8]) -> usize
+    requires { (own < s.measures.m) × (s.measures.m * row_size s.measures ≤ length rows.now) × (is_some (read_directory s.measures rows.now) ≡ true) }
+    ensures { (offered s.measures own index rows.now result ≡ pick own index (rows_of (read_directory s.measures rows.now)))
+        × (result + row_size s.measures ≤ length rows.now) × (is_some (read_row s.measures (drop result rows.now)) ≡ true) }
 {
     let size = row_size(s);
-    let mut i = s.m - 1;
-    let mut best = offer_at(s, own, index, rows, i * size);
-    while 0 < i {
-        i -= 1;
+    let last = s.measures.m - 1;
+    let mut best = offer_at(s, own, index, rows, last * size);
+    for i in (0..last).rev() {
         let new = offer_at(s, own, index, rows, i * size);
-        let chosen = better(best, new);
-        best = chosen;
+        best = better(best, new);
     }
     best.row
 }
@@ -115,16 +112,16 @@ pub fn put_fetched(area: &mut [u8], at: usize, size: usize, p: &[u8])
 
 // The scan's answer of a reading: the picked pointer is fetched, or the reading ends empty.
 pub fn fetch(
-    s: Measures,
+    s: Passed,
     own: usize,
     p: Phase,
     area: &mut [u8],
     rows: &[u8],
     room: &mut [u8],
 ) -> ClientAnswer
-    requires { (passes s ≡ true) × (own < s.m) × (p.step ≡ picking_step) × (is_some (read_client s (record_of p area.old)) ≡ true)
-        × (s.m * row_size s ≤ length rows.now) × (is_some (read_directory s rows.now) ≡ true) × (room_size s ≤ length room.old) }
-    ensures { step_end p result area.new room.new [] ≡ fetch_end s own (record_of p area.old) rows.now room.old }
+    requires { (own < s.measures.m) × (p.step ≡ picking_step) × (is_some (read_client s.measures (record_of p area.old)) ≡ true)
+        × (s.measures.m * row_size s.measures ≤ length rows.now) × (is_some (read_directory s.measures rows.now) ≡ true) × (room_size s.measures ≤ length room.old) }
+    ensures { step_end p (Ok result) area.new room.new [] ≡ fetch_end s.measures own (record_of p area.old) rows.now room.old }
 {
     let reading = p.reading;
     let row = pick_row(s, own, reading, rows);

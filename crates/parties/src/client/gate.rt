@@ -6,22 +6,16 @@ ghost use Rattle.parties.specs.client.Record.{area_size};
 ghost use Rattle.parties.specs.client.Gate.{Gated};
 
 use crate::client::form::{area_size, sound};
+use crate::protocol::measures::Passed;
 use crate::records::form::row_size;
 use crate::{Measures, Phase, Refusal};
 
-#[derive(Clone, Copy)]
-pub enum Gate {
-    Open,
-    Shut(Refusal),
-}
-
 // The room that a client's events want.
-pub fn room_size(s: Measures) -> usize
-    requires { passes s ≡ true }
-    ensures { result ≡ room_size s }
+pub fn room_size(s: Passed) -> usize
+    ensures { result ≡ room_size s.measures }
 {
     let row = row_size(s);
-    row + (6 + s.n * s.f)
+    row + (6 + s.measures.n * s.measures.f)
 }
 
 // The measures pass, and an area of this length is long enough.
@@ -31,7 +25,7 @@ pub fn area_long(s: Measures, area: usize) -> bool
     if !s.pass() {
         return false;
     }
-    let size = area_size(s);
+    let size = area_size(Passed { measures: s });
     size <= area
 }
 
@@ -42,7 +36,7 @@ pub fn area_and_room_long(s: Measures, area: usize, room: usize) -> bool
     if !area_long(s, area) {
         return false;
     }
-    let size = room_size(s);
+    let size = room_size(Passed { measures: s });
     size <= room
 }
 
@@ -53,7 +47,7 @@ pub fn area_rows_and_room_long(s: Measures, area: usize, rows: usize, room: usiz
     if !area_and_room_long(s, area, room) {
         return false;
     }
-    let size = row_size(s);
+    let size = row_size(Passed { measures: s });
     s.m * size <= rows
 }
 
@@ -81,21 +75,21 @@ pub fn numbered(s: Measures, own: usize, i: usize) -> bool
 }
 
 // Whether lent slices are long enough and numbers within bounds is told; then the record's form is tested.
-pub fn admit(s: Measures, enough: bool, within: bool, p: Phase, area: &[u8]) -> Gate
+pub fn admit(s: Measures, enough: bool, within: bool, p: Phase, area: &[u8]) -> Result<(), Refusal>
     requires { enough ≡ true → area_size s ≤ length area.now }
     ensures { Gated s p area.now enough within result }
 {
     if !s.pass() {
-        return Gate::Shut(Refusal::Measures);
+        return Err(Refusal::Measures);
     }
     if !enough {
-        return Gate::Shut(Refusal::Short);
+        return Err(Refusal::Short);
     }
     if !within {
-        return Gate::Shut(Refusal::Number);
+        return Err(Refusal::Number);
     }
-    if !sound(s, p, area) {
-        return Gate::Shut(Refusal::Form);
+    if !sound(Passed { measures: s }, p, area) {
+        return Err(Refusal::Form);
     }
-    Gate::Open
+    Ok(())
 }

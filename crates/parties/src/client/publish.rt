@@ -2,7 +2,7 @@
 ghost use Rattle.std.specs.Prelude.{◌≡◌, true, cond, ◌++◌, ◌+◌, ◌-◌, ◌*◌, ◌^◌, ◌≤◌, ◌<◌, length, take, drop, replicate};
 ghost use Rattle.std.proofs.Math.Seq.{paste};
 ghost use Rattle.parties.specs.protocol.Format.{write_many};
-ghost use Rattle.parties.specs.protocol.Measures.{passes, pointer_size};
+ghost use Rattle.parties.specs.protocol.Measures.{pointer_size};
 ghost use Rattle.parties.specs.protocol.Nodes.{stands as standing, count as counted};
 ghost use Rattle.parties.specs.protocol.Pointer.{write_pointer};
 ghost use Rattle.parties.specs.protocol.Client.{read_retained, read_some, work_size};
@@ -13,9 +13,9 @@ ghost use Rattle.parties.specs.client.Pick.{pointer_part};
 ghost use Rattle.parties.specs.client.Found.{retained_in, pointer_in};
 ghost use Rattle.parties.specs.client.Publish.{pointer_from, update_of};
 
-use crate::Measures;
 use crate::client::form::{work_at, work_size};
 use crate::client::pick::pointer_part;
+use crate::protocol::measures::Passed;
 use crate::records::bytes::{clear, copy, move_down, put_u16};
 use crate::records::form::{DEPOSIT_MAP, pointer_size};
 use crate::records::nodes::stands;
@@ -34,28 +34,23 @@ fn keep_digest(map: u16, i: usize, area: &mut [u8], from: usize, to: usize) -> u
 }
 
 // The digests of the nodes that the map names, one behind the other. None goes up, so those to come are as they were.
-fn gather(s: Measures, map: u16, area: &mut [u8], at: usize)
-    requires { (passes s ≡ true) × (map < 2 ^ s.n) × (at + 7 + 32 * s.n ≤ length area.old) }
+fn gather(s: Passed, map: u16, area: &mut [u8], at: usize)
+    requires { (map < 2 ^ s.measures.n) × (at + 7 + 32 * s.measures.n ≤ length area.old) }
     ensures { area.new
-        ≡ splice area.old (at + 7) (write_many (λ d. d) (pointer_from s map area.old at).named.digests) }
+        ≡ splice area.old (at + 7) (write_many (λ d. d) (pointer_from s.measures map area.old at).named.digests) }
 {
-    let n = s.n;
-    let mut from = at + 7;
+    let from = at + 7;
     let mut to = from;
-    let mut i = 0;
-    while i < n {
-        let next = keep_digest(map, i, area, from, to);
-        to = next;
-        from += 32;
-        i += 1;
+    for i in 0..s.measures.n {
+        to = keep_digest(map, i, area, from + 32 * i, to);
     }
 }
 
 // The work of a deposit whose stores enough nodes acknowledged: its pointer, with their digests, and spare bytes.
-pub fn form_pointer(s: Measures, map: u16, area: &mut [u8], at: usize)
-    requires { (passes s ≡ true) × (map < 2 ^ s.n) × (counted map ≡ s.t + s.k) × (at + work_size s ≤ length area.old) }
+pub fn form_pointer(s: Passed, map: u16, area: &mut [u8], at: usize)
+    requires { (map < 2 ^ s.measures.n) × (counted map ≡ s.measures.t + s.measures.k) × (at + work_size s.measures ≤ length area.old) }
     ensures { area.new
-        ≡ paste area.old at (write_pointer (pointer_from s map area.old at) ++ replicate (work_size s - pointer_size s) 0) (work_size s) }
+        ≡ paste area.old at (write_pointer (pointer_from s.measures map area.old at) ++ replicate (work_size s.measures - pointer_size s.measures) 0) (work_size s.measures) }
 {
     let front = pointer_size(s);
     let size = work_size(s);
@@ -78,34 +73,29 @@ fn put_pointer(area: &[u8], from: usize, room: &mut [u8], at: usize) -> usize
 }
 
 // The frozen pointers, one behind the other, and the place after them.
-fn put_frozen(s: Measures, size: usize, area: &[u8], room: &mut [u8], at: usize) -> usize
-    requires { (passes s ≡ true) × (size ≡ pointer_size s) × (is_some (read_retained s area.now) ≡ true) × (area_size s ≤ length area.now)
-        × (at + s.m * pointer_size s ≤ length room.old) }
-    ensures { (result ≡ at + length (write_many write_pointer (retained_in s area.now).frozen))
-        × (room.new ≡ splice room.old at (write_many write_pointer (retained_in s area.now).frozen)) }
+fn put_frozen(s: Passed, size: usize, area: &[u8], room: &mut [u8], at: usize) -> usize
+    requires { (size ≡ pointer_size s.measures) × (is_some (read_retained s.measures area.now) ≡ true) × (area_size s.measures ≤ length area.now)
+        × (at + s.measures.m * pointer_size s.measures ≤ length room.old) }
+    ensures { (result ≡ at + length (write_many write_pointer (retained_in s.measures area.now).frozen))
+        × (room.new ≡ splice room.old at (write_many write_pointer (retained_in s.measures area.now).frozen)) }
 {
     let mut end = at;
-    let mut from = size;
-    let mut q = 0;
-    while q < s.m {
-        let next = put_pointer(area, from, room, end);
-        end = next;
-        from += size;
-        q += 1;
+    for q in 0..s.measures.m {
+        end = put_pointer(area, (q + 1) * size, room, end);
     }
     end
 }
 
 // The record of a deposit's update at the front of the room, and its length: the new pointer, and what is frozen.
-pub fn put_update(s: Measures, area: &[u8], room: &mut [u8]) -> usize
-    requires { (passes s ≡ true) × (is_some (read_retained s area.now) ≡ true) × (is_some (read_some s (drop (work_at s) area.now)) ≡ true)
-        × (area_size s ≤ length area.now) × (room_size s ≤ length room.old) }
-    ensures { (result ≡ length (update_of (retained_in s area.now) (pointer_in s area.now)))
-        × (room.new ≡ lay (update_of (retained_in s area.now) (pointer_in s area.now)) room.old) }
+pub fn put_update(s: Passed, area: &[u8], room: &mut [u8]) -> usize
+    requires { (is_some (read_retained s.measures area.now) ≡ true) × (is_some (read_some s.measures (drop (work_at s.measures) area.now)) ≡ true)
+        × (area_size s.measures ≤ length area.now) × (room_size s.measures ≤ length room.old) }
+    ensures { (result ≡ length (update_of (retained_in s.measures area.now) (pointer_in s.measures area.now)))
+        × (room.new ≡ lay (update_of (retained_in s.measures area.now) (pointer_in s.measures area.now)) room.old) }
 {
     let size = pointer_size(s);
     let at = work_at(s);
-    let n = 4 * s.m;
+    let n = 4 * s.measures.m;
     room[0] = DEPOSIT_MAP;
     copy(room, 1, area, at, size);
     let end = put_frozen(s, size, area, room, 1 + size);

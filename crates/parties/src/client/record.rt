@@ -1,80 +1,96 @@
 // Events at a client over its whole record in one lent slice.
 ghost use Rattle.std.specs.Prelude.{◌≡◌, cond};
 ghost use Rattle.parties.specs.protocol.Measures.{passes};
-ghost use Rattle.parties.specs.protocol.Answer.{refused};
 ghost use Rattle.parties.specs.protocol.ClientEvents.{client_fresh, start_deposit, start_reading, update_answer, scan_answer, client_message};
+ghost use Rattle.parties.specs.records.Answer.{number};
 ghost use Rattle.parties.specs.client.Answer.{answered};
 
-use crate::client::lent;
+use crate::client::event;
 use crate::client::phase::{phase_of, put_phase};
 use crate::{ClientAnswer, Measures, Refusal};
 
-// Of a record that is too short for its phase.
-fn brief(s: Measures) -> ClientAnswer
-    ensures { answered result ≡ cond (passes s) (refused 2) (refused 1) }
+// Why a record that is too short for its phase is refused.
+fn brief(s: Measures) -> Refusal
+    ensures { number result ≡ cond (passes s) 2 1 }
 {
-    if !s.pass() {
-        return ClientAnswer::Refused(Refusal::Measures);
+    if s.pass() {
+        Refusal::Short
+    } else {
+        Refusal::Measures
     }
-    ClientAnswer::Refused(Refusal::Short)
 }
 
 // A fresh record is written.
-pub fn fresh(s: Measures, client: &mut [u8]) -> ClientAnswer
+pub fn fresh(s: Measures, client: &mut [u8]) -> Result<ClientAnswer, Refusal>
     ensures { (answered result ≡ (client_fresh s client.old).answer)
         × (client.new ≡ (client_fresh s client.old).client) }
 {
     if client.len() < 5 {
-        return brief(s);
+        return Err(brief(s));
     }
-    let p = phase_of(client);
-    let t = lent::fresh(p, s, &mut client[5..]);
-    put_phase(client, t.phase);
-    t.answer
+    let mut p = phase_of(client);
+    let answer = event::fresh(&mut p, s, &mut client[5..]);
+    put_phase(client, p);
+    answer
 }
 
 // The start of a deposit.
-pub fn deposit(s: Measures, own: usize, client: &mut [u8], page: &[u8]) -> ClientAnswer
+pub fn deposit(
+    s: Measures,
+    own: usize,
+    client: &mut [u8],
+    page: &[u8],
+) -> Result<ClientAnswer, Refusal>
     ensures { (answered result ≡ (start_deposit s own client.old page.now).answer)
         × (client.new ≡ (start_deposit s own client.old page.now).client) }
 {
     if client.len() < 5 {
-        return brief(s);
+        return Err(brief(s));
     }
-    let p = phase_of(client);
-    let t = lent::deposit(p, s, own, &mut client[5..], page);
-    put_phase(client, t.phase);
-    t.answer
+    let mut p = phase_of(client);
+    let answer = event::deposit(&mut p, s, own, &mut client[5..], page);
+    put_phase(client, p);
+    answer
 }
 
 // The start of a reading.
-pub fn read(s: Measures, own: usize, client: &mut [u8], room: &mut [u8]) -> ClientAnswer
+pub fn read(
+    s: Measures,
+    own: usize,
+    client: &mut [u8],
+    room: &mut [u8],
+) -> Result<ClientAnswer, Refusal>
     ensures { (answered result ≡ (start_reading s own client.old room.old).answer)
         × (client.new ≡ (start_reading s own client.old room.old).client)
         × (room.new ≡ (start_reading s own client.old room.old).room) }
 {
     if client.len() < 5 {
-        return brief(s);
+        return Err(brief(s));
     }
-    let p = phase_of(client);
-    let t = lent::read(p, s, own, &mut client[5..], room);
-    put_phase(client, t.phase);
-    t.answer
+    let mut p = phase_of(client);
+    let answer = event::read(&mut p, s, own, &mut client[5..], room);
+    put_phase(client, p);
+    answer
 }
 
 // The acknowledgement of an update.
-pub fn updated(s: Measures, own: usize, client: &mut [u8], room: &mut [u8]) -> ClientAnswer
+pub fn updated(
+    s: Measures,
+    own: usize,
+    client: &mut [u8],
+    room: &mut [u8],
+) -> Result<ClientAnswer, Refusal>
     ensures { (answered result ≡ (update_answer s own client.old room.old).answer)
         × (client.new ≡ (update_answer s own client.old room.old).client)
         × (room.new ≡ (update_answer s own client.old room.old).room) }
 {
     if client.len() < 5 {
-        return brief(s);
+        return Err(brief(s));
     }
-    let p = phase_of(client);
-    let t = lent::updated(p, s, own, &mut client[5..], room);
-    put_phase(client, t.phase);
-    t.answer
+    let mut p = phase_of(client);
+    let answer = event::updated(&mut p, s, own, &mut client[5..], room);
+    put_phase(client, p);
+    answer
 }
 
 // The rows of a scan.
@@ -84,18 +100,18 @@ pub fn scanned(
     client: &mut [u8],
     rows: &[u8],
     room: &mut [u8],
-) -> ClientAnswer
+) -> Result<ClientAnswer, Refusal>
     ensures { (answered result ≡ (scan_answer s own client.old rows.now room.old).answer)
         × (client.new ≡ (scan_answer s own client.old rows.now room.old).client)
         × (room.new ≡ (scan_answer s own client.old rows.now room.old).room) }
 {
     if client.len() < 5 {
-        return brief(s);
+        return Err(brief(s));
     }
-    let p = phase_of(client);
-    let t = lent::scanned(p, s, own, &mut client[5..], rows, room);
-    put_phase(client, t.phase);
-    t.answer
+    let mut p = phase_of(client);
+    let answer = event::scanned(&mut p, s, own, &mut client[5..], rows, room);
+    put_phase(client, p);
+    answer
 }
 
 // A message from node i.
@@ -104,20 +120,20 @@ pub fn receive(
     own: usize,
     i: usize,
     client: &mut [u8],
-    message: &[u8],
+    b: &[u8],
     room: &mut [u8],
     out: &mut [u8],
-) -> ClientAnswer
-    ensures { (answered result ≡ (client_message s own i client.old message.now room.old out.old).answer)
-        × (client.new ≡ (client_message s own i client.old message.now room.old out.old).client)
-        × (room.new ≡ (client_message s own i client.old message.now room.old out.old).room)
-        × (out.new ≡ (client_message s own i client.old message.now room.old out.old).out) }
+) -> Result<ClientAnswer, Refusal>
+    ensures { (answered result ≡ (client_message s own i client.old b.now room.old out.old).answer)
+        × (client.new ≡ (client_message s own i client.old b.now room.old out.old).client)
+        × (room.new ≡ (client_message s own i client.old b.now room.old out.old).room)
+        × (out.new ≡ (client_message s own i client.old b.now room.old out.old).out) }
 {
     if client.len() < 5 {
-        return brief(s);
+        return Err(brief(s));
     }
-    let p = phase_of(client);
-    let t = lent::receive(p, s, own, i, &mut client[5..], message, room, out);
-    put_phase(client, t.phase);
-    t.answer
+    let mut p = phase_of(client);
+    let answer = event::receive(&mut p, s, own, i, &mut client[5..], b, room, out);
+    put_phase(client, p);
+    answer
 }

@@ -1,8 +1,8 @@
 // Replies to a reading: the first reply of each named node is counted, and k matching pieces end the reading.
-ghost use Rattle.std.specs.Prelude.{◌≡◌, true, not, cond, ◌&&◌, List, ℕ, ◌+◌, ◌-◌, ◌*◌, ◌<◌, ◌≤◌, length, take, drop};
+ghost use Rattle.std.specs.Prelude.{◌≡◌, true, not, cond, ◌&&◌, List, ℕ, ◌+◌, ◌-◌, ◌*◌, ◌<◌, ◌≤◌, length, take, drop, Ok};
 ghost use Rattle.std.proofs.Math.Option.{some, none};
 ghost use Rattle.std.proofs.Math.Seq.{paste};
-ghost use Rattle.coding.specs.Answer.{join_outcome};
+ghost use Rattle.coding.specs.Answer.{outcome};
 ghost use Rattle.coding.specs.Join.{join as joinEnd};
 ghost use Rattle.coding.specs.Nodes.{all};
 ghost use Rattle.parties.specs.protocol.Format.{write_area};
@@ -12,17 +12,18 @@ ghost use Rattle.parties.specs.protocol.Reading.{same_bytes};
 ghost use Rattle.parties.specs.protocol.Client.{fetching_step, work_size, read_client};
 ghost use Rattle.parties.specs.client.End.{step_end};
 ghost use Rattle.parties.specs.client.Record.{record_of, work_at, is_some};
-ghost use Rattle.parties.specs.client.Reply.{replied_end, maps_at, standing_at, counts_at, digest_place, matches_at, went_on, cleared, mapped, area_put, piece_put, lengths_with};
+ghost use Rattle.parties.specs.client.Reply.{replied_end, maps_at, standing_at, counts_at, Awaits, digest_place, matches_at, went_on, cleared, mapped, area_put, piece_put, lengths_with};
 
 use crate::client::draw::digest_piece;
 use crate::client::form::{work_at, work_size};
 use crate::client::step::FETCHING;
+use crate::protocol::measures::Passed;
 use crate::records::bytes::{clear, copy, put_u16, u16_at};
 use crate::records::form::pointer_size;
 use crate::records::nodes::{count, rank, stands, with_node};
 use crate::records::version::{same_version, version_at};
-use crate::{ClientAnswer, Measures, Phase, Refusal, Version};
-use coding::answer::JoinAnswer;
+use crate::{ClientAnswer, Phase, Refusal, Version};
+use coding::answer::Refusal as Unjoined;
 use coding::join::join;
 
 // What a reading keeps beside its pieces: the picked version, the nodes named, those counted, those that match.
@@ -72,14 +73,28 @@ fn counts(x: Standing, i: usize, v: Version) -> bool
     awaited(x.named, x.counted, i)
 }
 
+// What a reading keeps that waits for this reply: with its version, and the first of a named node.
+fn awaited_reply(s: Passed, i: usize, v: Version, p: Phase, area: &[u8]) -> Option<Standing>
+    requires { (1 ≤ i) × (i ≤ s.measures.n) × (is_some (read_client s.measures (record_of p area.now)) ≡ true) }
+    ensures { Awaits s.measures i v p area.now result }
+{
+    if p.step != FETCHING {
+        return None;
+    }
+    let at = work_at(s);
+    let x = standing_at(area, at, at + pointer_size(s));
+    if !counts(x, i, v) {
+        return None;
+    }
+    Some(x)
+}
+
 // Every named node's reply is counted.
 fn all_counted(named: u16, counted: u16) -> bool
     ensures { result ≡ all (standing counted) (nodes_in named) }
 {
-    let mut i = 0;
-    while i < 16 {
-        i += 1;
-        if awaited(named, counted, i) {
+    for i in 0..16 {
+        if awaited(named, counted, i + 1) {
             return false;
         }
     }
@@ -90,14 +105,7 @@ fn same_bytes(d: [u8; 32], t: &[u8], at: usize) -> bool
     requires { at + 32 ≤ length t.now }
     ensures { result ≡ same_bytes d (take 32 (drop at t.now)) }
 {
-    let mut l = 0;
-    while l < 32 {
-        if d[l] != t[at + l] {
-            return false;
-        }
-        l += 1;
-    }
-    true
+    d[..] == t[at..at + 32]
 }
 
 // A piece of 1 to f bytes whose digest, as node i's of version v, stands at a place.
@@ -116,10 +124,10 @@ fn matches(f: usize, v: Version, i: usize, piece: &[u8], area: &[u8], at: usize)
 }
 
 // A reading that does not end with a page: it fails if every named node is counted, else its maps are kept.
-fn go_on(s: Measures, area: &mut [u8], named: u16, counted: u16, matching: u16) -> ClientAnswer
-    requires { (passes s ≡ true) × (work_at s + work_size s ≤ length area.old) }
+fn go_on(s: Passed, area: &mut [u8], named: u16, counted: u16, matching: u16) -> ClientAnswer
+    requires { work_at s.measures + work_size s.measures ≤ length area.old }
     ensures { (result ≡ went_on (all (standing counted) (nodes_in named)))
-        × (area.new ≡ cond (all (standing counted) (nodes_in named)) (cleared s area.old) (mapped s counted matching area.old)) }
+        × (area.new ≡ cond (all (standing counted) (nodes_in named)) (cleared s.measures area.old) (mapped s.measures counted matching area.old)) }
 {
     let at = work_at(s);
     if all_counted(named, counted) {
@@ -167,41 +175,33 @@ fn lengths_with(area: &[u8], at: usize, n: usize, i: usize, len: u16) -> [u16; 1
     v
 }
 
-fn blank() -> [u8; 4096]
-    ensures { length result ≡ 4096 }
-{
-    [0u8; 4096]
-}
-
 // Bytes at a place, by value.
 fn save(t: &[u8], at: usize, n: usize) -> [u8; 4096]
     requires { (n ≤ 4096) × (at + n ≤ length t.now) }
     ensures { take n result ≡ take n (drop at t.now) }
 {
-    let mut v = blank();
-    for l in 0..n {
-        v[l] = t[at + l];
-    }
+    let mut v = [0u8; 4096];
+    copy(&mut v, 0, t, at, n);
     v
 }
 
 // The matching pieces with node i's, joined. The node's area is lent to its piece, and is as before in the end.
 fn join_with(
-    s: Measures,
+    s: Passed,
     i: usize,
     matching: u16,
     area: &mut [u8],
     at: usize,
     piece: &[u8],
     out: &mut [u8],
-) -> JoinAnswer
-    requires { (passes s ≡ true) × (1 ≤ i) × (i ≤ s.n) × (at + 2 * s.n + s.n * s.f ≤ length area.old) × (length piece.now ≤ s.f) }
-    ensures { (join_outcome result ≡ (joinEnd s.n s.k s.f matching (take (s.n * s.f) (drop (at + 2 * s.n) (area_put at s.n s.f i piece.now area.old))) (lengths_with area.old at s.n i (length piece.now)) out.old).outcome)
-        × (out.new ≡ (joinEnd s.n s.k s.f matching (take (s.n * s.f) (drop (at + 2 * s.n) (area_put at s.n s.f i piece.now area.old))) (lengths_with area.old at s.n i (length piece.now)) out.old).out)
+) -> Result<usize, Unjoined>
+    requires { (1 ≤ i) × (i ≤ s.measures.n) × (at + 2 * s.measures.n + s.measures.n * s.measures.f ≤ length area.old) × (length piece.now ≤ s.measures.f) }
+    ensures { (outcome result ≡ (joinEnd s.measures.n s.measures.k s.measures.f matching (take (s.measures.n * s.measures.f) (drop (at + 2 * s.measures.n) (area_put at s.measures.n s.measures.f i piece.now area.old))) (lengths_with area.old at s.measures.n i (length piece.now)) out.old).outcome)
+        × (out.new ≡ (joinEnd s.measures.n s.measures.k s.measures.f matching (take (s.measures.n * s.measures.f) (drop (at + 2 * s.measures.n) (area_put at s.measures.n s.measures.f i piece.now area.old))) (lengths_with area.old at s.measures.n i (length piece.now)) out.old).out)
         × (area.new ≡ area.old) }
 {
-    let n = s.n;
-    let f = s.f;
+    let n = s.measures.n;
+    let f = s.measures.f;
     let len = piece.len() as u16;
     let from = at + 2 * n;
     let to = from + n * f;
@@ -209,14 +209,22 @@ fn join_with(
     let lens = lengths_with(area, at, n, i, len);
     let saved = save(area, place, f);
     put_area(area, place, f, piece);
-    let a = join(n, s.k, f, matching, &area[from..to], &lens[..n], out);
+    let a = join(
+        n,
+        s.measures.k,
+        f,
+        matching,
+        &area[from..to],
+        &lens[..n],
+        out,
+    );
     copy(area, place, &saved, 0, f);
     a
 }
 
 // The k-th matching piece: the pieces are joined, or refused. The version of the reply and the phase are for the contract alone.
 fn finish(
-    s: Measures,
+    s: Passed,
     i: usize,
     v: Version,
     p: Phase,
@@ -224,29 +232,28 @@ fn finish(
     area: &mut [u8],
     piece: &[u8],
     out: &mut [u8],
-) -> ClientAnswer
-    requires { (passes s ≡ true) × (1 ≤ i) × (i ≤ s.n) × (is_some (read_client s (record_of p area.old)) ≡ true) × (s.k * s.f - 4 ≤ length out.old)
-        × (p.step ≡ fetching_step) × (x ≡ standing_at area.old (work_at s) (maps_at s)) × (counts_at x i v ≡ true)
-        × (matches_at s.f x.version i piece.now area.old (digest_place (work_at s) x.named i) ≡ true)
-        × (s.k ≤ counting (with_node x.matching i)) }
-    ensures { (room : List ℕ) → step_end p result area.new room out.new ≡ replied_end s i v (some piece.now) (record_of p area.old) room out.old }
+) -> Result<ClientAnswer, Refusal>
+    requires { (1 ≤ i) × (i ≤ s.measures.n) × (is_some (read_client s.measures (record_of p area.old)) ≡ true) × (s.measures.k * s.measures.f - 4 ≤ length out.old)
+        × (p.step ≡ fetching_step) × (x ≡ standing_at area.old (work_at s.measures) (maps_at s.measures)) × (counts_at x i v ≡ true)
+        × (matches_at s.measures.f x.version i piece.now area.old (digest_place (work_at s.measures) x.named i) ≡ true)
+        × (s.measures.k ≤ counting (with_node x.matching i)) }
+    ensures { (room : List ℕ) → step_end p result area.new room out.new ≡ replied_end s.measures i v (some piece.now) (record_of p area.old) room out.old }
 {
     let at = work_at(s);
     let size = work_size(s);
     let version = x.version;
     let lens = at + pointer_size(s) + 4;
     let matching = with_node(x.matching, i);
-    let a = join_with(s, i, matching, area, lens, piece, out);
-    let JoinAnswer::Page(len) = a else {
-        return ClientAnswer::Refused(Refusal::Form);
+    let Ok(len) = join_with(s, i, matching, area, lens, piece, out) else {
+        return Err(Refusal::Form);
     };
     clear(area, at, at + size);
-    ClientAnswer::Page(version, len)
+    Ok(ClientAnswer::Page(version, len))
 }
 
 // A reply that counts, with a piece.
 fn reply_counted(
-    s: Measures,
+    s: Passed,
     i: usize,
     v: Version,
     p: Phase,
@@ -254,63 +261,53 @@ fn reply_counted(
     area: &mut [u8],
     piece: &[u8],
     out: &mut [u8],
-) -> ClientAnswer
-    requires { (passes s ≡ true) × (1 ≤ i) × (i ≤ s.n) × (is_some (read_client s (record_of p area.old)) ≡ true) × (s.k * s.f - 4 ≤ length out.old)
-        × (p.step ≡ fetching_step) × (x ≡ standing_at area.old (work_at s) (maps_at s)) × (counts_at x i v ≡ true) }
-    ensures { (room : List ℕ) → step_end p result area.new room out.new ≡ replied_end s i v (some piece.now) (record_of p area.old) room out.old }
+) -> Result<ClientAnswer, Refusal>
+    requires { (1 ≤ i) × (i ≤ s.measures.n) × (is_some (read_client s.measures (record_of p area.old)) ≡ true) × (s.measures.k * s.measures.f - 4 ≤ length out.old)
+        × (p.step ≡ fetching_step) × (x ≡ standing_at area.old (work_at s.measures) (maps_at s.measures)) × (counts_at x i v ≡ true) }
+    ensures { (room : List ℕ) → step_end p result area.new room out.new ≡ replied_end s.measures i v (some piece.now) (record_of p area.old) room out.old }
 {
     let at = work_at(s);
     let place = at + 7 + 32 * rank(x.named, i);
     let counted = with_node(x.counted, i);
-    if !matches(s.f, x.version, i, piece, area, place) {
-        return go_on(s, area, x.named, counted, x.matching);
+    if !matches(s.measures.f, x.version, i, piece, area, place) {
+        return Ok(go_on(s, area, x.named, counted, x.matching));
     }
     let matching = with_node(x.matching, i);
-    if count(matching) < s.k {
+    if count(matching) < s.measures.k {
         let lens = at + pointer_size(s) + 4;
-        put_piece(area, lens, s.n, s.f, i, piece);
-        return go_on(s, area, x.named, counted, matching);
+        put_piece(area, lens, s.measures.n, s.measures.f, i, piece);
+        return Ok(go_on(s, area, x.named, counted, matching));
     }
     finish(s, i, v, p, x, area, piece, out)
 }
 
 // A node's reply with a piece of a version.
 pub fn reply(
-    s: Measures,
+    s: Passed,
     i: usize,
     v: Version,
     p: Phase,
     area: &mut [u8],
     piece: &[u8],
     out: &mut [u8],
-) -> ClientAnswer
-    requires { (passes s ≡ true) × (1 ≤ i) × (i ≤ s.n) × (is_some (read_client s (record_of p area.old)) ≡ true) × (s.k * s.f - 4 ≤ length out.old) }
-    ensures { (room : List ℕ) → step_end p result area.new room out.new ≡ replied_end s i v (some piece.now) (record_of p area.old) room out.old }
+) -> Result<ClientAnswer, Refusal>
+    requires { (1 ≤ i) × (i ≤ s.measures.n) × (is_some (read_client s.measures (record_of p area.old)) ≡ true) × (s.measures.k * s.measures.f - 4 ≤ length out.old) }
+    ensures { (room : List ℕ) → step_end p result area.new room out.new ≡ replied_end s.measures i v (some piece.now) (record_of p area.old) room out.old }
 {
-    if p.step != FETCHING {
-        return ClientAnswer::Waits;
-    }
-    let at = work_at(s);
-    let x = standing_at(area, at, at + pointer_size(s));
-    if !counts(x, i, v) {
-        return ClientAnswer::Waits;
-    }
+    let Some(x) = awaited_reply(s, i, v, p, area) else {
+        return Ok(ClientAnswer::Waits);
+    };
     reply_counted(s, i, v, p, x, area, piece, out)
 }
 
 // A node's reply that it holds no piece of a version.
-pub fn missing(s: Measures, i: usize, v: Version, p: Phase, area: &mut [u8]) -> ClientAnswer
-    requires { (passes s ≡ true) × (1 ≤ i) × (i ≤ s.n) × (is_some (read_client s (record_of p area.old)) ≡ true) }
-    ensures { (room out : List ℕ) → step_end p result area.new room out ≡ replied_end s i v none (record_of p area.old) room out }
+pub fn missing(s: Passed, i: usize, v: Version, p: Phase, area: &mut [u8]) -> ClientAnswer
+    requires { (1 ≤ i) × (i ≤ s.measures.n) × (is_some (read_client s.measures (record_of p area.old)) ≡ true) }
+    ensures { (room out : List ℕ) → step_end p (Ok result) area.new room out ≡ replied_end s.measures i v none (record_of p area.old) room out }
 {
-    if p.step != FETCHING {
+    let Some(x) = awaited_reply(s, i, v, p, area) else {
         return ClientAnswer::Waits;
-    }
-    let at = work_at(s);
-    let x = standing_at(area, at, at + pointer_size(s));
-    if !counts(x, i, v) {
-        return ClientAnswer::Waits;
-    }
+    };
     let counted = with_node(x.counted, i);
     go_on(s, area, x.named, counted, x.matching)
 }

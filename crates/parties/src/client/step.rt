@@ -1,4 +1,5 @@
-// The steps of a client's record: where its operation stands, by what it waits for.
+// The steps of a client's record: where its operation stands, by what it waits for. They are bytes and no enum: a phase that a caller
+// hands over, also from C, may have any byte, and `event`, `record` and `turn` answer one above 7 with the refusal of the form.
 ghost use Rattle.std.specs.Prelude.{◌≡◌};
 ghost use Rattle.parties.specs.client.Step.{phase_after};
 
@@ -26,15 +27,12 @@ pub(crate) const FETCHING: u8 = 7;
 pub(crate) fn phase_after(p: Phase, a: ClientAnswer) -> Phase
     ensures { result ≡ phase_after p a }
 {
-    let reading = p.reading;
     let step = match a {
-        ClientAnswer::Refused(_) => p.step,
-        ClientAnswer::Waits => p.step,
-        ClientAnswer::Scan => p.step,
+        ClientAnswer::Waits | ClientAnswer::Scan => p.step,
         ClientAnswer::Update(_) => UPDATING,
         ClientAnswer::Stores(_, _) => STORING,
         ClientAnswer::Requests(_, _) => FETCHING,
         _ => IDLE,
     };
-    Phase { step, reading }
+    Phase { step, ..p }
 }

@@ -17,50 +17,50 @@ pub enum Told {
     Reply(Version),
     // A version is not held.
     Missing(Version),
-    Broken,
 }
 
 // A version alone.
-fn stored(s: Measures, b: &[u8]) -> Told
+fn stored(s: Measures, b: &[u8]) -> Option<Told>
     requires { (1 ≤ length b.now) × (get_or b.now 0 0 ≡ stored_tag) }
     ensures { told_by b.now result ≡ read_to_client s b.now }
 {
     if !version_alone(s, b) {
-        return Told::Broken;
+        return None;
     }
-    Told::Stored(version_at(b, 1))
+    Some(Told::Stored(version_at(b, 1)))
 }
 
 // A version, then a 1 and a piece, or a 0 alone.
-fn replied(s: Measures, b: &[u8]) -> Told
+fn replied(s: Measures, b: &[u8]) -> Option<Told>
     requires { (1 ≤ length b.now) × (get_or b.now 0 0 ≡ reply_tag) }
     ensures { told_by b.now result ≡ read_to_client s b.now }
 {
     if b.len() < 7 {
-        return Told::Broken;
+        return None;
     }
     if !proper_at(s, b, 1) {
-        return Told::Broken;
+        return None;
     }
     let v = version_at(b, 1);
     let held = b[6];
     if held == 1 {
-        return Told::Reply(v);
+        return Some(Told::Reply(v));
     }
     if held != 0 {
-        return Told::Broken;
+        return None;
     }
     if b.len() != 7 {
-        return Told::Broken;
+        return None;
     }
-    Told::Missing(v)
+    Some(Told::Missing(v))
 }
 
-pub fn tell(s: Measures, b: &[u8]) -> Told
+// None of a message that breaks its form.
+pub fn tell(s: Measures, b: &[u8]) -> Option<Told>
     ensures { told_by b.now result ≡ read_to_client s b.now }
 {
     if b.len() < 1 {
-        return Told::Broken;
+        return None;
     }
     let tag = b[0];
     if tag == STORED {
@@ -70,10 +70,10 @@ pub fn tell(s: Measures, b: &[u8]) -> Told
         return replied(s, b);
     }
     if tag != FREED {
-        return Told::Broken;
+        return None;
     }
     if b.len() != 1 {
-        return Told::Broken;
+        return None;
     }
-    Told::Freed
+    Some(Told::Freed)
 }

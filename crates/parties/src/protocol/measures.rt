@@ -1,8 +1,15 @@
 // Which measures pass.
-ghost use Rattle.std.specs.Prelude.{◌≡◌};
+ghost use Rattle.std.specs.Prelude.{◌≡◌, true};
 ghost use Rattle.parties.specs.protocol.Measures.{passes};
 
 use crate::Measures;
+
+// Measures that pass: what is laid out by measures goes by such.
+#[derive(Clone, Copy)]
+pub struct Passed {
+    pub measures: Measures,
+    ghost pass: { passes measures ≡ true },
+}
 
 impl Measures {
     // Each number is held to its own bound before two are added or multiplied.

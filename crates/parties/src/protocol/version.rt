@@ -1,12 +1,10 @@
-// Each counter has its own comparison and successor.
+// Each counter has its own comparison and successor: they are two types, so that one is never compared with the other, and a trait of both
+// would be longer than the two lines that they have alike. The order is the derived one; `below` says that it is the protocol's.
 ghost use Rattle.std.specs.Prelude.{◌≡◌, ◌+◌, ltb};
 ghost use Rattle.parties.specs.protocol.Version.{below, is_no_version, next_sequence, next_index};
 ghost use Rattle.parties.specs.protocol.Message.{proper_version};
 
-use crate::{Measures, NextIndex, NextSequence, ReadingIndex, Sequence, Version};
-
-// The last number of each counter, which is 32 bits wide.
-const LAST: u32 = 4294967295;
+use crate::{Measures, ReadingIndex, Sequence, Version};
 
 // The version none.
 const NO_SEQUENCE: Sequence = Sequence(0);
@@ -22,17 +20,14 @@ impl Sequence {
     pub fn below(self, other: Sequence) -> bool
         ensures { result ≡ ltb self.0 other.0 }
     {
-        self.0 < other.0
+        self < other
     }
 
-    pub fn next(self) -> NextSequence
+    // None where the last number is in use.
+    pub fn next(self) -> Option<Sequence>
         ensures { result ≡ next_sequence self }
     {
-        if self.0 < LAST {
-            NextSequence::Drawn(Sequence(self.0 + 1))
-        } else {
-            NextSequence::Spent
-        }
+        self.0.checked_add(1).map(Sequence)
     }
 }
 
@@ -40,17 +35,14 @@ impl ReadingIndex {
     pub fn below(self, other: ReadingIndex) -> bool
         ensures { result ≡ ltb self.0 other.0 }
     {
-        self.0 < other.0
+        self < other
     }
 
-    pub fn next(self) -> NextIndex
+    // None where the last number is in use.
+    pub fn next(self) -> Option<ReadingIndex>
         ensures { result ≡ next_index self }
     {
-        if self.0 < LAST {
-            NextIndex::Raised(ReadingIndex(self.0 + 1))
-        } else {
-            NextIndex::Spent
-        }
+        self.0.checked_add(1).map(ReadingIndex)
     }
 }
 
@@ -58,33 +50,19 @@ impl Version {
     pub fn below(self, other: Version) -> bool
         ensures { result ≡ below self other }
     {
-        let a = self.sequence;
-        let b = other.sequence;
-        if a.below(b) {
-            return true;
-        }
-        if b.below(a) {
-            return false;
-        }
-        self.client < other.client
+        self < other
     }
 
     // A drawn version has a sequence of at least 1, and a client below m.
     pub fn proper(self, s: Measures) -> bool
         ensures { result ≡ proper_version s self }
     {
-        if !NO_SEQUENCE.below(self.sequence) {
-            return false;
-        }
-        (self.client as usize) < s.m
+        NO_SEQUENCE < self.sequence && (self.client as usize) < s.m
     }
 
     pub fn is_none(self) -> bool
         ensures { result ≡ is_no_version self }
     {
-        if NO_SEQUENCE.below(self.sequence) {
-            return false;
-        }
-        self.client == NO_CLIENT
+        self == NONE
     }
 }

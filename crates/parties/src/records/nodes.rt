@@ -21,11 +21,7 @@ pub(crate) fn stands(map: u16, i: usize) -> bool
 pub fn count(map: u16) -> usize
     ensures { result ≡ counted map }
 {
-    let mut n = 0;
-    for i in 0..16 {
-        n += bit(map, i);
-    }
-    n
+    map.count_ones() as usize
 }
 
 // How many nodes below i a map names.
@@ -33,12 +29,7 @@ pub(crate) fn rank(map: u16, i: usize) -> usize
     requires { (1 ≤ i) × (i ≤ 16) }
     ensures { result ≡ length (nodes_of map (i - 1)) }
 {
-    let end = i - 1;
-    let mut n = 0;
-    for j in 0..end {
-        n += bit(map, j);
-    }
-    n
+    (map & ((1u16 << (i - 1)) - 1)).count_ones() as usize
 }
 
 pub(crate) fn with_node(map: u16, i: usize) -> u16
@@ -52,24 +43,16 @@ pub(crate) fn with_node(map: u16, i: usize) -> u16
 pub fn has_node(map: u16, i: usize) -> bool
     ensures { result ≡ (leb 1 i && (leb i 16 && standing map i)) }
 {
-    if i < 1 {
-        return false;
-    }
-    if 16 < i {
-        return false;
-    }
-    stands(map, i)
+    1 <= i && i <= 16 && stands(map, i)
 }
 
 // Node i is added; a number that is no node's changes nothing.
 pub fn add_node(map: u16, i: usize) -> u16
     ensures { result ≡ cond (leb 1 i && leb i 16) (with_node map i) map }
 {
-    if i < 1 {
-        return map;
+    if 1 <= i && i <= 16 {
+        with_node(map, i)
+    } else {
+        map
     }
-    if 16 < i {
-        return map;
-    }
-    with_node(map, i)
 }

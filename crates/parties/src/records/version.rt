@@ -11,10 +11,7 @@ use crate::{Measures, Sequence, Version};
 pub(crate) fn same_version(a: Version, b: Version) -> bool
     ensures { result ≡ same_version a b }
 {
-    if a.below(b) {
-        return false;
-    }
-    !b.below(a)
+    a == b
 }
 
 // The version in the five bytes at a place.
@@ -22,9 +19,8 @@ pub(crate) fn version_at(t: &[u8], at: usize) -> Version
     requires { at + 5 ≤ length t.now }
     ensures { result ≡ version_at t.now at }
 {
-    let q = u32_at(t, at);
     Version {
-        sequence: Sequence(q),
+        sequence: Sequence(u32_at(t, at)),
         client: t[at + 4],
     }
 }
@@ -33,14 +29,8 @@ pub(crate) fn version_at(t: &[u8], at: usize) -> Version
 pub(crate) fn version_bytes(v: Version) -> [u8; 5]
     ensures { result ≡ write_version v }
 {
-    let q = v.sequence.0;
-    [
-        (q / 256 / 256 / 256 % 256) as u8,
-        (q / 256 / 256 % 256) as u8,
-        (q / 256 % 256) as u8,
-        (q % 256) as u8,
-        v.client,
-    ]
+    let [a, b, c, d] = v.sequence.0.to_be_bytes();
+    [a, b, c, d, v.client]
 }
 
 // A version that a message or a place names is proper.
@@ -55,8 +45,5 @@ pub(crate) fn proper_at(s: Measures, b: &[u8], at: usize) -> bool
 pub(crate) fn version_alone(s: Measures, b: &[u8]) -> bool
     ensures { result ≡ version_alone s b.now }
 {
-    if b.len() != 6 {
-        return false;
-    }
-    proper_at(s, b, 1)
+    b.len() == 6 && proper_at(s, b, 1)
 }

@@ -7,4 +7,4 @@ pub returns : goal.returns
 returns c =
     c.power_of_two.ensures
     ∙ ap (λ (i : ℕ). power 2 (255 - i)) c.log_of.ensures.0
-    ∙ inverse_log c.args.a (search rules) c.requires.0
+    ∙ inverse_log c.args.a (search rules) c.requires

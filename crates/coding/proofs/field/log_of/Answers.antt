@@ -1,9 +1,12 @@
 use Rattle.std.proofs.Common.{refl, arith, rules}
+use Rattle.coding.specs.Tables.{log_table}
 use Rattle.coding.proofs.TableLaws.{log_lt}
 use Rattle.coding.proofs.field.log_of.Goals as goal
 
 pub overflow_cast-result-2 : goal.overflow_cast-result-2
-overflow_cast-result-2 c = rw c.requires (omega (arith, log_lt c.args.a (search rules)))
+unfolding log_table
+overflow_cast-result-2 c = omega (arith, log_lt c.args.a (search rules))
 
 pub returns : goal.returns
-returns c = rw c.requires (refl, log_lt c.args.a (search rules))
+unfolding log_table
+returns c = (refl, log_lt c.args.a (search rules))

@@ -1,10 +1,6 @@
-use Rattle.std.proofs.Common.{◌-◌, get_or}
-use Rattle.coding.proofs.BytesLaws.{Strided}
+use Rattle.std.proofs.Common.{◌≡◌, ℕ, ◌+◌, ◌*◌, ◌<◌, length, get_or}
 use Rattle.coding.proofs.frame.gather_inside.Given as goal
 
--- The first l lanes are filled, and the next byte stands l strides on.
+-- The first l lanes are filled.
 abbrev pub invariant-loop-l : goal.invariant-loop-l
-invariant-loop-l l = Strided (λ i. get_or l.page i 0) l.from l.k l.v l.at l.l
-
-abbrev pub decreases-loop-l : goal.decreases-loop-l
-decreases-loop-l l = 16 - l.l
+invariant-loop-l l = (length l.v ≡ 16) × ((i : ℕ) → i < l.l → get_or l.v i 0 ≡ get_or l.page (l.from + i * l.k) 0)

@@ -1,20 +1,9 @@
-use Rattle.std.proofs.Common.{◌≡◌, ℕ, length, get_or, ap, ◌∙◌, arith, length-set, rules}
+use Rattle.std.proofs.Common.{◌≡◌, ℕ, length, get_or, ap, ◌∙◌, arith, rules}
 use lib.ListN.{get_or-eq_default}
 use Rattle.coding.specs.Field.{product}
 use Rattle.coding.proofs.FieldLaws.{zero_product}
 use Rattle.coding.proofs.LaneLaws.{lanes_filled}
-use Rattle.coding.proofs.BytesLaws.{stored_more}
 use Rattle.coding.proofs.lanes.double.Goals as goal
-
-pub loop-l-preserved : goal.loop-l-preserved
-loop-l-preserved c =
-    let v = c.args.v in
-    let r = c.loop-l.r in
-    let l = c.loop-l.l in (
-      search rules,
-      length-set r l c.twice.result ∙ c.loop-l.invariant.1,
-      stored_more 0 (λ k y. y ≡ product (get_or v k 0) 2) l r c.twice.result (search rules) c.loop-l.invariant.2 c.twice.ensures,
-    )
 
 pub returns : goal.returns
 returns c =

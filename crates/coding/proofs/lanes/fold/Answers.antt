@@ -1,4 +1,4 @@
-use Rattle.std.proofs.Common.{◌≡◌, ℕ, ◌-◌, [], get_or, sym, ap, ◌∙◌, arith, rules}
+use Rattle.std.proofs.Common.{ℕ, ◌-◌, [], get_or, sym, ap, ◌∙◌, rules}
 use Rattle.coding.specs.Field.{◌⊕◌, product}
 use Rattle.coding.proofs.BytesLaws.{zeros_at}
 use Rattle.coding.proofs.LaneLaws.{horner-none, horner-more}
@@ -20,8 +20,3 @@ loop-b-preserved c =
           (c.double.ensures l ∙ ap (λ (x : ℕ). product x 2) (o.invariant.1 l))
           ∙ horner-more o.b (λ i. get_or (get_or sums (7 - i) []) l 0),
     )
-
-pub returns : goal.returns
-returns c l =
-    let e : c.loop-b.b ≡ 8 = omega arith in
-    rw e at (c.loop-b.invariant.1 l)

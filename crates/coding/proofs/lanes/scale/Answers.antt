@@ -1,20 +1,9 @@
-use Rattle.std.proofs.Common.{◌≡◌, ℕ, ◌-◌, ◌/◌, ◌^◌, ◌<◌, List, get_or, ap, ◌∙◌, subst, arith, w8, Fits, rules}
+use Rattle.std.proofs.Common.{◌≡◌, ℕ, ◌-◌, ◌/◌, ◌^◌, ◌<◌, List, get_or, ap, ◌∙◌, subst, arith, rules}
 use Rattle.coding.specs.Field.{◌⊕◌, product}
 use Rattle.coding.proofs.FieldLaws.{product_byte}
-use Rattle.coding.proofs.BytesLaws.{zeros_at}
 use Rattle.coding.proofs.LaneLaws.{turn_odd, turn_even, ended, half-below}
 use Rattle.coding.proofs.lanes.scale.Goals as goal
 use Rattle.coding.proofs.lanes.scale.Goals.{then-rest-eq1, else-rest-eq1}
-
-pub loop-init : goal.loop-init
-loop-init c =
-    let v = c.args.v in (
-      search rules,
-      search rules,
-      search rules,
-      λ k. let b : Fits w8 (get_or v k 0) = search rules in b.fits,
-      λ k. ap (λ (x : ℕ). x ⊕ product (get_or v k 0) c.args.c) (zeros_at 16 k),
-    )
 
 pub returns-then-rest-eq0 : goal.returns-then-rest-eq0
 returns-then-rest-eq0 c k = ended _ _ _ _ c.if-rest-eq0.true (elim c.if-rest-eq1.branch [

@@ -1,11 +1,8 @@
-use Rattle.std.proofs.Common.{◌≡◌, ℕ, ◌/◌, ◌%◌, ◌^◌, [], get_or, ap, ◌∙◌, not-suc-le-zero, arith, length-set, rules}
+use Rattle.std.proofs.Common.{◌≡◌, ℕ, ◌/◌, ◌%◌, ◌^◌, [], get_or, ap, ◌∙◌, arith, length-set, rules}
 use Rattle.coding.specs.Field.{◌⊕◌, product}
 use Rattle.coding.proofs.BytesLaws.{stored_more}
 use Rattle.coding.proofs.LaneLaws.{spread_sum, next_bit}
 use Rattle.coding.proofs.lanes.spread.Goals as goal
-
-pub loop-b-init : goal.loop-b-init
-loop-b-init c = (search rules, search rules, omega arith, λ i h. absurd (not-suc-le-zero h))
 
 pub loop-b-preserved : goal.loop-b-preserved
 loop-b-preserved c =

@@ -1,10 +1,6 @@
-use Rattle.std.proofs.Common.{◌≡◌, ◌+◌, ◌-◌, ◌*◌}
 use Rattle.coding.proofs.OutputLaws.{Scatter}
 use Rattle.coding.proofs.output.scatter_edge.Given as goal
 
 -- The first l lanes are placed.
 abbrev pub invariant-loop-l : goal.invariant-loop-l
-invariant-loop-l l = (l.at ≡ l.from + l.l * l.k) × Scatter l.v l.m l.from l.k l.len l.initial.out l.out l.l
-
-abbrev pub decreases-loop-l : goal.decreases-loop-l
-decreases-loop-l l = l.m - l.l
+invariant-loop-l l = Scatter l.v l.m l.from l.k l.len l.initial.out l.out l.l

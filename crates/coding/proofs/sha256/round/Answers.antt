@@ -3,4 +3,4 @@ use Rattle.coding.proofs.sha256.round.Goals as goal
 
 pub returns : goal.returns
 unfolding round
-returns c = rw (← c.requires.0) c.turned.ensures
+returns c = rw (← c.constant.ensures) c.turned.ensures

@@ -1,15 +1,17 @@
-use Rattle.std.proofs.Common.{◌≡◌, refl, arith, rules}
+use Rattle.std.proofs.Common.{◌≡◌, ◌+◌, ◌*◌, refl, arith}
 use Rattle.coding.specs.Sha256.{rounds}
 use Rattle.coding.proofs.sha256.rounds.Goals as goal
 
-pub loop-t-init : goal.loop-t-init
+pub loop-i-init : goal.loop-i-init
 unfolding rounds
-loop-t-init c = (omega arith, refl, refl)
+loop-i-init c = refl
 
-pub loop-t-preserved : goal.loop-t-preserved
-loop-t-preserved c = (search rules, search rules, c.eight_rounds-next.ensures _ c.loop-t.invariant.2)
+pub loop-i-preserved : goal.loop-i-preserved
+loop-i-preserved c =
+    let e : 8 * (c.loop-i.i + 1) ≡ 8 * c.loop-i.i + 8 = omega arith in
+    rw e (c.eight_rounds-next.ensures _ c.loop-i.invariant)
 
 pub returns : goal.returns
 returns c =
-    let e : c.loop-t.t ≡ 64 = omega arith in
-    rw e at c.loop-t.invariant.2
+    let e : 8 * c.loop-i.i ≡ 64 = omega arith in
+    rw e at c.loop-i.invariant

@@ -3,4 +3,4 @@ use Rattle.coding.proofs.sha256.turned.Goals as goal
 
 pub returns : goal.returns
 unfolding turned
-returns c = simp (c.add-2.ensures, c.add.ensures, c.t2.ensures, c.t1-x.ensures)
+returns c = simp (c.t2.ensures, c.t1-x.ensures)

@@ -1,13 +1,13 @@
-use mathlib.Core.Path.{sym, ap}
-use Prim.Native.Nat.{ℕ}
-use lib.Dec.{leb}
+use Rattle.std.proofs.Common.{sym, ap, ℕ, leb}
+use borrow.Author.Tests.{eqb-true, eqb-false}
 use Rattle.lines.proofs.SentencesLaws.{shown-short, half-fits}
 use Rattle.lines.proofs.text.show_fits.Goals as goal
 
-pub returns-then-b-eq0 : goal.returns-then-b-eq0
-returns-then-b-eq0 c =
-    let a = c.args in sym (ap (λ (n : ℕ). leb n a.room) (shown-short a.b.now c.if-b-eq0.true))
+pub returns-then-is_empty : goal.returns-then-is_empty
+returns-then-is_empty c =
+    let a = c.args in
+    sym (ap (λ (n : ℕ). leb n a.room) (shown-short a.b.now (eqb-true _ _ (sym c.if-is_empty.ensures))))
 
 pub returns : goal.returns
 returns c =
-    let a = c.args in half-fits a.b.now a.room c.if-b-eq0.false
+    let a = c.args in half-fits a.b.now a.room (eqb-false _ _ (sym c.if-is_empty.ensures))

@@ -1,12 +1,8 @@
 use mathlib.Core.Path.{◌≡◌}
-use Prim.Native.Nat.{◌-◌, ◌≤◌}
-use lib.ListN.{length, take}
+use lib.ListN.{take}
 use Rattle.lines.specs.Text.{over, hex_of}
 use Rattle.lines.proofs.text.spell.Given as goal
 
 -- The digits of the first i bytes are put.
 abbrev pub invariant-loop-i : goal.invariant-loop-i
-invariant-loop-i l = (l.i ≤ length l.b) × (length l.text ≡ length l.initial.text) × (l.text ≡ over l.initial.text l.at (hex_of (take l.i l.b)))
-
-abbrev pub decreases-loop-i : goal.decreases-loop-i
-decreases-loop-i l = length l.b - l.i
+invariant-loop-i l = l.text ≡ over l.initial.text l.at (hex_of (take l.i l.b))

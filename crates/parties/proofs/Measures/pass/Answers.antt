@@ -1,5 +1,4 @@
-use Prim.Native.Nat.{◌+◌, ◌*◌, ◌≤◌}
-use native.Mathlib.Nat.{mul-le-mul}
+use Prim.Native.Nat.{◌+◌, ◌*◌}
 use native.Mathlib.Omega.{arith}
 use borrow.Author.Tests.{le-leb, lt-leb}
 use Rattle.parties.specs.protocol.Measures.{passes}
@@ -111,12 +110,6 @@ returns-then-self-gt4096 c =
       le-leb _ _ c.if-self-lt1-4.false,
       lt-leb _ _ c.if-self-gt4096.true,
     )
-
-pub overflow_mul-result : goal.overflow_mul-result
-overflow_mul-result c =
-    let s = c.args.self in
-    let hk : s.k ≤ 16 = omega arith in
-    let hf : s.f ≤ 4096 = omega arith in omega (arith, mul-le-mul hk hf)
 
 pub returns : goal.returns
 unfolding passes

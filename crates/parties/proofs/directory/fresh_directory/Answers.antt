@@ -1,4 +1,4 @@
-use mathlib.Core.Path.{◌≡◌, refl, sym, ap, ap₂, ◌∙◌}
+use mathlib.Core.Path.{◌≡◌, sym, ap₂, ◌∙◌}
 use mathlib.Core.Bool.{true}
 use mathlib.Core.List.{List, ◌++◌}
 use Prim.Native.Nat.{ℕ, ◌*◌}
@@ -10,7 +10,7 @@ use Rattle.parties.specs.protocol.DirectoryEvents.{directory_size}
 use Rattle.parties.proofs.records.SizeLaws.{row_bound, table_bound}
 use Rattle.parties.proofs.directory.RoomLaws.{built_length}
 use Rattle.parties.proofs.directory.FreshLaws.{fresh-rows, fresh-measures, fresh-short, fresh-written}
-use Rattle.parties.proofs.directory.EndLaws.{ends-table}
+use Rattle.parties.proofs.directory.EndLaws.{ends-table, directory_bytes}
 use Rattle.parties.proofs.directory.fresh_directory.Goals as goal
 
 pub returns-then-not-pass : goal.returns-then-not-pass
@@ -18,38 +18,21 @@ returns-then-not-pass c =
     let a = c.args in
     let p = c.pass in ends-table _ _ (fresh-measures a.s a.table.now (sym p.ensures ∙ c.if-not-pass.true))
 
-pub row_size-size-requires : goal.row_size-size-requires
-row_size-size-requires c =
-    let good : passes c.args.s ≡ true =
-    let p = c.pass in sym p.ensures ∙ c.if-not-pass.false in
-    good
-
 pub overflow_mul-s : goal.overflow_mul-s
 overflow_mul-s c =
-    let good : passes c.args.s ≡ true =
-    let p = c.pass in sym p.ensures ∙ c.if-not-pass.false in
-    let sized : c.args.s.m * c.row_size-size.result ≡ directory_size c.args.s =
-    ap (λ (k : ℕ). c.args.s.m * k) c.row_size-size.ensures in
+    let good : passes c.args.s ≡ true = sym c.pass.ensures ∙ c.if-not-pass.false in
+    let sized : c.args.s.m * c.row_size-size.result ≡ directory_size c.args.s = directory_bytes c.args.s _ c.row_size-size.ensures in
     omega (arith, sized, table_bound c.args.s good)
 
 pub returns-then-table-s : goal.returns-then-table-s
 returns-then-table-s c =
-    let good : passes c.args.s ≡ true =
-    let p = c.pass in sym p.ensures ∙ c.if-not-pass.false in
-    let sized : c.args.s.m * c.row_size-size.result ≡ directory_size c.args.s =
-    ap (λ (k : ℕ). c.args.s.m * k) c.row_size-size.ensures in
+    let good : passes c.args.s ≡ true = sym c.pass.ensures ∙ c.if-not-pass.false in
+    let sized : c.args.s.m * c.row_size-size.result ≡ directory_size c.args.s = directory_bytes c.args.s _ c.row_size-size.ensures in
     let a = c.args in ends-table _ _ (fresh-short a.s a.table.now good (omega (arith, sized)))
-
-pub fresh_row-requires : goal.fresh_row-requires
-fresh_row-requires c =
-    let good : passes c.args.s ≡ true =
-    let p = c.pass in sym p.ensures ∙ c.if-not-pass.false in
-    (good, refl)
 
 pub repeat-requires : goal.repeat-requires
 repeat-requires c =
-    let good : passes c.args.s ≡ true =
-    let p = c.pass in sym p.ensures ∙ c.if-not-pass.false in
+    let good : passes c.args.s ≡ true = sym c.pass.ensures ∙ c.if-not-pass.false in
     let a = c.args in
     let r = c.row_size-size in
     let f = c.fresh_row in
@@ -57,10 +40,8 @@ repeat-requires c =
 
 pub returns : goal.returns
 returns c =
-    let good : passes c.args.s ≡ true =
-    let p = c.pass in sym p.ensures ∙ c.if-not-pass.false in
-    let sized : c.args.s.m * c.row_size-size.result ≡ directory_size c.args.s =
-    ap (λ (k : ℕ). c.args.s.m * k) c.row_size-size.ensures in
+    let good : passes c.args.s ≡ true = sym c.pass.ensures ∙ c.if-not-pass.false in
+    let sized : c.args.s.m * c.row_size-size.result ≡ directory_size c.args.s = directory_bytes c.args.s _ c.row_size-size.ensures in
     let a = c.args in
     let r = c.row_size-size in
     let f = c.fresh_row in

@@ -1,6 +1,8 @@
 use mathlib.Core.Path.{◌≡◌, sym, ap, ◌∙◌}
 use mathlib.Core.Bool.{true}
 use mathlib.Core.List.{◌++◌}
+use Rattle.std.proofs.Common.{Err}
+use Rattle.std.proofs.lemmas.Result.{err_from_is_err_and}
 use Prim.Native.Nat.{ℕ, ◌+◌, ◌*◌}
 use native.Mathlib.Omega.{arith}
 use lib.ListN.{take, drop}
@@ -10,7 +12,7 @@ use Rattle.parties.specs.protocol.DirectoryEvents.{directory_size}
 use Rattle.parties.specs.records.Answer.{number}
 use Rattle.parties.proofs.records.RecordLaws.{judged_sound, judged_broken}
 use Rattle.parties.proofs.records.SizeLaws.{table_bound}
-use Rattle.parties.proofs.directory.EndLaws.{ends-room, scan-measures, scan-short-table, scan-short-room, scan-broken, scan-rows}
+use Rattle.parties.proofs.directory.EndLaws.{ends-room, directory_bytes, scan-measures, scan-short-table, scan-short-room, scan-broken, scan-rows}
 use Rattle.parties.proofs.directory.scan.Goals as goal
 
 pub returns-then-not-pass : goal.returns-then-not-pass
@@ -19,71 +21,45 @@ returns-then-not-pass c =
     let p = c.pass in
     ends-room _ _ (scan-measures a.s a.table.now a.room.now (sym p.ensures ∙ c.if-not-pass.true))
 
-pub row_size-size-requires : goal.row_size-size-requires
-row_size-size-requires c =
-    let good : passes c.args.s ≡ true =
-    let p = c.pass in sym p.ensures ∙ c.if-not-pass.false in
-    good
-
 pub overflow_mul-all : goal.overflow_mul-all
 overflow_mul-all c =
-    let good : passes c.args.s ≡ true =
-    let p = c.pass in sym p.ensures ∙ c.if-not-pass.false in
-    let sized : c.args.s.m * c.row_size-size.result ≡ directory_size c.args.s =
-    ap (λ (k : ℕ). c.args.s.m * k) c.row_size-size.ensures in
+    let good : passes c.args.s ≡ true = sym c.pass.ensures ∙ c.if-not-pass.false in
+    let sized : c.args.s.m * c.row_size-size.result ≡ directory_size c.args.s = directory_bytes c.args.s _ c.row_size-size.ensures in
     omega (arith, sized, table_bound c.args.s good)
 
 pub returns-then-table-all : goal.returns-then-table-all
 returns-then-table-all c =
-    let good : passes c.args.s ≡ true =
-    let p = c.pass in sym p.ensures ∙ c.if-not-pass.false in
-    let sized : c.args.s.m * c.row_size-size.result ≡ directory_size c.args.s =
-    ap (λ (k : ℕ). c.args.s.m * k) c.row_size-size.ensures in
+    let good : passes c.args.s ≡ true = sym c.pass.ensures ∙ c.if-not-pass.false in
+    let sized : c.args.s.m * c.row_size-size.result ≡ directory_size c.args.s = directory_bytes c.args.s _ c.row_size-size.ensures in
     let a = c.args in
     ends-room _ _ (scan-short-table a.s a.table.now a.room.now good (omega (arith, sized)))
 
 pub returns-then-room-all : goal.returns-then-room-all
 returns-then-room-all c =
-    let good : passes c.args.s ≡ true =
-    let p = c.pass in sym p.ensures ∙ c.if-not-pass.false in
-    let sized : c.args.s.m * c.row_size-size.result ≡ directory_size c.args.s =
-    ap (λ (k : ℕ). c.args.s.m * k) c.row_size-size.ensures in
+    let good : passes c.args.s ≡ true = sym c.pass.ensures ∙ c.if-not-pass.false in
+    let sized : c.args.s.m * c.row_size-size.result ≡ directory_size c.args.s = directory_bytes c.args.s _ c.row_size-size.ensures in
     let a = c.args in
     ends-room _ _ (scan-short-room a.s a.table.now a.room.now good (omega (arith, sized)) (omega (arith, sized)))
 
-pub directory-requires : goal.directory-requires
-directory-requires c =
-    let good : passes c.args.s ≡ true =
-    let p = c.pass in sym p.ensures ∙ c.if-not-pass.false in
-    let sized : c.args.s.m * c.row_size-size.result ≡ directory_size c.args.s =
-    ap (λ (k : ℕ). c.args.s.m * k) c.row_size-size.ensures in
-    (good, c.row_size-size.ensures, omega (arith, sized))
-
-pub returns-in-Broken : goal.returns-in-Broken
-returns-in-Broken c =
-    let good : passes c.args.s ≡ true =
-    let p = c.pass in sym p.ensures ∙ c.if-not-pass.false in
-    let sized : c.args.s.m * c.row_size-size.result ≡ directory_size c.args.s =
-    ap (λ (k : ℕ). c.args.s.m * k) c.row_size-size.ensures in
+pub returns-in_err-directory : goal.returns-in_err-directory
+returns-in_err-directory c =
+    let good : passes c.args.s ≡ true = sym c.pass.ensures ∙ c.if-not-pass.false in
+    let sized : c.args.s.m * c.row_size-size.result ≡ directory_size c.args.s = directory_bytes c.args.s _ c.row_size-size.ensures in
     let a = c.args in
-    let d = c.directory in
-    let n = c.in-Broken.r in
-    ends-room _ _ (scan-broken a.s a.table.now a.room.now good (omega (arith, sized)) (omega (arith, sized)) (number n)
-    (judged_broken a.s a.table.now d.result d.ensures n c.in-Broken.is))
+    let p = err_from_is_err_and c.from_residual.result c.from_residual.ensures.1 in
+    rw p.1
+    (ends-room _ _ (scan-broken a.s a.table.now a.room.now good (omega (arith, sized)) (omega (arith, sized)) (number p.0)
+    (judged_broken a.s a.table.now c.directory.result c.directory.ensures p.0 (c.in_err-directory.was ∙ ap Err (sym p.2)))))
 
 pub returns : goal.returns
 returns c =
-    let good : passes c.args.s ≡ true =
-    let p = c.pass in sym p.ensures ∙ c.if-not-pass.false in
-    let sized : c.args.s.m * c.row_size-size.result ≡ directory_size c.args.s =
-    ap (λ (k : ℕ). c.args.s.m * k) c.row_size-size.ensures in
+    let good : passes c.args.s ≡ true = sym c.pass.ensures ∙ c.if-not-pass.false in
+    let sized : c.args.s.m * c.row_size-size.result ≡ directory_size c.args.s = directory_bytes c.args.s _ c.row_size-size.ensures in
     let a = c.args in
-    let d = c.directory in
-    let e : a.s.m * c.row_size-size.result ≡ directory_size a.s = sized in
     let z : 0 + directory_size a.s ≡ directory_size a.s = omega arith in
-    let j = judged_sound a.s a.table.now d.result d.ensures c.in_default.is in
+    let j = judged_sound a.s a.table.now c.directory.result c.directory.ensures _ c.in_ok-directory.was in
     let x = ends-room _ _ (scan-rows a.s a.table.now a.room.now good (omega arith) (omega arith) (drop (a.s.m * row_size a.s) a.table.now) j.0 j.1) in (
-      ap serves e ∙ x.0,
-      c.copy.ensures ∙ ap (λ (k : ℕ). take k a.table.now ++ drop (0 + k) a.room.now) e
+      ap serves sized ∙ x.0,
+      c.copy.ensures ∙ ap (λ (k : ℕ). take k a.table.now ++ drop (0 + k) a.room.now) sized
           ∙ ap (λ (k : ℕ). take (directory_size a.s) a.table.now ++ drop k a.room.now) z ∙ x.1,
     )

@@ -8,9 +8,6 @@ returns-then-not-pass c =
     let a = c.args in
     fresh-measures a.s a.table.now (sym c.pass.ensures ∙ c.if-not-pass.true)
 
-pub table_size-size-requires : goal.table_size-size-requires
-table_size-size-requires c = sym c.pass.ensures ∙ c.if-not-pass.false
-
 pub returns-then-table-size : goal.returns-then-table-size
 returns-then-table-size c =
     let a = c.args in

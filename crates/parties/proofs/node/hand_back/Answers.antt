@@ -142,11 +142,6 @@ copy-requires c =
       omega (arith, k, i, c.length_at-len.ensures.0),
     )
 
-pub shape_of-room : goal.shape_of-room
-shape_of-room c =
-    let put-head = c.put_head in
-    c.copy.auto.dst ∙ length-set put-head.new.room 6 1 ∙ put-head.auto.room
-
 pub returns : goal.returns
 returns c =
     let a = c.args in

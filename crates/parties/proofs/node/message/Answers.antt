@@ -12,9 +12,6 @@ returns-then-not-pass c =
     message_measures a.s a.i a.table.now a.message.now a.room.now
     (sym c.pass.ensures ∙ c.if-not-pass.true)
 
-pub table_size-size-requires : goal.table_size-size-requires
-table_size-size-requires c = sym c.pass.ensures ∙ c.if-not-pass.false
-
 pub returns-then-table-size : goal.returns-then-table-size
 returns-then-table-size c =
     let a = c.args in
@@ -52,14 +49,6 @@ returns-then-s-i c =
     message_high a.s a.i a.table.now a.message.now a.room.now
     (sym pass.ensures ∙ c.if-not-pass.false)
     (omega (arith, c.if-table-size.false, c.table_size-size.ensures)) c.if-room-s.false c.if-i-lt1.false c.if-s-i.true
-
-pub receive-requires : goal.receive-requires
-receive-requires c =
-    let pass = c.pass in (
-      sym pass.ensures ∙ c.if-not-pass.false,
-      omega (arith, c.if-table-size.false, c.table_size-size.ensures),
-      c.if-room-s.false,
-    )
 
 pub returns : goal.returns
 returns c =

@@ -1,12 +1,6 @@
 use mathlib.Core.Path.{◌∙◌}
-use lib.ListN.{length-set}
 use Rattle.parties.proofs.records.SpliceLaws.{tagged}
 use Rattle.parties.proofs.node.put_head.Goals as goal
-
-pub shape_of-room : goal.shape_of-room
-shape_of-room c =
-    let a = c.args in
-    c.copy.auto.dst ∙ length-set a.room.now 0 a.tag
 
 pub returns : goal.returns
 returns c =

@@ -8,9 +8,3 @@ returns-then-not-version_alone c =
     let p = c.requires in
     broken-request a.s a.t.now a.b.now a.room.now p.0 p.1 p.2
     (sym c.version_alone.ensures ∙ c.if-not-version_alone.true)
-
-pub hand_back-requires : goal.hand_back-requires
-hand_back-requires c =
-    let p = c.requires in
-    let version-alone = c.version_alone in
-    (p.0, p.1, p.2, sym version-alone.ensures ∙ c.if-not-version_alone.false)

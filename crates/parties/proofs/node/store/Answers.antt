@@ -13,9 +13,3 @@ returns-then-not-store_sound c =
     let p = c.requires in
     broken-store a.s a.t.now a.b.now a.room.now p.0 p.1 p.2
     (sym c.store_sound.ensures ∙ c.if-not-store_sound.true)
-
-pub keep-requires : goal.keep-requires
-keep-requires c =
-    let p = c.requires in
-    let store-sound = c.store_sound in
-    (p.0, p.1, p.2, sym store-sound.ensures ∙ c.if-not-store_sound.false)

@@ -11,7 +11,8 @@ use lib.ListN.{length}
 use Rattle.coding.specs.Bytes.{Bytes}
 use Rattle.coding.proofs.PageLaws.{none≢some, some_eq}
 use Rattle.parties.specs.declared.Measures.{Measures}
-use Rattle.parties.specs.declared.NextSequence.{NextSequence}
+use Rattle.std.specs.Prelude.{Option as StdOption, Some, None}
+use Rattle.parties.specs.declared.Sequence.{Sequence}
 use Rattle.parties.specs.protocol.Measures.{passes, row_size}
 use Rattle.parties.specs.protocol.Format.{Read}
 use Rattle.parties.specs.protocol.Version.{next_sequence}
@@ -101,10 +102,10 @@ module _ (s : Measures) (own : ℕ) where
       other : {A : Type 0} (n : ℕ) → (n ≡ 7 → ⊥) → refused n ≡ spent → A
       other n l h = absurd (l (some_eq (ap number h)))
 
-      drawn : (n : NextSequence) → let x = after s b room [] rest (draw s own (with_phase (scanning page) c) room page n) in
+      drawn : (n : StdOption Sequence) → let x = after s b room [] rest (draw s own (with_phase (scanning page) c) room page n) in
           x.answer ≡ spent → x.client ≡ write_client s (with_phase Phase.idle c) ++ rest
-      drawn (NextSequence.Drawn q) h = absurd (none≢some (ap number h))
-      drawn NextSequence.Spent h = refl
+      drawn (Some q) h = absurd (none≢some (ap number h))
+      drawn None h = refl
 
       owned : (r : Read (List Row)) (x : Bool) → let k = with_phase (scanning page) c in
           let e = after s b room [] rest (on_rows (cond x (sound r) (broken 14)) (λ l. scanned_at s own k room l k.phase))

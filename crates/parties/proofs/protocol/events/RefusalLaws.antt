@@ -10,8 +10,9 @@ use lib.ListN.{length, drop, set}
 use Rattle.coding.specs.Answer.{Outcome}
 use Rattle.coding.specs.Join.{join}
 use Rattle.parties.specs.declared.Measures.{Measures}
-use Rattle.parties.specs.declared.NextSequence.{NextSequence}
-use Rattle.parties.specs.declared.NextIndex.{NextIndex}
+use Rattle.std.specs.Prelude.{Option as StdOption, Some, None}
+use Rattle.parties.specs.declared.Sequence.{Sequence}
+use Rattle.parties.specs.declared.ReadingIndex.{ReadingIndex}
 use Rattle.parties.specs.declared.Version.{Version}
 use Rattle.parties.specs.protocol.Measures.{passes, row_size}
 use Rattle.parties.specs.protocol.Format.{Read}
@@ -44,9 +45,9 @@ fair_deposit : (s : Measures) (c : Client) (bytes : List ℕ) → Fair (begin_de
 unfolding begin_deposit
 fair_deposit s c bytes = fair_either (is_idle c.phase) _ _ (fair_either (leb (length bytes) (s.k * s.f - 4)) _ _ (acts _ _ _ _ refl) (still _)) (still _)
 
-fair_raise : (c : Client) (room : List ℕ) (n : NextIndex) → Fair (raise c room n)
-fair_raise c room (NextIndex.Raised i) = acts _ _ _ _ refl
-fair_raise c room NextIndex.Spent = still _
+fair_raise : (c : Client) (room : List ℕ) (n : StdOption ReadingIndex) → Fair (raise c room n)
+fair_raise c room (Some i) = acts _ _ _ _ refl
+fair_raise c room None = still _
 
 fair_reading : (c : Client) (room : List ℕ) → Fair (begin_reading c room)
 unfolding begin_reading
@@ -62,9 +63,9 @@ fair_acknowledged c room raising = acts _ _ _ _ refl
 fair_acknowledged c room picking = still _
 fair_acknowledged c room (fetching p n m ps) = still _
 
-fair_draw : (s : Measures) (own : ℕ) (c : Client) (room bytes : List ℕ) (n : NextSequence) → Fair (draw s own c room bytes n)
-fair_draw s own c room bytes (NextSequence.Drawn q) = acts _ _ _ _ refl
-fair_draw s own c room bytes NextSequence.Spent = acts _ _ _ _ refl
+fair_draw : (s : Measures) (own : ℕ) (c : Client) (room bytes : List ℕ) (n : StdOption Sequence) → Fair (draw s own c room bytes n)
+fair_draw s own c room bytes (Some q) = acts _ _ _ _ refl
+fair_draw s own c room bytes None = acts _ _ _ _ refl
 
 fair_scanned : (s : Measures) (own : ℕ) (c : Client) (room : List ℕ) (rows : List Row) (p : Phase) → Fair (scanned_at s own c room rows p)
 fair_scanned s own c room rows idle = still _

@@ -15,8 +15,9 @@ use Rattle.coding.specs.Join.{join}
 use Rattle.coding.proofs.Cases.{and-true}
 use Rattle.coding.proofs.FrameLaws.{columns-within}
 use Rattle.parties.specs.declared.Measures.{Measures}
-use Rattle.parties.specs.declared.NextSequence.{NextSequence}
-use Rattle.parties.specs.declared.NextIndex.{NextIndex}
+use Rattle.std.specs.Prelude.{Option as StdOption, Some, None}
+use Rattle.parties.specs.declared.Sequence.{Sequence}
+use Rattle.parties.specs.declared.ReadingIndex.{ReadingIndex}
 use Rattle.parties.specs.declared.Version.{Version}
 use Rattle.parties.specs.Sizes.{Sized}
 use Rattle.parties.specs.protocol.Measures.{passes, pointer_size, row_size}
@@ -66,12 +67,12 @@ bounded_deposit : (s : Measures) (c : Client) (bytes : List ℕ) → SizedStep s
 unfolding begin_deposit
 bounded_deposit s c bytes = either s (is_idle c.phase) _ _ (either s (leb (length bytes) (s.k * s.f - 4)) _ _ tt tt) tt
 
-bounded_raise : (s : Measures) (c : Client) (room : List ℕ) (n : NextIndex) → SizedStep s (raise c room n)
+bounded_raise : (s : Measures) (c : Client) (room : List ℕ) (n : StdOption ReadingIndex) → SizedStep s (raise c room n)
 unfolding write_record write_fields write_content write_many map_of
-bounded_raise s c room (NextIndex.Raised i) =
+bounded_raise s c room (Some i) =
     let x = (write_index i ++ []) ++ [] in
     omega (arith, length-append (write_number 1 8) x, length-append (write_index i ++ []) [], length-append (write_index i) [], length-index i, length-number 1 8)
-bounded_raise s c room NextIndex.Spent = tt
+bounded_raise s c room None = tt
 
 bounded_reading : (s : Measures) (c : Client) (room : List ℕ) → SizedStep s (begin_reading c room)
 unfolding begin_reading
@@ -96,9 +97,9 @@ free-long [] = refl
 free-long (v ∷ l) = omega (arith, length-append (write_version v) (write_many write_version l), length-version v, free-long l)
 
 module _ (s : Measures) (p : Passed s) where
-  bounded_draw : (own : ℕ) (c : Client) (room bytes : List ℕ) (n : NextSequence) → length bytes ≤ s.k * s.f - 4 → SizedStep s (draw s own c room bytes n)
-  bounded_draw own c room bytes (NextSequence.Drawn q) h = columns-within s.k s.f (length bytes) p.parts p.frame h
-  bounded_draw own c room bytes NextSequence.Spent h = tt
+  bounded_draw : (own : ℕ) (c : Client) (room bytes : List ℕ) (n : StdOption Sequence) → length bytes ≤ s.k * s.f - 4 → SizedStep s (draw s own c room bytes n)
+  bounded_draw own c room bytes (Some q) h = columns-within s.k s.f (length bytes) p.parts p.frame h
+  bounded_draw own c room bytes None h = tt
 
   bounded_freeze : (own : ℕ) (c : Client) (room : List ℕ) (rows : List Row) (x : Pointer) → SizedStep s (freeze s own c room rows x)
   unfolding write_to_node

@@ -5,17 +5,7 @@ use native.Mathlib.Omega.{arith}
 use Rattle.parties.proofs.records.SizeLaws.{table_bound}
 use Rattle.parties.specs.protocol.Measures.{passes}
 use Rattle.parties.specs.protocol.DirectoryEvents.{directory_size}
-use Rattle.parties.proofs.SizesLaws.{sized_passed, sized-failed}
 use Rattle.parties.proofs.sizes.directory.Goals as goal
-
-pub returns-then-not-pass : goal.returns-then-not-pass
-returns-then-not-pass c = let s = c.args.s in sym (sized-failed s (directory_size s) (sym c.pass.ensures ∙ c.if-not-pass.true))
-
-pub row_size-row-requires : goal.row_size-row-requires
-row_size-row-requires c =
-    let good : passes c.args.s ≡ true =
-    sym c.pass.ensures ∙ c.if-not-pass.false in
-    good
 
 pub overflow_mul-result : goal.overflow_mul-result
 overflow_mul-result c =
@@ -24,11 +14,3 @@ overflow_mul-result c =
     let all : c.args.s.m * c.row_size-row.result ≡ directory_size c.args.s =
     ap (λ (k : ℕ). c.args.s.m * k) c.row_size-row.ensures in
     omega (arith, all, table_bound c.args.s good)
-
-pub returns : goal.returns
-returns c =
-    let good : passes c.args.s ≡ true =
-    sym c.pass.ensures ∙ c.if-not-pass.false in
-    let all : c.args.s.m * c.row_size-row.result ≡ directory_size c.args.s =
-    ap (λ (k : ℕ). c.args.s.m * k) c.row_size-row.ensures in
-    let s = c.args.s in all ∙ sym (sized_passed s (directory_size s) good)

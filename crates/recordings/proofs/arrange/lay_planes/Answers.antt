@@ -19,4 +19,4 @@ filled d t u u' w n r h x y =
 
 pub returns : goal.returns
 returns c =
-    filled c.args.bytes.now _ _ _ c.args.width c.args.n _ c.first_planes-done.ensures.0 c.first_planes-done.ensures.1 c.write_planes.ensures
+    filled c.args.recording.now.bytes.now _ _ _ c.args.recording.now.width c.args.recording.now.count _ c.first_planes-done.ensures.0 c.first_planes-done.ensures.1 c.write_planes.ensures

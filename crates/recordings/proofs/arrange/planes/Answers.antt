@@ -1,28 +1,13 @@
-use mathlib.Core.Path.{sym, ap, ◌∙◌}
-use lib.ListN.{length}
+use Rattle.std.proofs.Common.{ap, sym}
 use Rattle.recordings.specs.Planes.{planes_of}
 use Rattle.recordings.specs.Arrange.{ArrangeEnd}
-use Rattle.recordings.proofs.ArrangeLaws.{whole-samples, arrange-short, arrange_width, arrange-done, planes-laid}
+use Rattle.recordings.proofs.ArrangeLaws.{arrange-done, planes-laid}
 use Rattle.recordings.proofs.arrange.planes.Goals as goal
-
-pub returns-then-out-bytes : goal.returns-then-out-bytes
-returns-then-out-bytes c =
-    let e = arrange-short planes_of c.args.width c.args.bytes.now c.args.out.now c.if-out-bytes.true in
-    (sym (ap (λ (z : ArrangeEnd). z.outcome) e), sym (ap (λ (z : ArrangeEnd). z.out) e))
-
-pub returns-then-not-proper : goal.returns-then-not-proper
-returns-then-not-proper c =
-    let e = arrange_width planes_of c.args.width c.args.bytes.now c.args.out.now c.if-out-bytes.false (sym c.proper.ensures ∙ c.if-not-proper.true) in
-    (sym (ap (λ (z : ArrangeEnd). z.outcome) e), sym (ap (λ (z : ArrangeEnd). z.out) e))
-
-pub lay_planes-requires : goal.lay_planes-requires
-lay_planes-requires c = (sym (whole-samples c.args.width (length c.args.bytes.now) (sym c.proper.ensures ∙ c.if-not-proper.false)), c.if-out-bytes.false)
 
 pub returns : goal.returns
 returns c =
     let w = c.args.width in
     let d = c.args.bytes.now in
     let out = c.args.out.now in
-    let r = c.if-out-bytes.false in
-    let p = (sym c.proper.ensures ∙ c.if-not-proper.false) in
-    (sym (ap (λ (z : ArrangeEnd). z.outcome) (arrange-done planes_of w d out r p)), planes-laid w d out _ r p c.lay_planes.ensures)
+    let is = c.in_ok-recording.ensures.ok in
+    (sym (ap (λ (z : ArrangeEnd). z.outcome) (arrange-done planes_of w d out is.4 is.3)), planes-laid w d out _ is.4 is.3 (rw (is.0, is.1, is.2) at c.lay_planes.ensures))

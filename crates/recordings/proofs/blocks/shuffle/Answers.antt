@@ -1,13 +1,9 @@
 use borrow.Author.Rules.{rules}
-use mathlib.Core.Path.{◌≡◌, refl}
+use mathlib.Core.Path.{◌≡◌}
 use native.Mathlib.Omega.{arith}
 use lib.ListN.{length}
-use Rattle.coding.proofs.BytesLaws.{front-none, front_length}
 use Rattle.recordings.proofs.BlockLaws.{shuffle_turn}
 use Rattle.recordings.proofs.blocks.shuffle.Goals as goal
-
-pub loop-k-init : goal.loop-k-init
-loop-k-init c = (omega arith, refl, front-none _ _)
 
 pub loop-k-preserved : goal.loop-k-preserved
 loop-k-preserved c =
@@ -20,14 +16,9 @@ loop-k-preserved c =
     let l₀ : length v₀ ≡ 16 = search rules in
     let l₁ : length v₁ ≡ 16 = search rules in
     let l₂ : length v₂ ≡ 16 = search rules in
-    let f =
     shuffle_turn d c.args.to.now at k c.requires.1 c.loop-k-test.true _ _ _ _ v₀ v₁ v₂
     (l₀, c.pairs.ensures) (l₁, c.pairs-in-loop-k.ensures) (l₂, c.pairs-in-loop-k-2.ensures)
-    c.store.ensures c.store-in-loop-k.ensures c.store-in-loop-k-2.ensures c.loop-k.invariant.2
-    in (omega arith, front_length _ _ _ _ f, f)
-
-pub shape_of-to : goal.shape_of-to
-shape_of-to c = c.loop-k.invariant.1
+    c.store.ensures c.store-in-loop-k.ensures c.store-in-loop-k-2.ensures c.loop-k.invariant
 
 pub returns : goal.returns
-returns c = let e : c.loop-k.k ≡ 32 = omega arith in rw e at c.loop-k.invariant.2.done
+returns c = let e : c.loop-k.k ≡ 32 = omega arith in rw e at c.loop-k.invariant.done

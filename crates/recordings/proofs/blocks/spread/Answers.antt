@@ -2,12 +2,8 @@ use borrow.Author.Rules.{rules}
 use mathlib.Core.Path.{◌≡◌}
 use native.Mathlib.Omega.{arith}
 use lib.ListN.{length}
-use Rattle.coding.proofs.AreasLaws.{columns-empty}
 use Rattle.recordings.proofs.BlockLaws.{spread_turn}
 use Rattle.recordings.proofs.blocks.spread.Goals as goal
-
-pub loop-k-init : goal.loop-k-init
-loop-k-init c = (omega arith, columns-empty _ _ _ _ _)
 
 pub loop-k-preserved : goal.loop-k-preserved
 loop-k-preserved c =
@@ -16,15 +12,10 @@ loop-k-preserved c =
     let v₂ = c.pairs-in-loop-k-2.result in
     let l₀ : length v₀ ≡ 16 = search rules in
     let l₁ : length v₁ ≡ 16 = search rules in
-    let l₂ : length v₂ ≡ 16 = search rules in (
-      omega arith,
-      spread_turn c.args.from.now c.args.out.now c.args.n c.args.s c.loop-k.k c.requires.2 c.requires.0 c.loop-k-test.true _ _ _ _ v₀ v₁ v₂
-          (l₀, c.pairs.ensures) (l₁, c.pairs-in-loop-k.ensures) (l₂, c.pairs-in-loop-k-2.ensures)
-          c.store.ensures c.store-in-loop-k.ensures c.store-in-loop-k-2.ensures c.loop-k.invariant.1,
-    )
-
-pub shape_of-out : goal.shape_of-out
-shape_of-out c = c.loop-k.invariant.1.same
+    let l₂ : length v₂ ≡ 16 = search rules in
+    spread_turn c.args.from.now c.args.out.now c.args.n c.args.s c.loop-k.k c.requires.2 c.requires.0 c.loop-k-test.true _ _ _ _ v₀ v₁ v₂
+    (l₀, c.pairs.ensures) (l₁, c.pairs-in-loop-k.ensures) (l₂, c.pairs-in-loop-k-2.ensures)
+    c.store.ensures c.store-in-loop-k.ensures c.store-in-loop-k-2.ensures c.loop-k.invariant
 
 pub returns : goal.returns
-returns c = let e : c.loop-k.k ≡ 32 = omega arith in rw e at c.loop-k.invariant.1
+returns c = let e : c.loop-k.k ≡ 32 = omega arith in rw e at c.loop-k.invariant

@@ -1,4 +1,4 @@
-use Prim.Native.Nat.{◌+◌, ◌-◌, ◌*◌, ◌/◌, ◌%◌, ◌≤◌}
+use Prim.Native.Nat.{◌+◌, ◌*◌, ◌/◌, ◌%◌}
 use lib.ListN.{get_or}
 use Rattle.coding.specs.Areas.{Columns}
 use Rattle.recordings.specs.Shuffle.{shuffled}
@@ -6,7 +6,4 @@ use Rattle.recordings.proofs.blocks.spread.Given as goal
 
 -- The blocks below k stand in their planes.
 abbrev pub invariant-loop-k : goal.invariant-loop-k
-invariant-loop-k here = (here.k ≤ 32) × Columns 3 here.n here.s (16 * here.k) (λ p l. get_or here.from (l / 16 * 48 + shuffled (p * 16 + l % 16)) 0) here.initial.out here.out
-
-abbrev pub decreases-loop-k : goal.decreases-loop-k
-decreases-loop-k l = 32 - l.k
+invariant-loop-k here = Columns 3 here.n here.s (16 * here.k) (λ p l. get_or here.from (l / 16 * 48 + shuffled (p * 16 + l % 16)) 0) here.initial.out here.out

@@ -1,13 +1,8 @@
-use mathlib.Core.Path.{◌≡◌}
-use Prim.Native.Nat.{◌-◌, ◌≤◌}
-use lib.ListN.{length, get_or}
+use Rattle.std.proofs.Common.{◌*◌, get_or}
 use Rattle.coding.specs.Areas.{Columns}
 use Rattle.recordings.specs.Planes.{among_samples}
 use Rattle.recordings.proofs.blocks.write_blocks.Given as goal
 
--- The samples below s stand in their planes.
-abbrev pub invariant-loop-s : goal.invariant-loop-s
-invariant-loop-s here = (here.s ≤ here.n) × (length here.x ≡ 1536) × (length here.y ≡ 1536) × Columns 3 here.n 0 here.s (λ p l. get_or here.bytes (among_samples 3 l p) 0) here.initial.out here.out
-
-abbrev pub decreases-loop-s : goal.decreases-loop-s
-decreases-loop-s l = l.n - l.s
+-- The samples of the first b times 32 blocks stand in their planes.
+abbrev pub invariant-loop-b : goal.invariant-loop-b
+invariant-loop-b l = Columns 3 l.n 0 (l.b * 512) (λ p s. get_or l.bytes (among_samples 3 s p) 0) l.initial.out l.out

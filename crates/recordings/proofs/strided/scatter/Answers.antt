@@ -1,16 +1,10 @@
-use borrow.Author.Rules.{rules}
-use mathlib.Core.Path.{◌≡◌, refl, sym, ap₂, ◌∙◌}
-use mathlib.Core.List.{List, [], ◌∷◌}
-use Prim.Native.Nat.{ℕ, zero, suc, ◌+◌, ◌*◌, ◌<◌, ◌≤◌}
-use native.Mathlib.Nat.{add-zero}
-use native.Mathlib.Omega.{arith}
-use lib.ListN.{length, get_or, set}
+use Rattle.std.proofs.Common.{◌≡◌, refl, sym, ap, ap₂, ◌∙◌, ℕ, zero, suc, ◌+◌, ◌-◌, ◌*◌, ◌<◌, ◌≤◌, List, [], ◌∷◌, length, get_or, take, drop, set, add-zero, add_assoc, get_or-take, get_or-drop, arith}
 use lib.Seq.{paste, paste-zero, paste-suc}
 use Rattle.coding.proofs.AreasLaws.{Walk, walk_room, walk_all}
-use Rattle.recordings.proofs.FrontLaws.{walk_begins, walk_next}
+use Rattle.recordings.specs.Planes.{among_planes}
+use Rattle.recordings.proofs.FrontLaws.{walk_next}
 use Rattle.recordings.proofs.strided.scatter.Goals as goal
 
--- The samples below i have their byte of the plane.
 one : {p width : ℕ} → p < width → p + 1 ≤ width
 one h = omega arith
 
@@ -24,32 +18,24 @@ only x zero h = refl
 only x (suc l) h = absurd (omega arith)
 
 -- a sample more
-module _ (d : List ℕ) (from count width p : ℕ) (t u : List ℕ) (i : ℕ) (hp : p < width) (room : count * width ≤ length t)
-    (w : Walk count width p 1 (λ j l. get_or d (from + j) 0) t u (i * width + p) i) (h : i < count)
+module _ (d : List ℕ) (n s width p : ℕ) (t u : List ℕ) (i : ℕ) (hp : p < width) (room : (n - s) * width ≤ length t)
+    (w : Walk (n - s) width p 1 (λ j l. get_or d (among_planes n (s + j) p) 0) t u (i * width + p) i) (h : i < n - s)
   where
-    turn : Walk count width p 1 (λ j l. get_or d (from + j) 0) t (set u (i * width + p) (get_or d (from + i) 0)) ((i + 1) * width + p) (i + 1)
+    turn : Walk (n - s) width p 1 (λ j l. get_or d (among_planes n (s + j) p) 0) t
+        (set u (i * width + p) (get_or (take (((p * n + s) + (n - s)) - (p * n + s)) (drop (p * n + s) d)) i 0)) ((i + 1) * width + p) (i + 1)
     turn =
-        let x = get_or d (from + i) 0 in
+        let from = p * n + s in
+        let x = get_or d (among_planes n (s + i) p) 0 in
+        let e : get_or (take ((from + (n - s)) - from) (drop from d)) i 0 ≡ x =
+        get_or-take ((from + (n - s)) - from) (drop from d) i 0 (omega arith) ∙ get_or-drop from d i 0 ∙ ap (λ (q : ℕ). get_or d q 0) (add_assoc (p * n) s i)
+        in
         let b : i * width + p + 1 ≤ length u = walk_room _ _ _ _ _ _ _ _ _ (one hp) room w h in
-        rw (set-paste u (i * width + p) x (omega arith)) (walk_next _ _ _ _ _ _ _ _ (one hp) room w h (x ∷ []) (omega arith) (only x))
-
-pub loop-i-init : goal.loop-i-init
-loop-i-init c = walk_begins _ _ _ _ _ _
-
-pub overflow_mul-out : goal.overflow_mul-out
-overflow_mul-out c = let h = walk_room _ _ _ _ _ _ _ _ _ (one c.requires.0) c.requires.2 c.loop-i.invariant c.loop-i-test.true in search rules
-
-pub overflow_add-out-in-loop-i : goal.overflow_add-out-in-loop-i
-overflow_add-out-in-loop-i c = let h = walk_room _ _ _ _ _ _ _ _ _ (one c.requires.0) c.requires.2 c.loop-i.invariant c.loop-i-test.true in search rules
-
-pub bounds-out-i : goal.bounds-out-i
-bounds-out-i c = let h = walk_room _ _ _ _ _ _ _ _ _ (one c.requires.0) c.requires.2 c.loop-i.invariant c.loop-i-test.true in omega arith
+        rw (e, set-paste u (i * width + p) x (omega arith)) (walk_next _ _ _ _ _ _ _ _ (one hp) room w h (x ∷ []) (omega arith) (only x))
 
 pub loop-i-preserved : goal.loop-i-preserved
-loop-i-preserved c = turn c.args.bytes.now c.args.from c.args.count c.args.width c.args.p _ _ c.loop-i.i c.requires.0 c.requires.2 c.loop-i.invariant c.loop-i-test.true
-
-pub shape_of-out : goal.shape_of-out
-shape_of-out c = (walk_all _ _ _ _ _ _ _ _ _ (one c.requires.0) c.requires.2 c.loop-i.invariant c.loop-i-test.false).same
+loop-i-preserved c =
+    let r = c.args.recording.now in
+    turn r.bytes.now r.count c.args.s r.width c.args.p _ _ c.loop-i.i c.requires.plane c.requires.room c.loop-i.invariant (omega arith)
 
 pub returns : goal.returns
-returns c = walk_all _ _ _ _ _ _ _ _ _ (one c.requires.0) c.requires.2 c.loop-i.invariant c.loop-i-test.false
+returns c = walk_all _ _ _ _ _ _ _ _ _ (one c.requires.plane) c.requires.room c.loop-i.invariant (omega arith)

@@ -18,5 +18,5 @@ returns c =
     let d = c.to_node-a in
     let t = c.serves in (
       t.ensures.0,
-      λ honest l. (Acts.brings a.c a.i a.at a.end d.result t.result l p.1 d.ensures.0 d.ensures.1 d.ensures.2 refl t.ensures.1, λ es h. bring-honest-goes a.s p.0.measures honest es a.memory.now a.post.now a.used h a.c a.i a.room.now d.new.room a.at a.end d.result d.new.memory t.new.post t.result l (omega (arith, node-length a.s a.memory.now (λ i. let b : Fits w8 (get_or c.args.memory.now i 0) = search rules in b.fits) d.result a.i _ _ d.ensures.0, (passed a.s p.0.measures).bytes.1)) (p.1.oldest h.parcels h.listed) d.ensures.0 d.ensures.1 d.ensures.2 t.ensures.1),
+      λ honest l. (Acts.brings a.c a.i a.place.start a.place.end d.result t.result l p.1 d.ensures.0 d.ensures.1 d.ensures.2 refl t.ensures.1, λ es h. bring-honest-goes a.s p.0.measures honest es a.memory.now a.post.now a.used h a.c a.i a.room.now d.new.room a.place.start a.place.end d.result d.new.memory t.new.post t.result l (omega (arith, node-length a.s a.memory.now (λ i. let b : Fits w8 (get_or c.args.memory.now i 0) = search rules in b.fits) d.result a.i _ _ d.ensures.0, (passed a.s p.0.measures).bytes.1)) (p.1.oldest h.parcels h.listed) d.ensures.0 d.ensures.1 d.ensures.2 t.ensures.1),
     )

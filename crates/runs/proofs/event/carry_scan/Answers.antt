@@ -16,5 +16,5 @@ returns c =
     let d = c.scan-a in
     let t = c.serves in (
       t.ensures.0,
-      λ honest. (Acts.scans a.c a.at a.end d.result t.result p.1 p.2 d.ensures.0 refl d.ensures.1 refl t.ensures.1, λ es h. carry-scan-goes a.s p.0.measures honest es a.memory.now a.post.now a.used h a.c a.room.now d.new.room a.at a.end d.result t.new.post t.result (p.1.oldest h.parcels h.listed) (omega (arith, scan-length a.s d.result _ _ d.ensures.0, rows-small a.s p.0.measures)) p.2 d.ensures.0 d.ensures.1 t.ensures.1),
+      λ honest. (Acts.scans a.c a.place.start a.place.end d.result t.result p.1 p.2 d.ensures.0 refl d.ensures.1 refl t.ensures.1, λ es h. carry-scan-goes a.s p.0.measures honest es a.memory.now a.post.now a.used h a.c a.room.now d.new.room a.place.start a.place.end d.result t.new.post t.result (p.1.oldest h.parcels h.listed) (omega (arith, scan-length a.s d.result _ _ d.ensures.0, rows-small a.s p.0.measures)) p.2 d.ensures.0 d.ensures.1 t.ensures.1),
     )

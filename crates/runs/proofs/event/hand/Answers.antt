@@ -1,47 +1,24 @@
-use mathlib.Core.Path.{refl, sym, ◌∙◌}
-use native.Mathlib.Omega.{arith}
-use Rattle.runs.specs.Parcels.{return_kind, no_node}
+use mathlib.Core.Path.{refl}
 use Rattle.runs.specs.Acts.{Acts}
-use Rattle.runs.specs.Event.{Waiting}
 use Rattle.runs.proofs.GoesLaws.{hand-none}
-use Rattle.runs.proofs.EventLaws.{ahead_ends, ahead_at, halted_happens, waiting_happens, return-bounds}
+use Rattle.runs.proofs.EventLaws.{halted_happens, waiting_happens, return-bounds}
 use Rattle.runs.proofs.event.hand.Goals as goal
 
-pub tagged-requires : goal.tagged-requires
-tagged-requires c =
-    let seen : let a = c.args in Waiting a.s return_kind a.c no_node a.post.now a.used c.in-Found.at c.in-Found.end =
-    let a = c.args in ahead_at a.s return_kind a.c no_node a.post.now a.used c.look_ahead.result c.look_ahead.ensures c.in-Found.at c.in-Found.end c.in-Found.is in
-    let w = seen in (w.stands.first, omega (arith, w.stands.last, w.roomy.enough))
-
-pub hand_rows-requires : goal.hand_rows-requires
-hand_rows-requires c =
-    let seen : let a = c.args in Waiting a.s return_kind a.c no_node a.post.now a.used c.in-Found.at c.in-Found.end =
-    let a = c.args in ahead_at a.s return_kind a.c no_node a.post.now a.used c.look_ahead.result c.look_ahead.ensures c.in-Found.at c.in-Found.end c.in-Found.is in
-    let w = seen in (w.roomy, w.stands, sym c.tagged.ensures ∙ c.if-tagged.true)
-
-pub hand_updated-requires : goal.hand_updated-requires
-hand_updated-requires c =
-    let seen : let a = c.args in Waiting a.s return_kind a.c no_node a.post.now a.used c.in-Found.at c.in-Found.end =
-    let a = c.args in ahead_at a.s return_kind a.c no_node a.post.now a.used c.look_ahead.result c.look_ahead.ensures c.in-Found.at c.in-Found.end c.in-Found.is in
-    let w = seen in (w.roomy, w.stands, sym c.tagged.ensures ∙ c.if-tagged.false)
-
-pub returns-in-Ends : goal.returns-in-Ends
-returns-in-Ends c =
+pub returns-in-Err : goal.returns-in-Err
+returns-in-Err c =
     λ honest. let a = c.args in
     halted_happens (return-bounds _ _) refl
     (λ v. (Acts.rests _ v.none refl, λ es h. hand-none a.s v.roomy.measures honest es a.memory.now a.post.now a.used h a.c a.room.now (v.none.none h.parcels h.listed)))
-    (ahead_ends a.s return_kind a.c no_node a.post.now a.used c.look_ahead.result c.look_ahead.ensures c.in-Ends.e c.in-Ends.is)
+    c.in-Err.ensures
 
 pub returns-then-tagged : goal.returns-then-tagged
 returns-then-tagged c =
-    let seen : let a = c.args in Waiting a.s return_kind a.c no_node a.post.now a.used c.in-Found.at c.in-Found.end =
-    let a = c.args in ahead_at a.s return_kind a.c no_node a.post.now a.used c.look_ahead.result c.look_ahead.ensures c.in-Found.at c.in-Found.end c.in-Found.is in
+    let w = c.in-Ok.ensures in
     λ honest. let t = c.hand_rows in
-    waiting_happens (return-bounds _ _) seen t.ensures.0 (t.ensures.1 honest)
+    waiting_happens (return-bounds _ _) w t.ensures.0 (t.ensures.1 honest)
 
 pub returns-else-tagged : goal.returns-else-tagged
 returns-else-tagged c =
-    let seen : let a = c.args in Waiting a.s return_kind a.c no_node a.post.now a.used c.in-Found.at c.in-Found.end =
-    let a = c.args in ahead_at a.s return_kind a.c no_node a.post.now a.used c.look_ahead.result c.look_ahead.ensures c.in-Found.at c.in-Found.end c.in-Found.is in
+    let w = c.in-Ok.ensures in
     λ honest. let t = c.hand_updated in
-    waiting_happens (return-bounds _ _) seen t.ensures.0 (t.ensures.1 honest)
+    waiting_happens (return-bounds _ _) w t.ensures.0 (t.ensures.1 honest)

@@ -16,5 +16,5 @@ returns c =
     let d = c.updated-a in
     let t = c.takes in (
       t.ensures.0,
-      λ honest. (Acts.acknowledges a.c a.at a.end d.result t.result p.1 p.2 (record { answer = d.ensures.0; memory = d.ensures.1; room = d.ensures.2 }) refl t.ensures.1, λ es h. hand-updated-goes a.s p.0.measures honest es a.memory.now a.post.now a.used h a.c a.room.now d.new.room a.at a.end d.result d.new.memory t.new.post t.result (updated-sized a.s a.memory.now (λ i. let b : Fits w8 (get_or c.args.memory.now i 0) = search rules in b.fits) a.c d.result _ d.ensures.0) (p.1.oldest h.parcels h.listed) p.2 d.ensures.0 d.ensures.1 d.ensures.2 t.ensures.1),
+      λ honest. (Acts.acknowledges a.c a.place.start a.place.end d.result t.result p.1 p.2 (record { answer = d.ensures.0; memory = d.ensures.1; room = d.ensures.2 }) refl t.ensures.1, λ es h. hand-updated-goes a.s p.0.measures honest es a.memory.now a.post.now a.used h a.c a.room.now d.new.room a.place.start a.place.end d.result d.new.memory t.new.post t.result (updated-sized a.s a.memory.now (λ i. let b : Fits w8 (get_or c.args.memory.now i 0) = search rules in b.fits) a.c d.result _ d.ensures.0) (p.1.oldest h.parcels h.listed) p.2 d.ensures.0 d.ensures.1 d.ensures.2 t.ensures.1),
     )

@@ -3,13 +3,9 @@ use mathlib.Core.Bool.{true}
 use Prim.Native.Nat.{ℕ, ◌+◌, ◌*◌}
 use native.Mathlib.Omega.{arith}
 use Rattle.parties.specs.protocol.Measures.{passes}
-use Rattle.runs.specs.Sent.{needed}
 use Rattle.runs.proofs.SentLaws.{room_small, rows-small}
-use Rattle.runs.proofs.EventLaws.{sized_is, sized-none, needed-small}
+use Rattle.runs.proofs.EventLaws.{sized_is, needed-small}
 use Rattle.runs.proofs.event.needed.Goals as goal
-
-pub returns-then-not-pass : goal.returns-then-not-pass
-returns-then-not-pass c = sym (sized-none c.args.s (needed c.args.s) (sym c.pass.ensures ∙ c.if-not-pass.true))
 
 pub overflow_add-result : goal.overflow_add-result
 overflow_add-result c =
@@ -43,13 +39,3 @@ overflow_add-result-3 c =
       ap (λ (x : ℕ). s.n * (7 + x)) (c.room-room.ensures ∙ sized_is s _ ok),
       needed-small s ok,
     )
-
-pub returns : goal.returns
-returns c =
-    let passing : passes c.args.s ≡ true =
-    sym c.pass.ensures ∙ c.if-not-pass.false in
-    let s = c.args.s in
-    let ok = passing in
-    let e = c.directory-rows.ensures ∙ sized_is s _ ok in
-    let f = c.room-room.ensures ∙ sized_is s _ ok in
-    (λ j. 8 + e j + s.n * (7 + f j)) ∙ sym (sized_is s (needed s) ok)

@@ -1,17 +1,32 @@
-use mathlib.Core.Path.{refl, sym, ◌∙◌}
-use lib.ListN.{take}
+use mathlib.Core.Path.{refl, ◌∙◌}
+use lib.ListN.{length, take}
+use native.Mathlib.Omega.{arith}
 use lib.Seq.{length-take-le}
+use Rattle.runs.specs.Parcels.{kind_of}
+use Rattle.runs.proofs.SendLaws.{smaller}
 use Rattle.runs.proofs.EventLaws.{appendable, serves-refused, serves-served}
 use Rattle.runs.proofs.event.serves.Goals as goal
 
-pub slice_bounds-append-end : goal.slice_bounds-append-end
-slice_bounds-append-end c = let a = c.args in sym (length-take-le c.least-part.result a.room.now c.least-part.ensures.2)
-
 pub append-to-requires : goal.append-to-requires
-append-to-requires c = let a = c.args in let n = c.least-part in let l = length-take-le n.result a.room.now n.ensures.2 in appendable a.s a.a _ a.front.now (take n.result a.room.now) a.room.now n.result a.post.now a.used a.at a.end _ _ c.requires c.in-Served.is l n.ensures.0 c.remove-left.ensures
+append-to-requires c =
+    let a = c.args in
+    let room = a.room.now in
+    let n = c.min-part.result in
+    let e = smaller c.in-Ok.len (length room) n c.min-part.ensures in
+    let l = length-take-le n room (omega arith) in
+    appendable a.s a.a _ a.front.now (take n room) room n a.post.now a.used a.place.start a.place.end _ _ c.requires c.in-Ok.is l e c.remove-left.ensures
 
-pub returns-in-Refused : goal.returns-in-Refused
-returns-in-Refused c = let a = c.args in (refl, serves-refused a.kind a.c a.i a.front.now a.room.now a.post.now a.used a.at a.end a.a c.in-Refused.field-0 c.in-Refused.is)
+pub returns-in_default : goal.returns-in_default
+returns-in_default c =
+    let a = c.args in
+    (refl, serves-refused (kind_of a.key.kind) a.key.client a.key.node a.front.now a.room.now a.post.now a.used a.place.start a.place.end a.a _ c.in_default.is)
 
-pub returns-in-Served : goal.returns-in-Served
-returns-in-Served c = let a = c.args in let r = c.remove-left in let p = c.append-to in (p.ensures.long ∙ r.ensures.long, serves-served a.kind a.c a.i a.front.now a.room.now a.post.now a.used a.at a.end p.new.post a.a c.in-Served.len c.in-Served.is c.least-part.result r.result p.result r.new.post c.least-part.ensures.0 r.ensures p.ensures)
+pub returns : goal.returns
+returns c =
+    let a = c.args in
+    let r = c.remove-left in
+    let p = c.append-to in
+    let e = smaller c.in-Ok.len (length a.room.now) c.min-part.result c.min-part.ensures in (
+      p.ensures.long ∙ r.ensures.long,
+      serves-served (kind_of a.key.kind) a.key.client a.key.node a.front.now a.room.now a.post.now a.used a.place.start a.place.end p.new.post a.a c.in-Ok.len c.in-Ok.is c.min-part.result r.result p.result r.new.post e r.ensures p.ensures,
+    )

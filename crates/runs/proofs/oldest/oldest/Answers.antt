@@ -1,65 +1,42 @@
-use mathlib.Core.Path.{refl, sym, ◌∙◌}
-use native.Mathlib.Omega.{arith}
-use lib.ListN.{length}
-use Rattle.runs.specs.Happens.{PostRoomy}
+use mathlib.Core.Path.{refl, ap, ◌∙◌}
+use Rattle.runs.specs.Parcels.{kind_of}
 use Rattle.runs.specs.Oldest.{honest_all, Oldest}
-use Rattle.runs.proofs.FormLaws.{from_list, none-short, none-key}
-use Rattle.runs.proofs.EventLaws.{ready_yes, ready_no, some_used, last-kind, key-kind-within}
+use Rattle.runs.proofs.OldestLaws.{call_first, return_first, to_node_first, to_client_first}
 use Rattle.runs.proofs.oldest.oldest.Goals as goal
 
+pub returns-in-Err : goal.returns-in-Err
+returns-in-Err c = Oldest.cramped _ c.in-Err.ensures refl
+
 pub returns-then-used-eq0 : goal.returns-then-used-eq0
-returns-then-used-eq0 c =
-    let able : let a = c.args in PostRoomy a.s (length a.post.now) a.used =
-    let a = c.args in ready_yes a.s (length a.post.now) a.used c.ready.result c.ready.ensures c.in-Yes.is in
-    Oldest.none able c.if-used-eq0.true refl
+returns-then-used-eq0 c = Oldest.none c.in_default.ensures c.if-used-eq0.true refl
 
-pub returns-then-used-lt-HEADING : goal.returns-then-used-lt-HEADING
-returns-then-used-lt-HEADING c =
-    let able : let a = c.args in PostRoomy a.s (length a.post.now) a.used =
-    let a = c.args in ready_yes a.s (length a.post.now) a.used c.ready.result c.ready.ensures c.in-Yes.is in
-    let a = c.args in let y = able in Oldest.form y (λ q l. none-short a.s y.measures a.used a.post.now (omega (arith, y.enough)) 0 (some_used a.used c.if-used-eq0.false) (omega (arith, c.if-used-lt-HEADING.true)) (from_list a.s a.used a.post.now q l)) refl
+pub returns-in-Err-front : goal.returns-in-Err-front
+returns-in-Err-front c = let f = c.in-Err-front.ensures in rw f.0 (Oldest.form c.in_default.ensures f.1 refl)
 
-pub bounds-post-0 : goal.bounds-post-0
-bounds-post-0 c =
-    let able : let a = c.args in PostRoomy a.s (length a.post.now) a.used =
-    let a = c.args in ready_yes a.s (length a.post.now) a.used c.ready.result c.ready.ensures c.in-Yes.is in
-    omega (arith, able.enough)
+pub returns-in-Call : goal.returns-in-Call
+returns-in-Call c =
+    let a = c.args in
+    let f = c.in-Ok.ensures in
+    let d = c.carry in
+    call_first a.s a.used (record { memory = a.memory.now; post = a.post.now; room = a.room.now; out = a.out.now }) (record { memory = d.new.memory; post = d.new.post; room = d.new.room; out = a.out.now }) d.result f.0 refl _ f.2 (f.1 ∙ ap kind_of c.in-Call.is) (d.ensures honest_all)
 
-pub bounds-post-1 : goal.bounds-post-1
-bounds-post-1 c =
-    let able : let a = c.args in PostRoomy a.s (length a.post.now) a.used =
-    let a = c.args in ready_yes a.s (length a.post.now) a.used c.ready.result c.ready.ensures c.in-Yes.is in
-    omega (arith, able.enough)
+pub returns-in-Return : goal.returns-in-Return
+returns-in-Return c =
+    let a = c.args in
+    let f = c.in-Ok.ensures in
+    let d = c.hand in
+    return_first a.s a.used (record { memory = a.memory.now; post = a.post.now; room = a.room.now; out = a.out.now }) (record { memory = d.new.memory; post = d.new.post; room = d.new.room; out = a.out.now }) d.result f.0 refl _ f.2 (f.1 ∙ ap kind_of c.in-Return.is) (d.ensures honest_all)
 
-pub overflow_cast-c : goal.overflow_cast-c
-overflow_cast-c c = omega (arith, c.type_inv.post 1)
+pub returns-in-ToNode : goal.returns-in-ToNode
+returns-in-ToNode c =
+    let a = c.args in
+    let f = c.in-Ok.ensures in
+    let d = c.bring in
+    to_node_first a.s a.used (record { memory = a.memory.now; post = a.post.now; room = a.room.now; out = a.out.now }) (record { memory = d.new.memory; post = d.new.post; room = d.new.room; out = a.out.now }) d.result f.0 refl _ f.2 _ f.3 (f.1 ∙ ap kind_of c.in-ToNode.is) d.ensures
 
-pub bounds-post-2 : goal.bounds-post-2
-bounds-post-2 c =
-    let able : let a = c.args in PostRoomy a.s (length a.post.now) a.used =
-    let a = c.args in ready_yes a.s (length a.post.now) a.used c.ready.result c.ready.ensures c.in-Yes.is in
-    omega (arith, able.enough)
-
-pub overflow_cast-i : goal.overflow_cast-i
-overflow_cast-i c = omega (arith, c.type_inv.post 2)
-
-pub returns-then-not-proper : goal.returns-then-not-proper
-returns-then-not-proper c =
-    let able : let a = c.args in PostRoomy a.s (length a.post.now) a.used =
-    let a = c.args in ready_yes a.s (length a.post.now) a.used c.ready.result c.ready.ensures c.in-Yes.is in
-    let a = c.args in let y = able in Oldest.form y (λ q l. none-key a.s y.measures a.used a.post.now (omega (arith, y.enough)) 0 (omega arith) (sym c.proper.ensures ∙ c.if-not-proper.true) (from_list a.s a.used a.post.now q l)) refl
-
-pub returns-then-kind-eq-CALL : goal.returns-then-kind-eq-CALL
-returns-then-kind-eq-CALL c = Oldest.call _ (omega arith) (omega arith) refl (c.carry.ensures honest_all)
-
-pub returns-then-kind-eq-RETURN : goal.returns-then-kind-eq-RETURN
-returns-then-kind-eq-RETURN c = Oldest.return _ (omega arith) (omega arith) refl (c.hand.ensures honest_all)
-
-pub returns-then-kind-eq-TO_NODE : goal.returns-then-kind-eq-TO_NODE
-returns-then-kind-eq-TO_NODE c = Oldest.to_node _ (omega arith) (omega arith) refl c.bring.ensures
-
-pub returns-in-No : goal.returns-in-No
-returns-in-No c = let a = c.args in Oldest.cramped c.in-No.x (ready_no a.s (length a.post.now) a.used c.ready.result c.ready.ensures c.in-No.x c.in-No.is) refl
-
-pub returns-else-kind-eq-TO_NODE : goal.returns-else-kind-eq-TO_NODE
-returns-else-kind-eq-TO_NODE c = let p = c.proper in Oldest.to_client _ (omega arith) (last-kind _ (key-kind-within _ _ _ _ (sym p.ensures ∙ c.if-not-proper.false)) c.if-kind-eq-CALL.false c.if-kind-eq-RETURN.false c.if-kind-eq-TO_NODE.false) (c.deliver.ensures honest_all)
+pub returns-in-ToClient : goal.returns-in-ToClient
+returns-in-ToClient c =
+    let a = c.args in
+    let f = c.in-Ok.ensures in
+    let d = c.deliver in
+    to_client_first a.s a.used (record { memory = a.memory.now; post = a.post.now; room = a.room.now; out = a.out.now }) (record { memory = d.new.memory; post = d.new.post; room = d.new.room; out = d.new.out }) d.result f.0 _ _ f.2 f.3 (f.1 ∙ ap kind_of c.in-ToClient.is) (d.ensures honest_all)

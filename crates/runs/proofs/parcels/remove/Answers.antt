@@ -3,4 +3,4 @@ use Rattle.runs.proofs.parcels.remove.Goals as goal
 
 pub returns : goal.returns
 returns c =
-    let p = c.requires in removed_all _ _ _ _ p.0 p.1 p.2 _ c.move_down.ensures
+    let p = c.requires in removed_all _ _ _ _ p.0 p.1 p.2 _ c.copy_within.ensures.after

@@ -10,20 +10,20 @@ use Rattle.session.proofs.session.config.Goals as goal
 
 pub returns-then-not-pass : goal.returns-then-not-pass
 returns-then-not-pass c =
-    let a = c.at_stage.ensures in
+    let a = c.refuse.ensures in
     let no = sym c.pass.ensures ∙ c.if-not-pass.true in (
-      λ post page. new_live _ _ _ _ _ post page a.1 (λ e. absurd (omega arith)),
-      replied _ _ _ _ _ _ _ _ _ (opens-measures _ _ _ no) c.refused-n.ensures refl a.0 a.1,
+      λ post page. new_live _ _ _ _ _ post page a.next (λ e. absurd (omega arith)),
+      replied _ _ _ _ _ _ _ _ _ (opens-measures _ _ _ no) a.line refl refl a.next,
     )
 
 pub returns-then-not-small : goal.returns-then-not-small
 returns-then-not-small c =
     let passing : passes c.args.s ≡ true =
     sym c.pass.ensures ∙ c.if-not-pass.false in
-    let a = c.at_stage-then-not-small.ensures in
+    let a = c.refuse-then-not-small.ensures in
     let no = sym c.small.ensures ∙ c.if-not-small.true in (
-      λ post page. new_live _ _ _ _ _ post page a.1 (λ e. absurd (omega arith)),
-      replied _ _ _ _ _ _ _ _ _ (opens_big _ _ _ passing no) c.refused-n-then-not-small.ensures refl a.0 a.1,
+      λ post page. new_live _ _ _ _ _ post page a.next (λ e. absurd (omega arith)),
+      replied _ _ _ _ _ _ _ _ _ (opens_big _ _ _ passing no) a.line refl refl a.next,
     )
 
 pub slices_long-requires : goal.slices_long-requires
@@ -38,41 +38,41 @@ returns-then-not-slices_long c =
     sym c.pass.ensures ∙ c.if-not-pass.false in
     let fitting : small c.args.s ≡ true =
     sym c.small.ensures ∙ c.if-not-small.false in
-    let a = c.at_stage-then-not-slices_long.ensures in
+    let a = c.refuse-then-not-slices_long.ensures in
     let no = sym c.slices_long.ensures ∙ c.if-not-slices_long.true in (
-      λ post page. new_live _ _ _ _ _ post page a.1 (λ e. absurd (omega arith)),
-      replied _ _ _ _ _ _ _ _ _ (opens_scarce _ _ _ passing fitting no) c.refused-n-then-not-slices_long.ensures refl a.0 a.1,
+      λ post page. new_live _ _ _ _ _ post page a.next (λ e. absurd (omega arith)),
+      replied _ _ _ _ _ _ _ _ _ (opens_scarce _ _ _ passing fitting no) a.line refl refl a.next,
     )
 
-pub returns-in-Refused : goal.returns-in-Refused
-returns-in-Refused c =
+pub returns-in-Err : goal.returns-in-Err
+returns-in-Err c =
     let passing : passes c.args.s ≡ true =
     sym c.pass.ensures ∙ c.if-not-pass.false in
     let fitting : small c.args.s ≡ true =
     sym c.small.ensures ∙ c.if-not-small.false in
     let sufficing : let a = c.args in slices_long a.s a.l ≡ true =
     sym c.slices_long.ensures ∙ c.if-not-slices_long.false in
-    let a = c.at_stage-in-Refused.ensures in
+    let a = c.refuse-in-Err.ensures in
     let f = c.fresh in
     let g = c.args in
-    let o = opens-short g.s g.l g.memory.now f.result _ _ passing fitting sufficing c.in-Refused.is f.ensures.0 c.number.ensures in (
-      λ post page. new_live _ _ _ _ _ post page a.1 (λ e. absurd (omega arith)),
-      replied _ _ _ _ _ _ _ _ _ o.0 c.refused-n-in-Refused.ensures (f.ensures.1 ∙ o.1) a.0 a.1,
+    let o = opens-short g.s g.l g.memory.now f.result _ _ passing fitting sufficing c.in-Err.is f.ensures.0 c.number.ensures in (
+      λ post page. new_live _ _ _ _ _ post page a.next (λ e. absurd (omega arith)),
+      replied _ _ _ _ _ _ _ _ _ o.0 a.line (f.ensures.1 ∙ o.1) refl a.next,
     )
 
-pub returns-in-Served : goal.returns-in-Served
-returns-in-Served c =
+pub returns-in-Ok : goal.returns-in-Ok
+returns-in-Ok c =
     let passing : passes c.args.s ≡ true =
     sym c.pass.ensures ∙ c.if-not-pass.false in
     let fitting : small c.args.s ≡ true =
     sym c.small.ensures ∙ c.if-not-small.false in
     let sufficing : let a = c.args in slices_long a.s a.l ≡ true =
     sym c.slices_long.ensures ∙ c.if-not-slices_long.false in
-    let a = c.at_stage-in-Served.ensures in
+    let a = c.at_stage.ensures in
     let f = c.fresh in
     let g = c.args in
     let ok = passing in
-    let t = c.in-Served.is in (
+    let t = c.in-Ok.is in (
       λ post page. new_live _ _ _ _ _ post page a.1 (λ e. fresh-runs _ g.s g.memory.now _ post f.result _ (ap (λ (y : Session). y.measures) a.1) (ap (λ (y : Session). y.used) a.1) ok t f.ensures.0 f.ensures.1),
       replied _ _ _ _ _ _ _ _ _ (opens-taken g.s g.l g.memory.now f.result _ ok fitting sufficing t f.ensures.0) c.header-n.ensures f.ensures.1 a.0 a.1,
     )

@@ -5,14 +5,10 @@ use Rattle.lines.proofs.ReadLaws.{next-read}
 use Rattle.session.proofs.SessionLaws.{runs_same}
 use Rattle.session.proofs.session.feed.Goals as goal
 
-pub returns-then-b-eq10 : goal.returns-then-b-eq10
-returns-then-b-eq10 c =
-    let k = c.line.ensures in record { live = k.0; ends = λ e. k.1; takes = λ n. absurd (n c.if-b-eq10.true) }
-
-pub returns : goal.returns
-returns c =
+pub returns-clause-feeds : goal.returns-clause-feeds
+returns-clause-feeds c =
     let a = c.args in
-    let n = c.next-more.ensures in
+    let n = c.next-reading.ensures in
     record {
       live = λ l.
           record {

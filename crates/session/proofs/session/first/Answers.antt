@@ -1,17 +1,26 @@
-use mathlib.Core.Path.{refl, ◌∙◌}
+use Rattle.std.proofs.Common.{Some, ap, refl, ◌∙◌}
 use native.Mathlib.Omega.{arith}
-use Rattle.session.proofs.LineLaws.{asked_is, replied, first-other, first-config}
+use Rattle.session.proofs.LineLaws.{asked_is, replied}
 use Rattle.session.proofs.SessionLaws.{new_live}
 use Rattle.session.proofs.session.first.Goals as goal
 
-pub returns-in-Config : goal.returns-in-Config
-returns-in-Config c =
-    let k = c.config.ensures in
-    (k.0, λ page. first-config _ page _ _ _ _ _ _ _ _ _ (asked_is _ _ _ c.ended.ensures c.asked.ensures ∙ c.in-Config.is) k.1)
+pub returns-in-Some-Read : goal.returns-in-Some-Read
+returns-in-Some-Read c =
+    let a = c.refuse.ensures in (
+      λ post page. new_live _ _ _ _ _ post page a.next (λ e. absurd (omega arith)),
+      λ page. rw (asked_is _ _ _ c.ended.ensures c.asked.ensures ∙ c.in-Some-Read.is ∙ ap Some c.in-Some-Read.field-0-is) (replied _ _ _ _ _ _ _ _ _ refl a.line refl refl a.next),
+    )
 
-pub returns-in_default : goal.returns-in_default
-returns-in_default c =
-    let a = c.at_stage.ensures in (
-      λ post page. new_live _ _ _ _ _ post page a.1 (λ e. absurd (omega arith)),
-      λ page. rw (asked_is _ _ _ c.ended.ensures c.asked.ensures) (first-other c.asked.result page _ _ _ _ _ _ _ _ c.in_default.not-Config (replied _ _ _ _ _ _ _ _ _ refl c.refused-n.ensures refl a.0 a.1)),
+pub returns-in-Some-Deposit : goal.returns-in-Some-Deposit
+returns-in-Some-Deposit c =
+    let a = c.refuse-in-Some-Deposit.ensures in (
+      λ post page. new_live _ _ _ _ _ post page a.next (λ e. absurd (omega arith)),
+      λ page. rw (asked_is _ _ _ c.ended.ensures c.asked.ensures ∙ c.in-Some-Deposit.is ∙ ap Some c.in-Some-Deposit.field-0-is) (replied _ _ _ _ _ _ _ _ _ refl a.line refl refl a.next),
+    )
+
+pub returns-in-None : goal.returns-in-None
+returns-in-None c =
+    let a = c.refuse-in-None.ensures in (
+      λ post page. new_live _ _ _ _ _ post page a.next (λ e. absurd (omega arith)),
+      λ page. rw (asked_is _ _ _ c.ended.ensures c.asked.ensures ∙ c.in-None.is) (replied _ _ _ _ _ _ _ _ _ refl a.line refl refl a.next),
     )

@@ -1,15 +1,15 @@
 -- A byte more is fed, also where its line cannot be written.
-use Rattle.std.proofs.Common.{arith}
+use Rattle.std.proofs.Common.{rules, refl, arith}
 use Rattle.std.proofs.lemmas.Result.{err_from_is_err_and}
 use Rattle.session.specs.Session.{FeedsAll}
 use Rattle.session.proofs.SessionLaws.{feeds_more}
 use Rattle.session.proofs.stream.feed_all.Goals as goal
 
-pub loop-i-init : goal.loop-i-init
-loop-i-init g c = FeedsAll.begun
+pub loop-b-init : goal.loop-b-init
+loop-b-init g c = (record { memory = refl; room = refl; out = refl; post = refl; text = refl }, FeedsAll.begun)
 
-pub loop-i-preserved : goal.loop-i-preserved
-loop-i-preserved g c = feeds_more _ _ _ _ _ _ _ _ _ _ (omega arith) c.loop-i.invariant c.in_ok-y.ensures.session c.feed-a.ensures
+pub loop-b-preserved : goal.loop-b-preserved
+loop-b-preserved g c = (search rules, feeds_more _ _ _ _ _ _ _ _ _ _ (omega arith) c.loop-b.invariant.1 c.in_ok-y.ensures.session c.feed-a.ensures.feeds)
 
 pub returns-in_err-y-clause-some : goal.returns-in_err-y-clause-some
 returns-in_err-y-clause-some g c =
@@ -18,10 +18,10 @@ returns-in_err-y-clause-some g c =
     (record {
       session = c.feed-a.result.session;
       before = _;
-      fed = c.loop-i.i;
+      fed = c.loop-b.b-index;
       len = c.feed-a.result.len;
-      within = c.loop-i-test.true;
-      feeds = c.loop-i.invariant;
-      last = c.feed-a.ensures;
+      within = c.loop-b-test.true;
+      feeds = c.loop-b.invariant.1;
+      last = c.feed-a.ensures.feeds;
       due = c.in_err-y.ensures.due;
     })

@@ -1,10 +1,10 @@
 -- The first bytes are fed.
 use Rattle.std.proofs.Common.{take}
-use Rattle.session.specs.Settle.{lend}
-use Rattle.session.specs.Session.{held, FeedsAll}
+use Rattle.session.specs.Settle.{SameSlices}
+use Rattle.session.specs.Session.{held_in, FeedsAll}
 use Rattle.session.proofs.stream.feed_all.Given as goal
 
-abbrev pub invariant-loop-i : goal.invariant-loop-i
-invariant-loop-i g l =
-    FeedsAll (held l.initial.y (lend l.initial.memory l.initial.post l.initial.room l.initial.out) l.initial.page l.initial.text) (take l.i l.input)
-    (held l.y (lend l.memory l.post l.room l.out) l.page l.text)
+abbrev pub invariant-loop-b : goal.invariant-loop-b
+invariant-loop-b g l =
+    SameSlices l.initial.lent l.lent
+    × FeedsAll (held_in l.initial.y l.initial.lent l.initial.page) (take l.b-index l.input) (held_in l.y l.lent l.page)

@@ -1,76 +1,63 @@
-use mathlib.Core.Path.{◌∙◌}
 use native.Mathlib.Omega.{arith}
-use lib.ListN.{length}
-use Rattle.parties.specs.protocol.DirectoryEvents.{directory_size}
 use Rattle.parties.specs.records.Answer.{number}
-use Rattle.title.specs.Part.{Stands}
-use Rattle.title.proofs.MemoryLaws.{placed_within, placed_refused}
-use Rattle.title.proofs.FreshMemoryLaws.{fresh-refused, tables_fit, records_fit, fresh-written}
+use Rattle.title.proofs.MemoryLaws.{handed, length-lent}
+use Rattle.title.proofs.FreshMemoryLaws.{fresh-refused, directory_written, table_written, record_written, table_lent, tables_fit, record_lent, records_fit, all_written}
 use Rattle.title.proofs.fresh.fresh.Goals as goal
 
-pub table_size-table-requires : goal.table_size-table-requires
-table_size-table-requires c =
-    let standing : let a = c.args in Stands a.s (length a.memory.now) 0 (directory_size a.s) c.in-Within.at c.in-Within.tables =
+pub returns-in_err-directory : goal.returns-in_err-directory
+returns-in_err-directory c =
     let a = c.args in
-    placed_within a.s (length a.memory.now) 0 (directory_size a.s) c.directory_part-part.result c.directory_part-part.ensures c.in-Within.at c.in-Within.tables c.in-Within.is in
-    standing.measures
+    let r = c.in_err-directory.field-0.0 in
+    rw (handed r _ c.from_residual.ensures.1) (fresh-refused a.s a.memory.now (number r) c.in_err-directory.ensures)
 
-pub records_at-records-requires : goal.records_at-records-requires
-records_at-records-requires c =
-    let standing : let a = c.args in Stands a.s (length a.memory.now) 0 (directory_size a.s) c.in-Within.at c.in-Within.tables =
+pub returns-in_err-table : goal.returns-in_err-table
+returns-in_err-table c =
     let a = c.args in
-    placed_within a.s (length a.memory.now) 0 (directory_size a.s) c.directory_part-part.result c.directory_part-part.ensures c.in-Within.at c.in-Within.tables c.in-Within.is in
-    standing.measures
+    let r = c.in_err-table.field-0.0 in
+    rw (handed r _ c.from_residual-in_err-table.ensures.1) (fresh-refused a.s a.memory.now (number r) c.in_err-table.ensures)
 
-pub record_size-record-requires : goal.record_size-record-requires
-record_size-record-requires c =
-    let standing : let a = c.args in Stands a.s (length a.memory.now) 0 (directory_size a.s) c.in-Within.at c.in-Within.tables =
+pub returns-in_err-record : goal.returns-in_err-record
+returns-in_err-record c =
     let a = c.args in
-    placed_within a.s (length a.memory.now) 0 (directory_size a.s) c.directory_part-part.result c.directory_part-part.ensures c.in-Within.at c.in-Within.tables c.in-Within.is in
-    standing.measures
+    let r = c.in_err-record.field-0.0 in
+    rw (handed r _ c.from_residual-in_err-record.ensures.1) (fresh-refused a.s a.memory.now (number r) c.in_err-record.ensures)
 
-pub put_directory-requires : goal.put_directory-requires
-put_directory-requires c =
-    let standing : let a = c.args in Stands a.s (length a.memory.now) 0 (directory_size a.s) c.in-Within.at c.in-Within.tables =
+pub returns-in_err-fresh_directory : goal.returns-in_err-fresh_directory
+returns-in_err-fresh_directory c =
     let a = c.args in
-    placed_within a.s (length a.memory.now) 0 (directory_size a.s) c.directory_part-part.result c.directory_part-part.ensures c.in-Within.at c.in-Within.tables c.in-Within.is in
-    let z = standing in (z.measures, omega (arith, z.first, z.last), z.within)
+    let z = c.in_ok-directory.ensures in
+    absurd
+    (directory_written a.s z.measures _ c.in_err-fresh_directory.field-0.0
+    (omega (arith, length-lent a.memory.now c.in_ok-directory.directory.start c.in_ok-directory.directory.end z.within, z.first, z.last)) c.in_err-fresh_directory.ensures.0)
 
-pub put_tables-requires : goal.put_tables-requires
-put_tables-requires c =
-    let standing : let a = c.args in Stands a.s (length a.memory.now) 0 (directory_size a.s) c.in-Within.at c.in-Within.tables =
+pub returns-in_err-fresh_table : goal.returns-in_err-fresh_table
+returns-in_err-fresh_table c =
     let a = c.args in
-    placed_within a.s (length a.memory.now) 0 (directory_size a.s) c.directory_part-part.result c.directory_part-part.ensures c.in-Within.at c.in-Within.tables c.in-Within.is in
-    let a = c.args in
-    let z = standing in (
-      z.measures,
-      c.table_size-table.ensures,
-      tables_fit a.s a.memory.now _ _ z _ c.put_directory.auto.memory,
-    )
+    let z = c.in_ok-directory.ensures in
+    let l = table_lent a.s a.memory.now _ _ _ _ _ _ z c.in_ok-table.ensures c.in_ok-record.ensures _ c.fresh_directory.ensures.1 in
+    absurd (table_written a.s z.measures _ c.in_err-fresh_table.field-0.0 (omega (arith, l)) c.in_err-fresh_table.ensures.0)
 
-pub put_records-requires : goal.put_records-requires
-put_records-requires c =
-    let standing : let a = c.args in Stands a.s (length a.memory.now) 0 (directory_size a.s) c.in-Within.at c.in-Within.tables =
+pub repeat-requires : goal.repeat-requires
+repeat-requires c =
     let a = c.args in
-    placed_within a.s (length a.memory.now) 0 (directory_size a.s) c.directory_part-part.result c.directory_part-part.ensures c.in-Within.at c.in-Within.tables c.in-Within.is in
-    let a = c.args in
-    let z = standing in (
-      z.measures,
-      c.record_size-record.ensures,
-      records_fit a.s a.memory.now _ _ z _ c.records_at-records.ensures _ (c.put_tables.auto.memory ∙ c.put_directory.auto.memory),
-    )
+    tables_fit a.s a.memory.now _ _ _ _ _ _ c.in_ok-directory.ensures c.in_ok-table.ensures c.in_ok-record.ensures _ c.fresh_directory.ensures.1 _ c.fresh_table.ensures.1
 
-pub returns-in-Refused : goal.returns-in-Refused
-returns-in-Refused c =
+pub returns-in_err-fresh : goal.returns-in_err-fresh
+returns-in_err-fresh c =
     let a = c.args in
-    let n = c.in-Refused.r in
-    let r = placed_refused a.s (length a.memory.now) 0 (directory_size a.s) c.directory_part-part.result c.directory_part-part.ensures n c.in-Refused.is in
-    fresh-refused a.s a.memory.now (number n) r
+    let z = c.in_ok-directory.ensures in
+    let l =
+    record_lent a.s a.memory.now _ _ _ _ _ _ z c.in_ok-table.ensures c.in_ok-record.ensures _ c.fresh_directory.ensures.1 _ c.fresh_table.ensures.1 _ c.repeat.ensures in
+    absurd (record_written a.s z.measures _ c.in_err-fresh.field-0.0 (omega (arith, l)) c.in_err-fresh.ensures.0)
 
-pub returns-in-Within : goal.returns-in-Within
-returns-in-Within c =
-    let standing : let a = c.args in Stands a.s (length a.memory.now) 0 (directory_size a.s) c.in-Within.at c.in-Within.tables =
+pub repeat-requires-2 : goal.repeat-requires-2
+repeat-requires-2 c =
     let a = c.args in
-    placed_within a.s (length a.memory.now) 0 (directory_size a.s) c.directory_part-part.result c.directory_part-part.ensures c.in-Within.at c.in-Within.tables c.in-Within.is in
+    records_fit a.s a.memory.now _ _ _ _ _ _ c.in_ok-directory.ensures c.in_ok-table.ensures c.in_ok-record.ensures _ c.fresh_directory.ensures.1 _ c.fresh_table.ensures.1 _ c.repeat.ensures
+    _ c.fresh.ensures.1
+
+pub returns : goal.returns
+returns c =
     let a = c.args in
-    fresh-written a.s a.memory.now _ _ standing _ c.records_at-records.ensures _ _ _ c.put_directory.ensures c.put_tables.ensures c.put_records.ensures
+    all_written a.s a.memory.now _ _ _ _ _ _ c.in_ok-directory.ensures c.in_ok-table.ensures c.in_ok-record.ensures _ c.fresh_directory.ensures.1 _ c.fresh_table.ensures.1 _ c.repeat.ensures
+    _ c.fresh.ensures.1 _ c.repeat-2.ensures

@@ -1,48 +1,21 @@
-use lib.ListN.{length}
-use Rattle.parties.specs.protocol.Client.{client_size}
 use Rattle.parties.specs.protocol.ClientEvents.{client_message}
 use Rattle.parties.proofs.protocol.events.LacksLaws.{message_lacks}
 use Rattle.parties.specs.records.Answer.{number}
-use Rattle.title.specs.Memory.{record_at}
-use Rattle.title.specs.Part.{Stands}
-use Rattle.title.proofs.MemoryLaws.{placed_within, placed_refused, part-order}
+use Rattle.title.proofs.MemoryLaws.{handed}
 use Rattle.title.proofs.RecordPartLaws.{record_lacks, refused-ends, told-four}
 use Rattle.title.proofs.title.to_client.Goals as goal
 
-pub slice_bounds-receive-count : goal.slice_bounds-receive-count
-slice_bounds-receive-count c =
-    let standing : let a = c.args in Stands a.s (length a.memory.now) (record_at a.s a.c) (client_size a.s) c.in-Within.at c.in-Within.to =
+pub returns-in_err-part : goal.returns-in_err-part
+returns-in_err-part c =
     let a = c.args in
-    placed_within a.s (length a.memory.now) (record_at a.s a.c) (client_size a.s) c.record_part-part.result c.record_part-part.ensures c.in-Within.at c.in-Within.to c.in-Within.is in
-    let a = c.args in part-order a.s (record_at a.s a.c) (client_size a.s) a.memory.now _ _ standing
+    let r = c.in_err-part.field-0.0 in
+    let n = number r in
+    let l = record_lacks a.s a.memory.now a.c n c.in_err-part.ensures in
+    rw (handed r _ c.from_residual.ensures.1)
+    (refused-ends a.s a.memory.now a.c n _ a.room.now a.out.now (message_lacks a.s _ n l a.c a.i a.message.now a.room.now a.out.now))
 
-pub slice_bounds-receive-start : goal.slice_bounds-receive-start
-slice_bounds-receive-start c =
-    let standing : let a = c.args in Stands a.s (length a.memory.now) (record_at a.s a.c) (client_size a.s) c.in-Within.at c.in-Within.to =
-    let a = c.args in
-    placed_within a.s (length a.memory.now) (record_at a.s a.c) (client_size a.s) c.record_part-part.result c.record_part-part.ensures c.in-Within.at c.in-Within.to c.in-Within.is in
-    let a = c.args in part-order a.s (record_at a.s a.c) (client_size a.s) a.memory.now _ _ standing
-
-pub slice_bounds-receive-end : goal.slice_bounds-receive-end
-slice_bounds-receive-end c =
-    let standing : let a = c.args in Stands a.s (length a.memory.now) (record_at a.s a.c) (client_size a.s) c.in-Within.at c.in-Within.to =
-    let a = c.args in
-    placed_within a.s (length a.memory.now) (record_at a.s a.c) (client_size a.s) c.record_part-part.result c.record_part-part.ensures c.in-Within.at c.in-Within.to c.in-Within.is in
-    standing.within
-
-pub returns-in-Refused : goal.returns-in-Refused
-returns-in-Refused c =
-    let a = c.args in
-    let n = c.in-Refused.r in
-    let r = placed_refused a.s (length a.memory.now) (record_at a.s a.c) (client_size a.s) c.record_part-part.result c.record_part-part.ensures n c.in-Refused.is in
-    let l = record_lacks a.s a.memory.now a.c (number n) r in
-    let e = refused-ends a.s a.memory.now a.c (number n) _ a.room.now a.out.now (message_lacks a.s _ (number n) l a.c a.i a.message.now a.room.now a.out.now) in (e.0, e.1, e.2, e.3)
-
-pub returns-in-Within : goal.returns-in-Within
-returns-in-Within c =
-    let standing : let a = c.args in Stands a.s (length a.memory.now) (record_at a.s a.c) (client_size a.s) c.in-Within.at c.in-Within.to =
-    let a = c.args in
-    placed_within a.s (length a.memory.now) (record_at a.s a.c) (client_size a.s) c.record_part-part.result c.record_part-part.ensures c.in-Within.at c.in-Within.to c.in-Within.is in
+pub returns : goal.returns
+returns c =
     let a = c.args in
     let u = c.receive in
-    told-four a.s a.memory.now _ _ a.c standing (λ l. client_message a.s a.c a.i l a.message.now a.room.now a.out.now) _ u.new.client u.auto.client _ _ u.ensures
+    told-four a.s a.memory.now _ _ a.c c.in_ok-part.ensures (λ l. client_message a.s a.c a.i l a.message.now a.room.now a.out.now) _ u.new.client u.auto.client _ _ u.ensures

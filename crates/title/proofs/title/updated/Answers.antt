@@ -1,49 +1,22 @@
 use mathlib.Core.List.{[]}
-use lib.ListN.{length}
-use Rattle.parties.specs.protocol.Client.{client_size}
 use Rattle.parties.specs.protocol.ClientEvents.{update_answer}
 use Rattle.parties.proofs.protocol.events.LacksLaws.{updated-lacks}
 use Rattle.parties.specs.records.Answer.{number}
-use Rattle.title.specs.Memory.{record_at}
-use Rattle.title.specs.Part.{Stands}
-use Rattle.title.proofs.MemoryLaws.{placed_within, placed_refused, part-order}
+use Rattle.title.proofs.MemoryLaws.{handed}
 use Rattle.title.proofs.RecordPartLaws.{record_lacks, refused-ends, told_three}
 use Rattle.title.proofs.title.updated.Goals as goal
 
-pub slice_bounds-updated-count : goal.slice_bounds-updated-count
-slice_bounds-updated-count c =
-    let standing : let a = c.args in Stands a.s (length a.memory.now) (record_at a.s a.c) (client_size a.s) c.in-Within.at c.in-Within.to =
+pub returns-in_err-part : goal.returns-in_err-part
+returns-in_err-part c =
     let a = c.args in
-    placed_within a.s (length a.memory.now) (record_at a.s a.c) (client_size a.s) c.record_part-part.result c.record_part-part.ensures c.in-Within.at c.in-Within.to c.in-Within.is in
-    let a = c.args in part-order a.s (record_at a.s a.c) (client_size a.s) a.memory.now _ _ standing
+    let r = c.in_err-part.field-0.0 in
+    let n = number r in
+    let l = record_lacks a.s a.memory.now a.c n c.in_err-part.ensures in
+    rw (handed r _ c.from_residual.ensures.1)
+    (let e = refused-ends a.s a.memory.now a.c n _ a.room.now [] (updated-lacks a.s _ n l a.c a.room.now) in (e.0, e.1, e.2))
 
-pub slice_bounds-updated-start : goal.slice_bounds-updated-start
-slice_bounds-updated-start c =
-    let standing : let a = c.args in Stands a.s (length a.memory.now) (record_at a.s a.c) (client_size a.s) c.in-Within.at c.in-Within.to =
-    let a = c.args in
-    placed_within a.s (length a.memory.now) (record_at a.s a.c) (client_size a.s) c.record_part-part.result c.record_part-part.ensures c.in-Within.at c.in-Within.to c.in-Within.is in
-    let a = c.args in part-order a.s (record_at a.s a.c) (client_size a.s) a.memory.now _ _ standing
-
-pub slice_bounds-updated-end : goal.slice_bounds-updated-end
-slice_bounds-updated-end c =
-    let standing : let a = c.args in Stands a.s (length a.memory.now) (record_at a.s a.c) (client_size a.s) c.in-Within.at c.in-Within.to =
-    let a = c.args in
-    placed_within a.s (length a.memory.now) (record_at a.s a.c) (client_size a.s) c.record_part-part.result c.record_part-part.ensures c.in-Within.at c.in-Within.to c.in-Within.is in
-    standing.within
-
-pub returns-in-Refused : goal.returns-in-Refused
-returns-in-Refused c =
-    let a = c.args in
-    let n = c.in-Refused.r in
-    let r = placed_refused a.s (length a.memory.now) (record_at a.s a.c) (client_size a.s) c.record_part-part.result c.record_part-part.ensures n c.in-Refused.is in
-    let l = record_lacks a.s a.memory.now a.c (number n) r in
-    let e = refused-ends a.s a.memory.now a.c (number n) _ a.room.now [] (updated-lacks a.s _ (number n) l a.c a.room.now) in (e.0, e.1, e.2)
-
-pub returns-in-Within : goal.returns-in-Within
-returns-in-Within c =
-    let standing : let a = c.args in Stands a.s (length a.memory.now) (record_at a.s a.c) (client_size a.s) c.in-Within.at c.in-Within.to =
-    let a = c.args in
-    placed_within a.s (length a.memory.now) (record_at a.s a.c) (client_size a.s) c.record_part-part.result c.record_part-part.ensures c.in-Within.at c.in-Within.to c.in-Within.is in
+pub returns : goal.returns
+returns c =
     let a = c.args in
     let u = c.updated in
-    told_three a.s a.memory.now _ _ a.c standing (λ l. update_answer a.s a.c l a.room.now) _ u.new.client u.auto.client _ u.ensures
+    told_three a.s a.memory.now _ _ a.c c.in_ok-part.ensures (λ l. update_answer a.s a.c l a.room.now) _ u.new.client u.auto.client _ u.ensures

@@ -1,5 +1,5 @@
 use mathlib.Core.Path.{sym, ap, ◌∙◌}
-use mathlib.Core.Bool.{true, false, not}
+use mathlib.Core.Bool.{true, not}
 use Prim.Native.Nat.{ℕ, ◌+◌}
 use native.Mathlib.Omega.{arith}
 use Rattle.parties.specs.protocol.Nodes.{stands}
@@ -7,13 +7,6 @@ use Rattle.parties.specs.records.Places.{number_at}
 use Rattle.parties.proofs.records.PlaceLaws.{number-told}
 use Rattle.parties.proofs.client.AcknowledgeLaws.{adds_by}
 use Rattle.parties.proofs.client.acknowledge.adds.Goals as goal
-
-pub returns-then-not-same_version : goal.returns-then-not-same_version
-returns-then-not-same_version c =
-    let a = c.args in
-    let w = c.version_at-w in
-    adds_by a.v w.result _ (not (stands (number_at a.area.now (a.at + 5)) a.i)) false w.ensures
-    (sym c.same_version.ensures ∙ c.if-not-same_version.true)
 
 pub returns : goal.returns
 returns c =

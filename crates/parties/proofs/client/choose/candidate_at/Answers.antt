@@ -8,16 +8,15 @@ pub past-frozen-requires : goal.past-frozen-requires
 past-frozen-requires c =
     let a = c.args in
     let p = c.requires in
-    (p.0, omega (arith, p.2), front_reads a.s a.own a.index a.rows.now a.at (λ i. (c.type_inv.rows i).fits) p.1 p.3)
+    (omega (arith, p.1), front_reads a.s.measures a.own a.index a.rows.now a.at (λ i. (c.type_inv.rows i).fits) p.0 p.2)
 
 pub past-indices-requires : goal.past-indices-requires
 past-indices-requires c =
     let a = c.args in
     let p = c.requires in
     let f = c.past-frozen in (
-      p.0,
       f.ensures.1,
-      others_read a.s a.own a.index a.rows.now a.at (λ i. (c.type_inv.rows i).fits) p.1 p.3 f.result f.ensures.0,
+      others_read a.s.measures a.own a.index a.rows.now a.at (λ i. (c.type_inv.rows i).fits) p.0 p.2 f.result f.ensures.0,
     )
 
 pub u32_at-i-requires : goal.u32_at-i-requires
@@ -26,7 +25,7 @@ u32_at-i-requires c =
     let p = c.requires in
     let f = c.past-frozen in
     let g = c.past-indices in
-    index-room a.s a.own a.index a.rows.now a.at (λ i. (c.type_inv.rows i).fits) p.1 p.3 f.result f.ensures.0 g.result
+    index-room a.s.measures a.own a.index a.rows.now a.at (λ i. (c.type_inv.rows i).fits) p.0 p.2 f.result f.ensures.0 g.result
     g.ensures.0 g.ensures.1
 
 pub returns : goal.returns
@@ -38,5 +37,5 @@ returns c =
     let u = c.u32_at-i in
     c.picked.ensures
     ∙ picked_whole a.rows.now (a.at + 1) f.result a.index (record { 0 = u.result })
-    ∙ offered_picks a.s a.own a.index a.rows.now a.at (λ i. (c.type_inv.rows i).fits) p.1 p.3 f.result f.ensures.0
+    ∙ offered_picks a.s.measures a.own a.index a.rows.now a.at (λ i. (c.type_inv.rows i).fits) p.0 p.2 f.result f.ensures.0
     g.result g.ensures.0 u.result _ u.ensures

@@ -7,15 +7,15 @@ pub version_at-version-requires : goal.version_at-version-requires
 version_at-version-requires c =
     let a = c.args in
     let p = c.requires in
-    version-fits a.s (offered a.s a.own a.index a.rows.now a.at)
-    (offered_good a.s a.own a.index a.rows.now a.at (λ i. (c.type_inv.rows i).fits) p.1 p.3) c.candidate_at-p.result.now c.candidate_at-p.ensures
+    version-fits a.s.measures (offered a.s.measures a.own a.index a.rows.now a.at)
+    (offered_good a.s.measures a.own a.index a.rows.now a.at (λ i. (c.type_inv.rows i).fits) p.0 p.2) c.candidate_at-p.result.now c.candidate_at-p.ensures
 
 pub returns : goal.returns
 returns c =
     let a = c.args in
     let p = c.requires in
     let q = c.version_at-version.ensures
-    ∙ version-shown a.s (offered a.s a.own a.index a.rows.now a.at)
-    (offered_good a.s a.own a.index a.rows.now a.at (λ i. (c.type_inv.rows i).fits) p.1 p.3) c.candidate_at-p.result.now
+    ∙ version-shown a.s.measures (offered a.s.measures a.own a.index a.rows.now a.at)
+    (offered_good a.s.measures a.own a.index a.rows.now a.at (λ i. (c.type_inv.rows i).fits) p.0 p.2) c.candidate_at-p.result.now
     c.candidate_at-p.ensures in
     λ i. record { row = a.at; version = q i }

@@ -1,5 +1,4 @@
 use mathlib.Core.Path.{◌≡◌}
-use Prim.Native.Nat.{◌≤◌}
 use lib.ListN.{drop}
 use Rattle.parties.specs.protocol.Directory.{read_directory}
 use Rattle.parties.specs.protocol.Deposit.{highest}
@@ -8,7 +7,4 @@ use Rattle.parties.proofs.client.draw.highest.Given as goal
 
 -- From the last row on: the highest of the rows from i on.
 abbrev pub invariant-loop-i : goal.invariant-loop-i
-invariant-loop-i l = (l.i ≤ l.s.m) × (l.top ≡ highest (drop l.i (rows_of (read_directory l.s l.rows))))
-
-abbrev pub decreases-loop-i : goal.decreases-loop-i
-decreases-loop-i l = l.i
+invariant-loop-i l = l.top ≡ highest (drop l.i (rows_of (read_directory l.s.measures l.rows)))

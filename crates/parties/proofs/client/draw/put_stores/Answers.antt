@@ -12,13 +12,13 @@ pub returns : goal.returns
 returns c =
     let a = c.args in
     let q = c.requires in
-    let ds = room_digests a.s.n a.s.f a.v a.len a.room.now in
-    let rest : ℕ = a.at + 7 + 32 * a.s.n in
+    let ds = room_digests a.s.measures.n a.s.measures.f a.v a.len a.room.now in
+    let rest : ℕ = a.at + 7 + 32 * a.s.measures.n in
     let e = c.put_digests.ensures
-    ∙ ap (λ (l : List ℕ). paste l (a.at + 7) ds (32 * a.s.n))
+    ∙ ap (λ (l : List ℕ). paste l (a.at + 7) ds (32 * a.s.measures.n))
     (c.put_u16.ensures ∙ ap (λ (l : List ℕ). paste l (a.at + 5) (write_number 2 0) 2) c.put_version.ensures)
     in
     let w = c.work_size-size.ensures in
     c.clear.ensures
     ∙ (λ i. paste (e i) rest (replicate (a.at + w i - rest) 0) (a.at + w i - rest))
-    ∙ stores_put a.s q.0 a.v ds a.area.now a.at rest (length-room-digests a.s.n a.s.f a.v a.len a.room.now) q.3 refl
+    ∙ stores_put a.s.measures c.args.s.pass a.v ds a.area.now a.at rest (length-room-digests a.s.measures.n a.s.measures.f a.v a.len a.room.now) q.2 refl

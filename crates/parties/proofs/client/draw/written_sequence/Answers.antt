@@ -12,26 +12,26 @@ pub overflow_mul-i : goal.overflow_mul-i
 overflow_mul-i c =
     let a = c.args in
     let p = c.requires in
-    omega (arith, below_rows a.i a.s.m (row_size a.s) p.3, table_bound a.s p.0, ap (λ (x : ℕ). a.i * x) p.1)
+    omega (arith, below_rows a.i a.s.measures.m (row_size a.s.measures) p.2, table_bound a.s.measures c.args.s.pass, ap (λ (x : ℕ). a.i * x) p.0)
 
 pub overflow_add-i : goal.overflow_add-i
 overflow_add-i c =
     let a = c.args in
     let p = c.requires in
-    omega (arith, below_rows a.i a.s.m (row_size a.s) p.3, table_bound a.s p.0, ap (λ (x : ℕ). a.i * x) p.1)
+    omega (arith, below_rows a.i a.s.measures.m (row_size a.s.measures) p.2, table_bound a.s.measures c.args.s.pass, ap (λ (x : ℕ). a.i * x) p.0)
 
 pub u32_at-requires : goal.u32_at-requires
 u32_at-requires c =
     let a = c.args in
     let p = c.requires in
-    omega (arith, below_rows a.i a.s.m (row_size a.s) p.3, ap (λ (x : ℕ). a.i * x) p.1, rows_fit a.s a.rows.now (λ i. (c.type_inv.rows i).fits) p.2)
+    omega (arith, below_rows a.i a.s.measures.m (row_size a.s.measures) p.2, ap (λ (x : ℕ). a.i * x) p.0, rows_fit a.s.measures a.rows.now (λ i. (c.type_inv.rows i).fits) p.1)
 
 pub returns : goal.returns
 returns c =
     let a = c.args in
     let p = c.requires in
     let e =
-    row_sequence a.s a.rows.now (λ i. (c.type_inv.rows i).fits) p.2 a.i p.3 c.u32_at.result _
-    (ap (λ (x : ℕ). read_number 4 (drop (a.i * x + 1) a.rows.now)) (sym p.1) ∙ c.u32_at.ensures)
+    row_sequence a.s.measures a.rows.now (λ i. (c.type_inv.rows i).fits) p.1 a.i p.2 c.u32_at.result _
+    (ap (λ (x : ℕ). read_number 4 (drop (a.i * x + 1) a.rows.now)) (sym p.0) ∙ c.u32_at.ensures)
     in
     λ j. record { 0 = e j }

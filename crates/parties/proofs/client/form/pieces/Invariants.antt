@@ -1,5 +1,5 @@
 use mathlib.Core.Path.{◌≡◌}
-use Prim.Native.Nat.{◌+◌, ◌-◌, ◌*◌, ◌≤◌}
+use Prim.Native.Nat.{◌+◌, ◌-◌, ◌*◌}
 use lib.ListN.{drop}
 use Rattle.parties.specs.protocol.Format.{read_number, read_many}
 use Rattle.parties.specs.protocol.Client.{read_pieces}
@@ -9,8 +9,4 @@ use Rattle.parties.proofs.client.form.pieces.Given as goal
 
 abbrev pub invariant-loop-i : goal.invariant-loop-i
 invariant-loop-i l =
-    (l.i ≤ l.s.n) × (l.q ≡ l.from + 2 * l.i) × (l.p ≡ l.from + 2 * l.s.n + l.i * l.s.f)
-    × (rest (read_pieces l.s (drop l.from l.t)) ≡ left_each l.s (read_many (read_number 2) (l.s.n - l.i) (drop l.q l.t)) (drop l.p l.t))
-
-abbrev pub decreases-loop-i : goal.decreases-loop-i
-decreases-loop-i l = l.s.n - l.i
+    rest (read_pieces l.s.measures (drop l.from l.t)) ≡ left_each l.s.measures (read_many (read_number 2) (l.s.measures.n - l.i) (drop (l.from + 2 * l.i) l.t)) (drop (l.from + 2 * l.s.measures.n + l.i * l.s.measures.f) l.t)

@@ -1,5 +1,5 @@
 use mathlib.Core.Path.{◌≡◌}
-use Prim.Native.Nat.{◌+◌, ◌-◌, ◌*◌, ◌≤◌}
+use Prim.Native.Nat.{◌+◌, ◌-◌, ◌*◌}
 use lib.ListN.{drop}
 use Rattle.parties.specs.protocol.Format.{read_many}
 use Rattle.parties.specs.protocol.Client.{read_reserved}
@@ -7,7 +7,4 @@ use Rattle.parties.specs.records.Form.{rest}
 use Rattle.parties.proofs.client.form.reserved_versions.Given as goal
 
 abbrev pub invariant-loop-i : goal.invariant-loop-i
-invariant-loop-i l = (l.i ≤ l.s.m) × (l.at ≡ l.from + l.i * 5) × (rest (read_many (read_reserved l.s) l.s.m (drop l.from l.t)) ≡ rest (read_many (read_reserved l.s) (l.s.m - l.i) (drop l.at l.t)))
-
-abbrev pub decreases-loop-i : goal.decreases-loop-i
-decreases-loop-i l = l.s.m - l.i
+invariant-loop-i l = rest (read_many (read_reserved l.s) l.s.m (drop l.from l.t)) ≡ rest (read_many (read_reserved l.s) (l.s.m - l.i) (drop (l.from + l.i * 5) l.t))

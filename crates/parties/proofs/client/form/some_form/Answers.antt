@@ -14,8 +14,8 @@ returns-then-is_none c =
     let a = c.args in
     let v = c.version_at in
     record {
-      told = sym (some_broken a.s (drop a.at a.t.now) (drop (a.at + 5) a.t.now) v.result
-          (version-read a.t.now a.at v.result v.ensures c.requires.1)
+      told = sym (some_broken a.s.measures (drop a.at a.t.now) (drop (a.at + 5) a.t.now) v.result
+          (version-read a.t.now a.at v.result v.ensures c.requires)
           (bytes_drop a.at a.t.now (λ i. (c.type_inv.t i).fits)) (sym c.is_none.ensures ∙ c.if-is_none.true));
       within = tt;
     }
@@ -25,5 +25,5 @@ returns c =
     let a = c.args in
     let v = c.version_at in
     subst (λ (o : Option (List ℕ)). Formed a.t.now a.at o c.pointer.result)
-    (sym (some_left a.s (drop a.at a.t.now) (drop (a.at + 5) a.t.now) v.result
-    (version-read a.t.now a.at v.result v.ensures c.requires.1) (sym c.is_none.ensures ∙ c.if-is_none.false))) c.pointer.ensures
+    (sym (some_left a.s.measures (drop a.at a.t.now) (drop (a.at + 5) a.t.now) v.result
+    (version-read a.t.now a.at v.result v.ensures c.requires) (sym c.is_none.ensures ∙ c.if-is_none.false))) c.pointer.ensures

@@ -11,9 +11,9 @@ returns-then-not-proper_stores c =
     let v = c.version_at-v in
     let m = c.u16_at-map in
     let p = c.proper_stores in
-    let l : a.at + 7 + a.s.n * 32 ≤ length a.t.now = omega (arith, (sizes a.s c.requires.0).pieces, c.requires.1) in
+    let l : a.at + 7 + a.s.measures.n * 32 ≤ length a.t.now = omega (arith, (sizes a.s.measures c.args.s.pass).pieces, c.requires) in
     record {
-      told = sym (stores-broken a.s a.t.now a.at v.result m.result l v.ensures m.ensures
+      told = sym (stores-broken a.s.measures a.t.now a.at v.result m.result l v.ensures m.ensures
           (sym p.ensures ∙ c.if-not-proper_stores.true));
       within = tt;
     }
@@ -24,9 +24,9 @@ returns c =
     let v = c.version_at-v in
     let m = c.u16_at-map in
     let p = c.proper_stores in
-    let l : a.at + 7 + a.s.n * 32 ≤ length a.t.now = omega (arith, (sizes a.s c.requires.0).pieces, c.requires.1) in
+    let l : a.at + 7 + a.s.measures.n * 32 ≤ length a.t.now = omega (arith, (sizes a.s.measures c.args.s.pass).pieces, c.requires) in
     record {
-      told = sym (stores-sound a.s a.t.now a.at v.result m.result l v.ensures m.ensures
+      told = sym (stores-sound a.s.measures a.t.now a.at v.result m.result l v.ensures m.ensures
           (sym p.ensures ∙ c.if-not-proper_stores.false));
       within = (omega arith, l);
     }

@@ -3,13 +3,13 @@ use mathlib.Core.Path.{sym, ◌∙◌}
 use Rattle.parties.proofs.client.FreeListLaws.{place_within, added_old, added_new}
 use Rattle.parties.proofs.client.free.add_version.Goals as goal
 
-pub returns-then-reaches : goal.returns-then-reaches
-returns-then-reaches c =
+pub returns-then-stands : goal.returns-then-stands
+returns-then-stands c =
     let a = c.args in
     let p = c.requires in
     let j = c.seek-j in
     added_old a.room.now (λ i. let b : Fits w8 (get_or c.args.room.now i 0) = search rules in b.fits) a.v a.count j.result j.ensures p
-    (sym c.reaches.ensures ∙ c.if-reaches.true)
+    (sym c.stands.ensures ∙ c.if-stands.true)
 
 pub put_in-requires : goal.put_in-requires
 put_in-requires c =
@@ -24,4 +24,4 @@ returns c =
     let p = c.requires in
     let j = c.seek-j in
     added_new a.room.now (λ i. let b : Fits w8 (get_or c.args.room.now i 0) = search rules in b.fits) a.v a.count j.result j.ensures p
-    (sym c.reaches.ensures ∙ c.if-reaches.false) _ c.put_in.ensures
+    (sym c.stands.ensures ∙ c.if-stands.false) _ c.put_in.ensures

@@ -5,45 +5,34 @@ use Rattle.parties.proofs.client.FormLaws.{sizes}
 use Rattle.parties.proofs.client.FreeListLaws.{listing_few, listing_all, room-enough}
 use Rattle.parties.proofs.client.free.put_free_list.Goals as goal
 
-pub start_list-start-requires : goal.start_list-start-requires
-start_list-start-requires c = let p = c.requires in ((p.0, p.1, p.2), omega (arith, room-enough c.args.s, p.3))
-
 pub loop-q-init : goal.loop-q-init
-loop-q-init c = (omega arith, refl, λ first x. x)
+loop-q-init c = (refl, λ first x. x)
 
-pub free_client-next-requires : goal.free_client-next-requires
-free_client-next-requires c =
+pub free_client-count-requires : goal.free_client-count-requires
+free_client-count-requires c =
     let a = c.args in
     let p = c.requires in
     let l = c.loop-q in
     let f = c.start_list-start in
-    let x = l.invariant.2 a.room.now f.ensures in (
-      (p.0, p.1, p.2),
+    let x = l.invariant.1 a.room.now f.ensures in (
       c.loop-q-test.true,
       omega (
         arith,
-        listing_few a.s a.map (retained_in a.s a.area.now) a.v l.q a.room.now l.count l.room x,
+        listing_few a.s.measures a.map (retained_in a.s.measures a.area.now) a.v l.q a.room.now l.count l.room x,
         room-enough
-            a.s,
-        p.3,
-        l.invariant.1,
+            a.s.measures,
+        p.2,
+        l.invariant.0,
         f.auto.room,
         c.loop-q-test.true,
       ),
     )
 
-pub overflow_add-q : goal.overflow_add-q
-overflow_add-q c =
-    omega (arith, c.loop-q-test.true, (sizes c.args.s c.requires.0).clients)
-
-pub loop-q-smaller : goal.loop-q-smaller
-loop-q-smaller c = omega (arith, c.loop-q-test.true)
-
 pub loop-q-preserved : goal.loop-q-preserved
 loop-q-preserved c =
     let l = c.loop-q in
-    let n = c.free_client-next in
-    (omega (arith, c.loop-q-test.true), n.auto.room ∙ l.invariant.1, λ first x. n.ensures first (l.invariant.2 first x))
+    let n = c.free_client-count in
+    (n.auto.room ∙ l.invariant.0, λ first x. n.ensures first (l.invariant.1 first x))
 
 pub overflow_mul-result : goal.overflow_mul-result
 overflow_mul-result c =
@@ -51,8 +40,8 @@ overflow_mul-result c =
     let p = c.requires in
     let l = c.loop-q in
     let f = c.start_list-start in
-    let x = l.invariant.2 a.room.now f.ensures in
-    omega (arith, listing_few a.s a.map (retained_in a.s a.area.now) a.v l.q a.room.now l.count l.room x, (sizes a.s p.0).clients, l.invariant.0)
+    let x = l.invariant.1 a.room.now f.ensures in
+    omega (arith, listing_few a.s.measures a.map (retained_in a.s.measures a.area.now) a.v l.q a.room.now l.count l.room x, (sizes a.s.measures c.args.s.pass).clients, c.loop-q.auto.q-end)
 
 pub overflow_add-result : goal.overflow_add-result
 overflow_add-result c =
@@ -60,11 +49,8 @@ overflow_add-result c =
     let p = c.requires in
     let l = c.loop-q in
     let f = c.start_list-start in
-    let x = l.invariant.2 a.room.now f.ensures in
-    omega (arith, listing_few a.s a.map (retained_in a.s a.area.now) a.v l.q a.room.now l.count l.room x, (sizes a.s p.0).clients, l.invariant.0)
-
-pub shape_of-room : goal.shape_of-room
-shape_of-room c = c.loop-q.invariant.1 ∙ c.start_list-start.auto.room
+    let x = l.invariant.1 a.room.now f.ensures in
+    omega (arith, listing_few a.s.measures a.map (retained_in a.s.measures a.area.now) a.v l.q a.room.now l.count l.room x, (sizes a.s.measures c.args.s.pass).clients, c.loop-q.auto.q-end)
 
 pub returns : goal.returns
 returns c =
@@ -72,5 +58,5 @@ returns c =
     let p = c.requires in
     let l = c.loop-q in
     let f = c.start_list-start in
-    let x = l.invariant.2 a.room.now f.ensures in
-    listing_all a.s a.map (retained_in a.s a.area.now) a.v l.q a.room.now l.count l.room x (omega (arith, l.invariant.0, c.loop-q-test.false))
+    let x = l.invariant.1 a.room.now f.ensures in
+    listing_all a.s.measures a.map (retained_in a.s.measures a.area.now) a.v l.q a.room.now l.count l.room x (omega (arith, c.loop-q-test.false))

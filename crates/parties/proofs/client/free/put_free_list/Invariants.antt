@@ -1,6 +1,6 @@
 use mathlib.Core.Path.{◌≡◌}
 use mathlib.Core.List.{List}
-use Prim.Native.Nat.{ℕ, ◌-◌, ◌≤◌}
+use Prim.Native.Nat.{ℕ}
 use lib.ListN.{length}
 use Rattle.parties.specs.client.Found.{retained_in}
 use Rattle.parties.specs.client.FreeList.{Listing, freed_up_to}
@@ -9,8 +9,5 @@ use Rattle.parties.proofs.client.free.put_free_list.Given as goal
 -- The free list of the first q clients stands in the room, of whatever room it was begun in.
 abbrev pub invariant-loop-q : goal.invariant-loop-q
 invariant-loop-q l =
-    (l.q ≤ l.m) × (length l.room ≡ length l.initial.room)
-    × ((first : List ℕ) → Listing first (freed_up_to l.s l.map (retained_in l.s l.area) l.v 0) l.start l.initial.room → Listing first (freed_up_to l.s l.map (retained_in l.s l.area) l.v l.q) l.count l.room)
-
-abbrev pub decreases-loop-q : goal.decreases-loop-q
-decreases-loop-q l = l.m - l.q
+    (length l.room ≡ length l.initial.room)
+    × ((first : List ℕ) → Listing first (freed_up_to l.fn.s.measures l.map (retained_in l.fn.s.measures l.area) l.fn.v 0) l.start l.initial.room → Listing first (freed_up_to l.fn.s.measures l.map (retained_in l.fn.s.measures l.area) l.fn.v l.q) l.count l.room)

@@ -7,65 +7,44 @@ use Rattle.parties.proofs.client.FormLaws.{sizes}
 use Rattle.parties.proofs.client.FreezeLaws.{retaining_none, retaining_length, retaining_more, retaining_ends}
 use Rattle.parties.proofs.client.freeze.retain.Goals as goal
 
-pub pointer_size-size-requires : goal.pointer_size-size-requires
-pointer_size-size-requires c = c.requires.0
-
-pub work_at-at-requires : goal.work_at-at-requires
-work_at-at-requires c = c.requires.0
-
-pub work_size-work-requires : goal.work_size-work-requires
-work_size-work-requires c = c.requires.0
-
 pub loop-q-init : goal.loop-q-init
 loop-q-init c =
     let a = c.args in
     let p = c.requires in
-    (omega arith, retaining_none a.s a.map (rows_of (read_directory a.s a.rows.now)) a.area.now (λ i. (c.type_inv.area i).fits) p.1 p.2 p.3)
+    retaining_none a.s.measures a.map (rows_of (read_directory a.s.measures a.rows.now)) a.area.now (λ i. (c.type_inv.area i).fits) p.0 p.1 p.2
 
 pub retain_one-requires : goal.retain_one-requires
 retain_one-requires c =
     let a = c.args in
     let p = c.requires in
     let l = c.loop-q in (
-      p.0,
       c.pointer_size-size.ensures,
       c.work_at-at.ensures,
       c.loop-q-test.true,
       omega (
         arith,
-        p.1,
-        retaining_length a.s a.map (rows_of (read_directory a.s a.rows.now)) a.area.now (λ i. let b : Fits w8 (get_or c.args.area.now i 0) = search rules in b.fits) p.1 p.2 p.3 l.area l.q
-            l.invariant.1,
+        p.0,
+        retaining_length a.s.measures a.map (rows_of (read_directory a.s.measures a.rows.now)) a.area.now (λ i. let b : Fits w8 (get_or c.args.area.now i 0) = search rules in b.fits) p.0 p.1 p.2 l.area l.q
+            l.invariant,
       ),
+      p.3,
       p.4,
-      p.5,
     )
-
-pub overflow_add-q : goal.overflow_add-q
-overflow_add-q c =
-    let a = c.args in
-    let p = c.requires in
-    omega (arith, (sizes a.s p.0).clients, c.loop-q-test.true)
-
-pub loop-q-smaller : goal.loop-q-smaller
-loop-q-smaller c = omega (arith, c.loop-q-test.true)
 
 pub loop-q-preserved : goal.loop-q-preserved
 loop-q-preserved c =
     let a = c.args in
     let p = c.requires in
     let l = c.loop-q in
-    let t = c.loop-q-test.true in (
-      omega (arith, t),
-      retaining_more a.s a.map (rows_of (read_directory a.s a.rows.now)) a.area.now (λ i. let b : Fits w8 (get_or c.args.area.now i 0) = search rules in b.fits) p.1 p.2
-          p.3 l.area l.q l.invariant.1 t _ c.retain_one.ensures,
-    )
+    let t = c.loop-q-test.true in
+    retaining_more a.s.measures a.map (rows_of (read_directory a.s.measures a.rows.now)) a.area.now (λ i. let b : Fits w8 (get_or c.args.area.now i 0) = search rules in b.fits) p.0 p.1
+    p.2 l.area l.q l.invariant t _ c.retain_one.ensures
 
 pub overflow_add-at : goal.overflow_add-at
 overflow_add-at c =
     let a = c.args in
     let p = c.requires in
-    let z = sizes a.s p.0 in
+    let z = sizes a.s.measures c.args.s.pass in
     omega (arith, z.pointers, z.pointer, z.clients, c.work_at-at.ensures, c.pointer_size-size.ensures)
 
 pub move_down-requires : goal.move_down-requires
@@ -77,9 +56,9 @@ move_down-requires c =
       omega arith,
       omega (
         arith,
-        p.1,
-        retaining_length a.s a.map (rows_of (read_directory a.s a.rows.now)) a.area.now (λ i. let b : Fits w8 (get_or c.args.area.now i 0) = search rules in b.fits) p.1
-            p.2 p.3 l.area l.q l.invariant.1,
+        p.0,
+        retaining_length a.s.measures a.map (rows_of (read_directory a.s.measures a.rows.now)) a.area.now (λ i. let b : Fits w8 (get_or c.args.area.now i 0) = search rules in b.fits) p.0
+            p.1 p.2 l.area l.q l.invariant,
         c.work_at-at.ensures,
         c.pointer_size-size.ensures,
       ),
@@ -89,7 +68,7 @@ pub overflow_add-at-2 : goal.overflow_add-at-2
 overflow_add-at-2 c =
     let a = c.args in
     let p = c.requires in
-    let z = sizes a.s p.0 in
+    let z = sizes a.s.measures c.args.s.pass in
     omega (arith, z.pointers, z.pointer, z.clients, z.nodes, z.pieces, c.work_at-at.ensures, c.work_size-work.ensures)
 
 pub clear-requires : goal.clear-requires
@@ -100,10 +79,10 @@ clear-requires c =
       omega arith,
       omega (
         arith,
-        p.1,
-        retaining_length a.s a.map (rows_of (read_directory a.s a.rows.now)) a.area.now
-            (λ i. let b : Fits w8 (get_or c.args.area.now i 0) = search rules in b.fits) p.1 p.2 p.3 l.area l.q
-            l.invariant.1,
+        p.0,
+        retaining_length a.s.measures a.map (rows_of (read_directory a.s.measures a.rows.now)) a.area.now
+            (λ i. let b : Fits w8 (get_or c.args.area.now i 0) = search rules in b.fits) p.0 p.1 p.2 l.area l.q
+            l.invariant,
         c.move_down.auto.t,
         c.work_at-at.ensures,
         c.work_size-work.ensures,
@@ -115,16 +94,16 @@ shape_of-area c =
     let a = c.args in
     let p = c.requires in
     let l = c.loop-q in
-    c.clear.auto.t ∙ c.move_down.auto.t ∙ retaining_length a.s a.map (rows_of (read_directory a.s a.rows.now)) a.area.now
-    (λ i. let b : Fits w8 (get_or c.args.area.now i 0) = search rules in b.fits) p.1 p.2 p.3 l.area l.q l.invariant.1
+    c.clear.auto.t ∙ c.move_down.auto.t ∙ retaining_length a.s.measures a.map (rows_of (read_directory a.s.measures a.rows.now)) a.area.now
+    (λ i. let b : Fits w8 (get_or c.args.area.now i 0) = search rules in b.fits) p.0 p.1 p.2 l.area l.q l.invariant
 
 pub returns : goal.returns
 returns c =
     let a = c.args in
     let p = c.requires in
     let l = c.loop-q in
-    let e : l.q ≡ a.s.m = omega (arith, l.invariant.0, c.loop-q-test.false) in
-    retaining_ends a.s a.map (rows_of (read_directory a.s a.rows.now)) a.area.now (λ i. let b : Fits w8 (get_or c.args.area.now i 0) = search rules in b.fits) p.1 p.2 p.3 l.area l.q
-    l.invariant.1 e c.work_at-at.result c.pointer_size-size.result c.work_size-work.result
+    let e : l.q ≡ a.s.measures.m = omega (arith, c.loop-q-test.false) in
+    retaining_ends a.s.measures a.map (rows_of (read_directory a.s.measures a.rows.now)) a.area.now (λ i. let b : Fits w8 (get_or c.args.area.now i 0) = search rules in b.fits) p.0 p.1 p.2 l.area l.q
+    l.invariant e c.work_at-at.result c.pointer_size-size.result c.work_size-work.result
     c.work_at-at.ensures c.pointer_size-size.ensures c.work_size-work.ensures _ _ c.move_down.ensures
     c.clear.ensures

@@ -39,7 +39,7 @@ pub sound-requires : goal.sound-requires
 sound-requires c =
     let measured : passes c.args.s ≡ true =
     sym c.pass.ensures ∙ c.if-not-pass.false in
-    (measured, c.requires (c.if-not-enough.false))
+    (c.requires (c.if-not-enough.false))
 
 pub returns-then-not-sound : goal.returns-then-not-sound
 returns-then-not-sound c =

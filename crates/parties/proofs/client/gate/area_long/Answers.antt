@@ -10,9 +10,6 @@ returns-then-not-pass c =
     let a = c.args in
     sym (ap (λ (b : Bool). b && leb (area_size a.s) a.area) (sym c.pass.ensures ∙ c.if-not-pass.true))
 
-pub area_size-size-requires : goal.area_size-size-requires
-area_size-size-requires c = sym c.pass.ensures ∙ c.if-not-pass.false
-
 pub returns : goal.returns
 returns c =
     let a = c.args in

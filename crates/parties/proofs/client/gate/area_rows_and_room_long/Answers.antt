@@ -18,13 +18,6 @@ returns-then-not-area_and_room_long c =
     rows_fail (passes a.s) (leb (area_size a.s) a.area) (leb (a.s.m * row_size a.s) a.rows) (leb (room_size a.s) a.room) l.result l.ensures
     (c.if-not-area_and_room_long.true)
 
-pub row_size-size-requires : goal.row_size-size-requires
-row_size-size-requires c =
-    let measured : passes c.args.s ≡ true =
-    let l = c.area_and_room_long in
-    (and-true (passes c.args.s) _ (sym l.ensures ∙ c.if-not-area_and_room_long.false)).0 in
-    measured
-
 pub overflow_mul-result : goal.overflow_mul-result
 overflow_mul-result c =
     let measured : passes c.args.s ≡ true =

@@ -4,11 +4,11 @@ use Rattle.parties.proofs.client.FormLaws.{sizes}
 use Rattle.parties.proofs.client.gate.room_size.Goals as goal
 
 pub overflow_mul-result : goal.overflow_mul-result
-overflow_mul-result c = omega (arith, (sizes c.args.s c.requires).pieces)
+overflow_mul-result c = omega (arith, (sizes c.args.s.measures c.args.s.pass).pieces)
 
 pub overflow_add-result : goal.overflow_add-result
-overflow_add-result c = omega (arith, (sizes c.args.s c.requires).pieces)
+overflow_add-result c = omega (arith, (sizes c.args.s.measures c.args.s.pass).pieces)
 
 pub overflow_add-result-2 : goal.overflow_add-result-2
 overflow_add-result-2 c =
-    omega (arith, (sizes c.args.s c.requires).pieces, row_bound c.args.s c.requires, c.row_size-row.ensures)
+    omega (arith, (sizes c.args.s.measures c.args.s.pass).pieces, row_bound c.args.s.measures c.args.s.pass, c.row_size-row.ensures)

@@ -12,38 +12,25 @@ use Rattle.parties.proofs.client.FormLaws.{sizes}
 use Rattle.parties.proofs.client.NoticeLaws.{Marked, marked-none, marked_more}
 use Rattle.parties.proofs.client.notice.noticed_map.Goals as goal
 
-pub row_size-size-requires : goal.row_size-size-requires
-row_size-size-requires c = c.requires.0
-
 pub loop-q-init : goal.loop-q-init
-loop-q-init c = (omega arith, marked-none _)
+loop-q-init c = marked-none _
 
 pub notices_client-here-requires : goal.notices_client-here-requires
 notices_client-here-requires c =
     let p = c.requires in
-    (p.0, p.1, p.2, c.row_size-size.ensures, p.3, p.4, c.loop-q-test.true)
+    (p.0, p.1, c.row_size-size.ensures, p.2, p.3, c.loop-q-test.true)
 
-pub overflow_add-q : goal.overflow_add-q
-overflow_add-q c = omega (arith, c.loop-q-test.true, (sizes c.args.s c.requires.0).clients)
-
-pub marked-next-requires : goal.marked-next-requires
-marked-next-requires c =
-    (omega arith, omega (arith, c.loop-q-test.true, (sizes c.args.s c.requires.0).clients))
-
-pub overflow_add-q-in-loop-q : goal.overflow_add-q-in-loop-q
-overflow_add-q-in-loop-q c =
-    omega (arith, c.loop-q-test.true, (sizes c.args.s c.requires.0).clients)
-
-pub loop-q-smaller : goal.loop-q-smaller
-loop-q-smaller c = omega (arith, c.loop-q-test.true)
+pub marked-map-requires : goal.marked-map-requires
+marked-map-requires c =
+    (omega arith, omega (arith, c.loop-q-test.true, (sizes c.args.s.measures c.args.s.pass).clients))
 
 pub loop-q-preserved : goal.loop-q-preserved
 loop-q-preserved c =
     let a = c.args in
     let l = c.loop-q in
-    let f = noticed a.own (keeper (retained_in a.s a.area.now)) (rows_of (read_directory a.s a.rows.now)) in
-    let e = c.marked-next.ensures ∙ ap (λ (b : Bool). cond b (with_node l.map (l.q + 1)) l.map) c.notices_client-here.ensures in
-    (omega (arith, c.loop-q-test.true), subst (Marked f (l.q + 1)) (sym e) (marked_more f l.q l.map l.invariant.1))
+    let f = noticed a.own (keeper (retained_in a.s.measures a.area.now)) (rows_of (read_directory a.s.measures a.rows.now)) in
+    let e = c.marked-map.ensures ∙ ap (λ (b : Bool). cond b (with_node l.map (l.q + 1)) l.map) c.notices_client-here.ensures in
+    subst (Marked f (l.q + 1)) (sym e) (marked_more f l.q l.map l.invariant)
 
 pub returns : goal.returns
-returns c = λ p h. c.loop-q.invariant.1.told p (omega (arith, c.loop-q-test.false, c.loop-q.invariant.0, h))
+returns c = λ p h. c.loop-q.invariant.told p (omega (arith, c.loop-q-test.false, h))

@@ -1,4 +1,3 @@
-use Prim.Native.Nat.{◌-◌, ◌≤◌}
 use Rattle.parties.specs.protocol.Directory.{read_directory}
 use Rattle.parties.specs.protocol.Deposit.{noticed}
 use Rattle.parties.proofs.protocol.formats.ClientLaws.{keeper}
@@ -9,7 +8,4 @@ use Rattle.parties.proofs.client.notice.noticed_map.Given as goal
 
 -- The bits of the first q clients are set.
 abbrev pub invariant-loop-q : goal.invariant-loop-q
-invariant-loop-q l = (l.q ≤ l.m) × Marked (noticed l.own (keeper (retained_in l.s l.area)) (rows_of (read_directory l.s l.rows))) l.q l.map
-
-abbrev pub decreases-loop-q : goal.decreases-loop-q
-decreases-loop-q l = l.m - l.q
+invariant-loop-q l = Marked (noticed l.own (keeper (retained_in l.s.measures l.area)) (rows_of (read_directory l.s.measures l.rows))) l.q l.map

@@ -14,4 +14,4 @@ returns c =
     let a = c.args in
     c.notices.ensures
     ∙ ap₂ (λ (k i : ReadingIndex). not (eqb a.q a.own) && ltb k.0 i.0) c.kept_index-kept.ensures c.shown_index-shown.ensures
-    ∙ notices_is a.own (keeper (retained_in a.s a.area.now)) (rows_of (read_directory a.s a.rows.now)) a.q
+    ∙ notices_is a.own (keeper (retained_in a.s.measures a.area.now)) (rows_of (read_directory a.s.measures a.rows.now)) a.q

@@ -1,17 +1,11 @@
 use mathlib.Core.Path.{◌≡◌, sym, ap, ◌∙◌}
-use mathlib.Core.Bool.{Bool, true, false, cond}
+use mathlib.Core.Bool.{Bool, true, cond}
 use Prim.Native.Nat.{◌+◌}
 use lib.ListN.{take, drop}
 use Rattle.parties.specs.protocol.Nodes.{stands}
 use Rattle.parties.specs.records.Places.{splice}
 use Rattle.parties.proofs.records.SpliceLaws.{lowered}
 use Rattle.parties.proofs.client.publish.keep_digest.Goals as goal
-
-pub returns-then-not-stands : goal.returns-then-not-stands
-returns-then-not-stands c =
-    let a = c.args in
-    let e : stands a.map (a.i + 1) ≡ false = sym c.stands.ensures ∙ c.if-not-stands.true in
-    (simp e, simp e)
 
 pub returns : goal.returns
 returns c =

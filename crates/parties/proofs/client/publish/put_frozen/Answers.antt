@@ -1,3 +1,5 @@
+use mathlib.Core.Path.{ap}
+use Prim.Native.Nat.{ℕ, ◌+◌, ◌*◌}
 use native.Mathlib.Omega.{arith}
 use Rattle.coding.proofs.BytesLaws.{stride}
 use Rattle.parties.specs.protocol.Measures.{pointer_size}
@@ -10,50 +12,44 @@ pub loop-q-init : goal.loop-q-init
 loop-q-init c =
     let a = c.args in
     let p = c.requires in
-    laid_none a.s a.area.now (λ i. (c.type_inv.area i).fits) p.2 a.room.now a.at a.size p.1 (omega (arith, p.4))
+    laid_none a.s.measures a.area.now (λ i. (c.type_inv.area i).fits) p.1 a.room.now a.at (omega (arith, p.3))
 
-pub put_pointer-next-requires : goal.put_pointer-next-requires
-put_pointer-next-requires c =
-    let l = c.loop-q in
+pub overflow_mul-q : goal.overflow_mul-q
+overflow_mul-q c =
     let a = c.args in
-    let p = c.requires in (
-      laid_from a.s a.area.now (λ i. (c.type_inv.area i).fits) p.2 a.room.now a.at p.4 l.room l.end l.from l.q l.invariant
-          (omega arith) p.3,
-      laid-fits a.s a.area.now (λ i. (c.type_inv.area i).fits) p.2 a.room.now a.at p.4 l.room l.end l.from l.q l.invariant (omega arith),
-    )
+    let p = c.requires in
+    let z = sizes a.s.measures c.args.s.pass in
+    let l = c.loop-q in
+    omega (arith, ap (λ (k : ℕ). (l.q + 1) * k) p.0, z.pointers, z.pointer, stride l.q (pointer_size a.s.measures), below_rows l.q a.s.measures.m (pointer_size a.s.measures) c.loop-q-test.true, stride a.s.measures.m (pointer_size a.s.measures))
 
-pub overflow_add-from : goal.overflow_add-from
-overflow_add-from c =
+pub put_pointer-end-requires : goal.put_pointer-end-requires
+put_pointer-end-requires c =
     let l = c.loop-q in
     let a = c.args in
     let p = c.requires in
-    let z = sizes a.s p.0 in
-    let k = pointer_size a.s in
-    omega (arith, l.invariant.source, p.1, z.pointers, z.pointer, stride l.q k, below_rows l.q a.s.m k (omega arith), stride a.s.m k)
-
-pub overflow_add-q : goal.overflow_add-q
-overflow_add-q c =
-    omega (arith, (sizes c.args.s c.requires.0).clients)
+    rw p.0 (
+      laid_from a.s.measures a.area.now (λ i. (c.type_inv.area i).fits) p.1 a.room.now a.at p.3 l.room l.end l.q l.invariant (omega arith) p.2,
+      laid-fits a.s.measures a.area.now (λ i. (c.type_inv.area i).fits) p.1 a.room.now a.at p.3 l.room l.end l.q l.invariant (omega arith),
+    )
 
 pub loop-q-preserved : goal.loop-q-preserved
 loop-q-preserved c =
     let l = c.loop-q in
     let a = c.args in
     let p = c.requires in
-    let r = c.put_pointer-next.ensures in
-    laid_more a.s a.area.now (λ i. (c.type_inv.area i).fits) p.2 a.room.now a.at p.4 l.room l.end l.from l.q l.invariant (omega arith) _ _
-    r.0 r.1 a.size p.1
+    let r = rw p.0 at c.put_pointer-end.ensures in
+    laid_more a.s.measures a.area.now (λ i. (c.type_inv.area i).fits) p.1 a.room.now a.at p.3 l.room l.end l.q l.invariant (omega arith) _ _ r.0 r.1
 
 pub shape_of-room : goal.shape_of-room
 shape_of-room c =
     let l = c.loop-q in
     let a = c.args in
     let p = c.requires in
-    laid-length a.s a.area.now (λ i. (c.type_inv.area i).fits) p.2 a.room.now a.at p.4 l.room l.end l.from l.q l.invariant
+    laid-length a.s.measures a.area.now (λ i. (c.type_inv.area i).fits) p.1 a.room.now a.at p.3 l.room l.end l.q l.invariant
 
 pub returns : goal.returns
 returns c =
     let l = c.loop-q in
     let a = c.args in
     let p = c.requires in
-    laid-all a.s a.area.now (λ i. (c.type_inv.area i).fits) p.2 a.room.now a.at p.4 l.room l.end l.from l.q l.invariant (omega arith)
+    laid-all a.s.measures a.area.now (λ i. (c.type_inv.area i).fits) p.1 a.room.now a.at p.3 l.room l.end l.q l.invariant (omega arith)

@@ -1,21 +1,12 @@
 use mathlib.Core.Path.{◌≡◌, refl, ap, ◌∙◌}
 use mathlib.Core.List.{List}
 use Prim.Native.Nat.{ℕ, ◌+◌}
-use native.Mathlib.Omega.{arith}
 use lib.ListN.{length, drop}
 use Rattle.parties.specs.client.Pick.{pointer_part}
 use Rattle.parties.specs.records.Places.{splice}
 use Rattle.parties.proofs.records.SpliceLaws.{paste_all}
 use Rattle.parties.proofs.client.PublishLaws.{part-whole}
 use Rattle.parties.proofs.client.publish.put_pointer.Goals as goal
-
-pub copy-requires : goal.copy-requires
-copy-requires c =
-    let a = c.args in
-    let e : length c.pointer_part-p.result.now ≡ length (pointer_part (drop a.from a.area.now)) =
-    ap length (c.pointer_part-p.ensures ∙ part-whole a.area.now a.from)
-    in
-    (omega (arith, c.requires.1), omega arith)
 
 pub returns : goal.returns
 returns c =

@@ -14,8 +14,8 @@ returns-then-all_counted c =
     let e = c.all_counted.ensures in
     let t = sym c.if-all_counted.true ∙ e in (
       ap went_on t,
-      c.clear.ensures ∙ clear_done a.s a.area.now _ _ c.work_at-at.ensures c.work_size-size.ensures
-          ∙ ap (λ (b : Bool). cond b (cleared a.s a.area.now) (mapped a.s a.counted a.matching a.area.now)) t,
+      c.clear.ensures ∙ clear_done a.s.measures a.area.now _ _ c.work_at-at.ensures c.work_size-size.ensures
+          ∙ ap (λ (b : Bool). cond b (cleared a.s.measures a.area.now) (mapped a.s.measures a.counted a.matching a.area.now)) t,
     )
 
 pub returns : goal.returns
@@ -26,6 +26,6 @@ returns c =
     let at = c.work_at-at.result + c.pointer_size.result in (
       ap went_on t,
       c.put_u16-2.ensures ∙ ap (λ (l : List ℕ). paste l (at + 2) (write_number 2 a.matching) 2) c.put_u16.ensures
-          ∙ maps_done a.s a.area.now a.counted a.matching _ _ c.work_at-at.ensures c.pointer_size.ensures
-          ∙ ap (λ (b : Bool). cond b (cleared a.s a.area.now) (mapped a.s a.counted a.matching a.area.now)) t,
+          ∙ maps_done a.s.measures a.area.now a.counted a.matching _ _ c.work_at-at.ensures c.pointer_size.ensures
+          ∙ ap (λ (b : Bool). cond b (cleared a.s.measures a.area.now) (mapped a.s.measures a.counted a.matching a.area.now)) t,
     )

@@ -1,86 +1,44 @@
 use Rattle.std.proofs.Common.{Fits, w8, get_or, rules}
-use mathlib.Core.Path.{sym, ◌∙◌}
+use mathlib.Core.Path.{sym, subst, ◌∙◌}
 use mathlib.Core.Bool.{cond}
 use mathlib.Core.Option.{none}
-use Prim.Native.Nat.{◌+◌}
 use native.Mathlib.Omega.{arith}
 use Rattle.coding.specs.Nodes.{all}
 use Rattle.parties.specs.protocol.Nodes.{nodes_in, stands}
-use Rattle.parties.specs.client.Reply.{standing_at, went_on, cleared, mapped}
+use Rattle.parties.specs.client.Reply.{Awaits, went_on, cleared, mapped}
 use Rattle.parties.proofs.client.FormLaws.{sizes}
-use Rattle.parties.proofs.client.ReplyLaws.{other_end, skipped_end, missing_end}
-use Rattle.parties.proofs.client.GateLaws.{work_within, Opened}
+use Rattle.parties.proofs.client.ReplyLaws.{missing_end}
+use Rattle.parties.proofs.client.GateLaws.{work_within, Opened, opens}
 use Rattle.parties.proofs.client.reply.missing.Goals as goal
+use Rattle.parties.proofs.client.reply.missing.Goals.{After-awaited_reply}
 
-pub returns-then-p-ne-FETCHING : goal.returns-then-p-ne-FETCHING
-returns-then-p-ne-FETCHING c =
-    let opened : let a = c.args in Opened a.s a.p a.area.now =
-    let q = c.requires in
-    record { measures = q.0; step = omega arith; reading = omega arith; bytes = λ i. (c.type_inv.area i).fits; reads = q.3 } in
+-- the client's record reads
+opened_at : (c : After-awaited_reply) → let a = c.args in Opened a.s.measures a.p a.area.now
+opened_at c =
     let a = c.args in
     let q = c.requires in
-    λ room out. sym (other_end a.s a.p a.area.now opened a.i a.v none room out c.if-p-ne-FETCHING.true)
+    opens a.s.measures a.p a.area.now c.args.s.pass q.2 (omega arith) (omega arith) (λ i. let b : Fits w8 (get_or c.args.area.now i 0) = search rules in b.fits)
 
-pub overflow_add-at : goal.overflow_add-at
-overflow_add-at c =
+pub returns-in_default : goal.returns-in_default
+returns-in_default c =
     let a = c.args in
-    let q = c.requires in
-    omega (arith, c.work_at-at.ensures, c.pointer_size.ensures, (sizes a.s q.0).pointers, (sizes a.s q.0).pointer, (sizes a.s q.0).clients)
-
-pub standing_at-x-requires : goal.standing_at-x-requires
-standing_at-x-requires c =
-    let opened : let a = c.args in Opened a.s a.p a.area.now =
-    let q = c.requires in
-    record { measures = q.0; step = omega arith; reading = omega arith; bytes = λ i. let b : Fits w8 (get_or c.args.area.now i 0) = search rules in b.fits; reads = q.3 } in
-    let a = c.args in
-    let q = c.requires in
-    let w = work_within a.s a.p a.area.now opened in
-    (omega (arith, w, c.work_at-at.ensures), omega (arith, w, c.work_at-at.ensures, c.pointer_size.ensures))
-
-pub counts-requires : goal.counts-requires
-counts-requires c =
-    let q = c.requires in (q.1, omega (arith, q.2, (sizes c.args.s q.0).nodes))
-
-pub returns-then-not-counts : goal.returns-then-not-counts
-returns-then-not-counts c =
-    let opened : let a = c.args in Opened a.s a.p a.area.now =
-    let q = c.requires in
-    record { measures = q.0; step = omega arith; reading = omega arith; bytes = λ i. let b : Fits w8 (get_or c.args.area.now i 0) = search rules in b.fits; reads = q.3 } in
-    let a = c.args in
-    let q = c.requires in
-    let x = c.standing_at-x.ensures ∙ (λ j. standing_at a.area.now (c.work_at-at.ensures j)
-    (c.work_at-at.ensures j + c.pointer_size.ensures j))
-    in
-    λ room out. sym (skipped_end a.s a.p a.area.now opened c.if-p-ne-FETCHING.false a.i q.1 q.2 a.v
-    c.standing_at-x.result x none room out (sym c.counts.ensures ∙ c.if-not-counts.true))
+    λ room out. sym (subst (Awaits a.s.measures a.i a.v a.p a.area.now) c.in_default.is c.awaited_reply.ensures none room out)
 
 pub with_node-counted-requires : goal.with_node-counted-requires
-with_node-counted-requires c =
-    let q = c.requires in (q.1, omega (arith, q.2, (sizes c.args.s q.0).nodes))
+with_node-counted-requires c = let q = c.requires in (q.0, omega (arith, q.1, (sizes c.args.s.measures c.args.s.pass).nodes))
 
 pub go_on-requires : goal.go_on-requires
-go_on-requires c =
-    let opened : let a = c.args in Opened a.s a.p a.area.now =
-    let q = c.requires in
-    record { measures = q.0; step = omega arith; reading = omega arith; bytes = λ i. let b : Fits w8 (get_or c.args.area.now i 0) = search rules in b.fits; reads = q.3 } in
-    let a = c.args in
-    let q = c.requires in
-    (q.0, work_within a.s a.p a.area.now opened)
+go_on-requires c = let a = c.args in (work_within a.s.measures a.p a.area.now (opened_at (goal.at.go_on-requires c).After-awaited_reply))
 
 pub returns : goal.returns
 returns c =
-    let opened : let a = c.args in Opened a.s a.p a.area.now =
-    let q = c.requires in
-    record { measures = q.0; step = omega arith; reading = omega arith; bytes = λ i. let b : Fits w8 (get_or c.args.area.now i 0) = search rules in b.fits; reads = q.3 } in
     let a = c.args in
     let q = c.requires in
-    let s = c.standing_at-x.result in
-    let x = c.standing_at-x.ensures ∙ (λ j. standing_at a.area.now (c.work_at-at.ensures j)
-    (c.work_at-at.ensures j + c.pointer_size.ensures j))
-    in
+    let opened = opened_at (goal.at.returns c).After-awaited_reply in
+    let s = c.in-Some.x in
+    let x = subst (Awaits a.s.measures a.i a.v a.p a.area.now) c.in-Some.is c.awaited_reply.ensures in
     let n = c.with_node-counted.ensures in
     let g = c.go_on.ensures in
-    λ room out. sym (missing_end a.s a.p a.area.now opened c.if-p-ne-FETCHING.false a.i q.1 q.2 a.v s x
-    (sym c.counts.ensures ∙ c.if-not-counts.false) room out _
+    λ room out. sym (missing_end a.s.measures a.p a.area.now opened x.0 a.i q.0 q.1 a.v s x.1 x.2 room out _
     (g.0 ∙ (λ j. went_on (all (stands (n j)) (nodes_in s.named)))) _
-    (g.1 ∙ (λ j. cond (all (stands (n j)) (nodes_in s.named)) (cleared a.s a.area.now) (mapped a.s (n j) s.matching a.area.now))))
+    (g.1 ∙ (λ j. cond (all (stands (n j)) (nodes_in s.named)) (cleared a.s.measures a.area.now) (mapped a.s.measures (n j) s.matching a.area.now))))

@@ -14,19 +14,13 @@ use Rattle.parties.proofs.client.turn.fresh_client.Goals as goal
 pub returns-then-not-pass : goal.returns-then-not-pass
 returns-then-not-pass c =
     let a = c.args in
-    rw c.refuse.ensures (ends-two _ _ (fresh-measures a.s a.p a.area.now (sym c.pass.ensures ∙ c.if-not-pass.true)))
-
-pub area_size-size-requires : goal.area_size-size-requires
-area_size-size-requires c = sym c.pass.ensures ∙ c.if-not-pass.false
+    ends-two _ _ (fresh-measures a.s a.p a.area.now (sym c.pass.ensures ∙ c.if-not-pass.true))
 
 pub returns-then-area-size : goal.returns-then-area-size
 returns-then-area-size c =
     let a = c.args in
-    rw c.refuse-then-area-size.ensures (ends-two _ _ (fresh-short a.s a.p a.area.now (sym c.pass.ensures ∙ c.if-not-pass.false)
-    (omega (arith, c.area_size-size.ensures, c.if-area-size.true))))
-
-pub pointer_size-width-requires : goal.pointer_size-width-requires
-pointer_size-width-requires c = sym c.pass.ensures ∙ c.if-not-pass.false
+    ends-two _ _ (fresh-short a.s a.p a.area.now (sym c.pass.ensures ∙ c.if-not-pass.false)
+    (omega (arith, c.area_size-size.ensures, c.if-area-size.true)))
 
 pub overflow_mul-pointers : goal.overflow_mul-pointers
 overflow_mul-pointers c =

@@ -1,5 +1,5 @@
 use Rattle.std.proofs.Common.{Fits, w8, get_or, rules}
-use mathlib.Core.Path.{◌≡◌, sym, ap, ◌∙◌}
+use mathlib.Core.Path.{◌≡◌, ap, ◌∙◌}
 use mathlib.Core.Bool.{true}
 use mathlib.Core.List.{List, []}
 use Prim.Native.Nat.{ℕ, ◌+◌, ◌≤◌}
@@ -8,154 +8,96 @@ use borrow.Author.Tests.{leb-true}
 use lib.Dec.{leb, ltb}
 use lib.ListN.{length}
 use lib.Seq.{paste, length-paste}
-use Rattle.coding.proofs.Cases.{and-true}
-use Rattle.parties.specs.protocol.Measures.{passes}
 use Rattle.parties.specs.protocol.Answer.{refused}
 use Rattle.parties.specs.protocol.Format.{write_number}
-use Rattle.parties.specs.protocol.Client.{read_client, client_size}
+use Rattle.parties.specs.protocol.Client.{client_size}
 use Rattle.parties.specs.protocol.ClientEvents.{unchanged, begin_deposit}
 use Rattle.parties.proofs.protocol.formats.PointerLaws.{length-number}
 use Rattle.parties.specs.records.Answer.{number}
-use Rattle.parties.specs.client.Record.{record_of, area_size, work_at, is_some}
+use Rattle.parties.specs.client.Record.{record_of, area_size, work_at}
 use Rattle.parties.proofs.client.FormLaws.{sizes}
-use Rattle.parties.proofs.client.GateLaws.{long_record, gated_open, gated_shut, Opened}
+use Rattle.parties.proofs.client.GateLaws.{long_record, gated_shut, Entered, enters, handed}
 use Rattle.parties.proofs.client.StartLaws.{ends-two, deposit_shut, deposit_busy, deposit-long, deposit-begun}
 use Rattle.parties.proofs.client.turn.start_deposit.Goals as goal
+use Rattle.parties.proofs.client.turn.start_deposit.Goals.{In_ok-admit}
 
-pub admit-g-requires : goal.admit-g-requires
-admit-g-requires c = let a = c.args in λ e. leb-true (area_size a.s) (length a.area.now) (and-true (passes a.s) _ (sym c.area_long-enough.ensures ∙ e)).1
-
-pub returns-in-Shut : goal.returns-in-Shut
-returns-in-Shut c =
+pub returns-in_err-admit : goal.returns-in_err-admit
+returns-in_err-admit c =
     let a = c.args in
     let l = c.area_long-enough in
-    let k = c.admit-g in
-    let n = c.in-Shut.r in
-    rw c.refuse.ensures (ends-two _ _ (deposit_shut a.s a.own a.p a.area.now a.page.now
-    (unchanged (refused (number n)) (record_of a.p a.area.now) [] [])
-    (gated_shut a.s a.p a.area.now (leb (area_size a.s) (length a.area.now)) l.result (ltb a.own a.s.m) l.ensures k.result k.ensures n c.in-Shut.is
-    [] [] (λ k. begin_deposit a.s k a.page.now))))
+    let n = c.in_err-admit.field-0.0 in
+    rw (handed n _ c.from_residual.ensures.1)
+    (ends-two _ _ (deposit_shut a.s a.own a.p a.area.now a.page.now (unchanged (refused (number n)) (record_of a.p a.area.now) [] [])
+    (gated_shut a.s a.p a.area.now (leb (area_size a.s) (length a.area.now)) l.result (ltb a.own a.s.m) l.ensures c.admit.result c.admit.ensures n
+    c.in_err-admit.was [] [] (λ k. begin_deposit a.s k a.page.now))))
+
+-- the gate lets the event through
+entered : (c : In_ok-admit) → let a = c.args in Entered a.s a.p a.area.now (leb (area_size a.s) (length a.area.now)) (ltb a.own a.s.m)
+entered c =
+    let a = c.args in
+    enters a.s a.p a.area.now (leb (area_size a.s) (length a.area.now)) c.area_long-enough.result (ltb a.own a.s.m) c.area_long-enough.ensures
+    c.admit.result c.admit.ensures _ c.in_ok-admit.was (omega arith) (omega arith) (λ i. let b : Fits w8 (get_or c.args.area.now i 0) = search rules in b.fits)
+
+long : (c : In_ok-admit) → let a = c.args in leb (client_size a.s) (length (record_of a.p a.area.now)) ≡ true
+long c = let a = c.args in long_record a.s a.p a.area.now ∙ (entered c).enough
+
+area_fits : (c : In_ok-admit) → let a = c.args in area_size a.s ≤ length a.area.now
+area_fits c = let a = c.args in leb-true (area_size a.s) (length a.area.now) (entered c).enough
 
 pub returns-then-p-ne-IDLE : goal.returns-then-p-ne-IDLE
 returns-then-p-ne-IDLE c =
-    let enters : let a = c.args in (passes a.s ≡ true) × ((leb (area_size a.s) (length a.area.now)) ≡ true) × (ltb a.own a.s.m ≡ true) × (is_some (read_client a.s (record_of a.p a.area.now)) ≡ true) =
     let a = c.args in
-    let l = c.area_long-enough in
-    gated_open a.s a.p a.area.now (leb (area_size a.s) (length a.area.now)) l.result (ltb a.own a.s.m) l.ensures c.admit-g.result c.admit-g.ensures c.in_default.is in
-    let opened : let a = c.args in Opened a.s a.p a.area.now =
-    let e = enters in
-    record { measures = e.0; step = omega arith; reading = omega arith; bytes = λ i. let b : Fits w8 (get_or c.args.area.now i 0) = search rules in b.fits; reads = e.3 } in
-    let long : let a = c.args in leb (client_size a.s) (length (record_of a.p a.area.now)) ≡ true =
-    let a = c.args in long_record a.s a.p a.area.now ∙ enters.1 in
-    let a = c.args in
-    rw c.refuse-then-p-ne-IDLE.ensures (ends-two _ _ (deposit_busy a.s a.own a.p a.area.now opened enters.2 a.page.now long c.if-p-ne-IDLE.true))
+    let k = (goal.at.returns-then-p-ne-IDLE c).In_ok-admit in
+    let e = entered k in
+    ends-two _ _ (deposit_busy a.s a.own a.p a.area.now e.opened e.within a.page.now (long k) c.if-p-ne-IDLE.true)
 
 pub overflow_mul-s : goal.overflow_mul-s
-overflow_mul-s c =
-    let enters : let a = c.args in (passes a.s ≡ true) × ((leb (area_size a.s) (length a.area.now)) ≡ true) × (ltb a.own a.s.m ≡ true) × (is_some (read_client a.s (record_of a.p a.area.now)) ≡ true) =
-    let a = c.args in
-    let l = c.area_long-enough in
-    gated_open a.s a.p a.area.now (leb (area_size a.s) (length a.area.now)) l.result (ltb a.own a.s.m) l.ensures c.admit-g.result c.admit-g.ensures c.in_default.is in
-    let z = sizes c.args.s enters.0 in
-    omega (arith, z.frame)
+overflow_mul-s c = omega (arith, (sizes c.args.s (entered (goal.at.overflow_mul-s c).In_ok-admit).opened.measures).frame)
 
 pub overflow_sub-s : goal.overflow_sub-s
-overflow_sub-s c =
-    let enters : let a = c.args in (passes a.s ≡ true) × ((leb (area_size a.s) (length a.area.now)) ≡ true) × (ltb a.own a.s.m ≡ true) × (is_some (read_client a.s (record_of a.p a.area.now)) ≡ true) =
-    let a = c.args in
-    let l = c.area_long-enough in
-    gated_open a.s a.p a.area.now (leb (area_size a.s) (length a.area.now)) l.result (ltb a.own a.s.m) l.ensures c.admit-g.result c.admit-g.ensures c.in_default.is in
-    let z = sizes c.args.s enters.0 in
-    omega (arith, z.frame)
+overflow_sub-s c = omega (arith, (sizes c.args.s (entered (goal.at.overflow_sub-s c).In_ok-admit).opened.measures).frame)
 
 pub returns-then-s-n : goal.returns-then-s-n
 returns-then-s-n c =
-    let enters : let a = c.args in (passes a.s ≡ true) × ((leb (area_size a.s) (length a.area.now)) ≡ true) × (ltb a.own a.s.m ≡ true) × (is_some (read_client a.s (record_of a.p a.area.now)) ≡ true) =
     let a = c.args in
-    let l = c.area_long-enough in
-    gated_open a.s a.p a.area.now (leb (area_size a.s) (length a.area.now)) l.result (ltb a.own a.s.m) l.ensures c.admit-g.result c.admit-g.ensures c.in_default.is in
-    let opened : let a = c.args in Opened a.s a.p a.area.now =
-    let e = enters in
-    record { measures = e.0; step = omega arith; reading = omega arith; bytes = λ i. let b : Fits w8 (get_or c.args.area.now i 0) = search rules in b.fits; reads = e.3 } in
-    let long : let a = c.args in leb (client_size a.s) (length (record_of a.p a.area.now)) ≡ true =
-    let a = c.args in long_record a.s a.p a.area.now ∙ enters.1 in
-    let a = c.args in
-    rw c.refuse-then-s-n.ensures (ends-two _ _ (deposit-long a.s a.own a.p a.area.now opened enters.2 a.page.now long c.if-p-ne-IDLE.false c.if-s-n.true))
-
-pub work_at-at-requires : goal.work_at-at-requires
-work_at-at-requires c =
-    let enters : let a = c.args in (passes a.s ≡ true) × ((leb (area_size a.s) (length a.area.now)) ≡ true) × (ltb a.own a.s.m ≡ true) × (is_some (read_client a.s (record_of a.p a.area.now)) ≡ true) =
-    let a = c.args in
-    let l = c.area_long-enough in
-    gated_open a.s a.p a.area.now (leb (area_size a.s) (length a.area.now)) l.result (ltb a.own a.s.m) l.ensures c.admit-g.result c.admit-g.ensures c.in_default.is in
-    enters.0
+    let k = (goal.at.returns-then-s-n c).In_ok-admit in
+    let e = entered k in
+    ends-two _ _ (deposit-long a.s a.own a.p a.area.now e.opened e.within a.page.now (long k) c.if-p-ne-IDLE.false c.if-s-n.true)
 
 pub overflow_cast-n : goal.overflow_cast-n
-overflow_cast-n c =
-    let enters : let a = c.args in (passes a.s ≡ true) × ((leb (area_size a.s) (length a.area.now)) ≡ true) × (ltb a.own a.s.m ≡ true) × (is_some (read_client a.s (record_of a.p a.area.now)) ≡ true) =
-    let a = c.args in
-    let l = c.area_long-enough in
-    gated_open a.s a.p a.area.now (leb (area_size a.s) (length a.area.now)) l.result (ltb a.own a.s.m) l.ensures c.admit-g.result c.admit-g.ensures c.in_default.is in
-    let z = sizes c.args.s enters.0 in
-    omega (arith, z.frame, c.if-s-n.false)
+overflow_cast-n c = omega (arith, (sizes c.args.s (entered (goal.at.overflow_cast-n c).In_ok-admit).opened.measures).frame, c.if-s-n.false)
 
 pub put_u32-requires : goal.put_u32-requires
-put_u32-requires c =
-    let enters : let a = c.args in (passes a.s ≡ true) × ((leb (area_size a.s) (length a.area.now)) ≡ true) × (ltb a.own a.s.m ≡ true) × (is_some (read_client a.s (record_of a.p a.area.now)) ≡ true) =
-    let a = c.args in
-    let l = c.area_long-enough in
-    gated_open a.s a.p a.area.now (leb (area_size a.s) (length a.area.now)) l.result (ltb a.own a.s.m) l.ensures c.admit-g.result c.admit-g.ensures c.in_default.is in
-    let area_fits : let a = c.args in area_size a.s ≤ length a.area.now =
-    let a = c.args in leb-true (area_size a.s) (length a.area.now) enters.1 in
-    omega (arith, area_fits, c.work_at-at.ensures)
+put_u32-requires c = omega (arith, area_fits (goal.at.put_u32-requires c).In_ok-admit, c.work_at-at.ensures)
 
 pub overflow_add-at : goal.overflow_add-at
-overflow_add-at c =
-    let enters : let a = c.args in (passes a.s ≡ true) × ((leb (area_size a.s) (length a.area.now)) ≡ true) × (ltb a.own a.s.m ≡ true) × (is_some (read_client a.s (record_of a.p a.area.now)) ≡ true) =
-    let a = c.args in
-    let l = c.area_long-enough in
-    gated_open a.s a.p a.area.now (leb (area_size a.s) (length a.area.now)) l.result (ltb a.own a.s.m) l.ensures c.admit-g.result c.admit-g.ensures c.in_default.is in
-    let area_fits : let a = c.args in area_size a.s ≤ length a.area.now =
-    let a = c.args in leb-true (area_size a.s) (length a.area.now) enters.1 in
-    omega (arith, area_fits, c.work_at-at.ensures)
+overflow_add-at c = omega (arith, area_fits (goal.at.overflow_add-at c).In_ok-admit, c.work_at-at.ensures)
 
 pub copy-requires : goal.copy-requires
 copy-requires c =
-    let enters : let a = c.args in (passes a.s ≡ true) × ((leb (area_size a.s) (length a.area.now)) ≡ true) × (ltb a.own a.s.m ≡ true) × (is_some (read_client a.s (record_of a.p a.area.now)) ≡ true) =
     let a = c.args in
-    let l = c.area_long-enough in
-    gated_open a.s a.p a.area.now (leb (area_size a.s) (length a.area.now)) l.result (ltb a.own a.s.m) l.ensures c.admit-g.result c.admit-g.ensures c.in_default.is in
-    let area_fits : let a = c.args in area_size a.s ≤ length a.area.now =
-    let a = c.args in leb-true (area_size a.s) (length a.area.now) enters.1 in
-    let a = c.args in
+    let k = (goal.at.copy-requires c).In_ok-admit in
     let n = length a.page.now in
-    let z = sizes a.s enters.0 in
-    let l = area_fits in
-    let k : length c.put_u32.new.t ≡ length a.area.now =
+    let z = sizes a.s (entered k).opened.measures in
+    let l = area_fits k in
+    let same : length c.put_u32.new.t ≡ length a.area.now =
     ap length c.put_u32.ensures
     ∙ length-paste a.area.now c.work_at-at.result (write_number 4 n) 4
     (omega (arith, l, c.work_at-at.ensures)) (omega (arith, length-number 4 n))
     in
-    (omega (arith, l, k, c.work_at-at.ensures, c.if-s-n.false, z.frame, z.pieces), omega arith)
+    (omega (arith, l, same, c.work_at-at.ensures, c.if-s-n.false, z.frame, z.pieces), omega arith)
 
 pub returns : goal.returns
 returns c =
-    let enters : let a = c.args in (passes a.s ≡ true) × ((leb (area_size a.s) (length a.area.now)) ≡ true) × (ltb a.own a.s.m ≡ true) × (is_some (read_client a.s (record_of a.p a.area.now)) ≡ true) =
     let a = c.args in
-    let l = c.area_long-enough in
-    gated_open a.s a.p a.area.now (leb (area_size a.s) (length a.area.now)) l.result (ltb a.own a.s.m) l.ensures c.admit-g.result c.admit-g.ensures c.in_default.is in
-    let opened : let a = c.args in Opened a.s a.p a.area.now =
-    let e = enters in
-    record { measures = e.0; step = omega arith; reading = omega arith; bytes = λ i. let b : Fits w8 (get_or c.args.area.now i 0) = search rules in b.fits; reads = e.3 } in
-    let long : let a = c.args in leb (client_size a.s) (length (record_of a.p a.area.now)) ≡ true =
-    let a = c.args in long_record a.s a.p a.area.now ∙ enters.1 in
-    let a = c.args in
+    let k = (goal.at.returns c).In_ok-admit in
+    let e = entered k in
     let n = length a.page.now in
-    let e = ends-two _ _ (deposit-begun a.s a.own a.p a.area.now opened enters.2 a.page.now long c.if-p-ne-IDLE.false
+    let z = ends-two _ _ (deposit-begun a.s a.own a.p a.area.now e.opened e.within a.page.now (long k) c.if-p-ne-IDLE.false
     (λ i. (c.type_inv.page i).fits) c.if-s-n.false)
     in
     let x : c.copy.new.dst ≡ paste (paste a.area.now (work_at a.s) (write_number 4 n) 4) (work_at a.s + 4) a.page.now n =
     c.copy.ensures ∙ ap (λ (l : List ℕ). paste l (c.work_at-at.result + 4) a.page.now n) c.put_u32.ensures
-    ∙ ap (λ (k : ℕ). paste (paste a.area.now k (write_number 4 n) 4) (k + 4) a.page.now n) c.work_at-at.ensures
+    ∙ ap (λ (j : ℕ). paste (paste a.area.now j (write_number 4 n) 4) (j + 4) a.page.now n) c.work_at-at.ensures
     in
-    (e.0, ap (λ (l : List ℕ). record_of (record { step = 1; reading = a.p.reading }) l) x ∙ e.1)
+    (z.0, ap (λ (l : List ℕ). record_of (record { step = 1; reading = a.p.reading }) l) x ∙ z.1)

@@ -9,66 +9,58 @@ use lib.ListN.{length}
 use Rattle.coding.proofs.Cases.{and-true}
 use Rattle.parties.specs.protocol.Measures.{passes}
 use Rattle.parties.specs.protocol.Answer.{refused}
-use Rattle.parties.specs.protocol.Client.{read_client, client_size}
+use Rattle.parties.specs.protocol.Client.{client_size}
 use Rattle.parties.specs.protocol.ClientEvents.{unchanged, acknowledged_at, room_size}
 use Rattle.parties.specs.records.Answer.{number}
-use Rattle.parties.specs.client.Record.{record_of, area_size, is_some}
-use Rattle.parties.proofs.client.GateLaws.{gated_open, gated_shut, Opened}
+use Rattle.parties.specs.client.Record.{record_of, area_size}
+use Rattle.parties.proofs.client.GateLaws.{gated_shut, Entered, enters, handed}
 use Rattle.parties.proofs.client.StartLaws.{ends_three, both_long, update_shut, update_other, update-freezing, update-picking}
 use Rattle.parties.proofs.client.turn.update_answer.Goals as goal
+use Rattle.parties.proofs.client.turn.update_answer.Goals.{In_ok-admit, in-3, in-5}
 
-pub admit-g-requires : goal.admit-g-requires
-admit-g-requires c = let a = c.args in λ e. leb-true (area_size a.s) (length a.area.now) (and-true (leb (area_size a.s) (length a.area.now)) _ (and-true (passes a.s) _ (sym c.area_and_room_long-enough.ensures ∙ e)).1).0
+pub admit-requires : goal.admit-requires
+admit-requires c =
+    let a = c.args in
+    λ e.
+    leb-true (area_size a.s) (length a.area.now)
+    (and-true (leb (area_size a.s) (length a.area.now)) _ (and-true (passes a.s) _ (sym c.area_and_room_long-enough.ensures ∙ e)).1).0
 
-pub returns-in-Shut : goal.returns-in-Shut
-returns-in-Shut c =
+pub returns-in_err-admit : goal.returns-in_err-admit
+returns-in_err-admit c =
     let a = c.args in
     let l = c.area_and_room_long-enough in
-    let k = c.admit-g in
-    let n = c.in-Shut.r in
-    rw c.refuse.ensures (ends_three _ _ (update_shut a.s a.own a.p a.area.now a.room.now
-    (unchanged (refused (number n)) (record_of a.p a.area.now) a.room.now [])
-    (gated_shut a.s a.p a.area.now (leb (area_size a.s) (length a.area.now) && leb (room_size a.s) (length a.room.now)) l.result (ltb a.own a.s.m) l.ensures k.result k.ensures n c.in-Shut.is
-    a.room.now [] (λ k. acknowledged_at k a.room.now k.phase))))
+    let n = c.in_err-admit.field-0.0 in
+    rw (handed n _ c.from_residual.ensures.1)
+    (ends_three _ _ (update_shut a.s a.own a.p a.area.now a.room.now (unchanged (refused (number n)) (record_of a.p a.area.now) a.room.now [])
+    (gated_shut a.s a.p a.area.now (leb (area_size a.s) (length a.area.now) && leb (room_size a.s) (length a.room.now)) l.result (ltb a.own a.s.m)
+    l.ensures c.admit.result c.admit.ensures n c.in_err-admit.was a.room.now [] (λ k. acknowledged_at k a.room.now k.phase))))
 
-pub returns-then-p-eq-UPDATING : goal.returns-then-p-eq-UPDATING
-returns-then-p-eq-UPDATING c =
-    let enters : let a = c.args in (passes a.s ≡ true) × ((leb (area_size a.s) (length a.area.now) && leb (room_size a.s) (length a.room.now)) ≡ true) × (ltb a.own a.s.m ≡ true) × (is_some (read_client a.s (record_of a.p a.area.now)) ≡ true) =
+-- the gate lets the event through
+entered : (c : In_ok-admit) → let a = c.args in
+    Entered a.s a.p a.area.now (leb (area_size a.s) (length a.area.now) && leb (room_size a.s) (length a.room.now)) (ltb a.own a.s.m)
+entered c =
     let a = c.args in
     let l = c.area_and_room_long-enough in
-    gated_open a.s a.p a.area.now (leb (area_size a.s) (length a.area.now) && leb (room_size a.s) (length a.room.now)) l.result (ltb a.own a.s.m) l.ensures c.admit-g.result c.admit-g.ensures c.in_default.is in
-    let opened : let a = c.args in Opened a.s a.p a.area.now =
-    let e = enters in
-    record { measures = e.0; step = omega arith; reading = omega arith; bytes = λ i. let b : Fits w8 (get_or c.args.area.now i 0) = search rules in b.fits; reads = e.3 } in
-    let long : let a = c.args in (leb (client_size a.s) (length (record_of a.p a.area.now)) && leb (room_size a.s) (length a.room.now)) ≡ true =
-    let a = c.args in both_long a.s a.own a.p a.area.now a.room.now ∙ enters.1 in
-    let a = c.args in
-    ends_three _ _ (update-freezing a.s a.own a.p a.area.now opened enters.2 a.room.now long c.if-p-eq-UPDATING.true)
+    enters a.s a.p a.area.now (leb (area_size a.s) (length a.area.now) && leb (room_size a.s) (length a.room.now)) l.result (ltb a.own a.s.m) l.ensures
+    c.admit.result c.admit.ensures _ c.in_ok-admit.was (omega arith) (omega arith)
+    (λ i. let b : Fits w8 (get_or c.args.area.now i 0) = search rules in b.fits)
 
-pub returns-then-p-eq-RAISING : goal.returns-then-p-eq-RAISING
-returns-then-p-eq-RAISING c =
-    let enters : let a = c.args in (passes a.s ≡ true) × ((leb (area_size a.s) (length a.area.now) && leb (room_size a.s) (length a.room.now)) ≡ true) × (ltb a.own a.s.m ≡ true) × (is_some (read_client a.s (record_of a.p a.area.now)) ≡ true) =
+long : (c : In_ok-admit) → let a = c.args in (leb (client_size a.s) (length (record_of a.p a.area.now)) && leb (room_size a.s) (length a.room.now)) ≡ true
+long c = let a = c.args in both_long a.s a.own a.p a.area.now a.room.now ∙ (entered c).enough
+
+pub returns-in_default : goal.returns-in_default
+returns-in_default c =
     let a = c.args in
-    let l = c.area_and_room_long-enough in
-    gated_open a.s a.p a.area.now (leb (area_size a.s) (length a.area.now) && leb (room_size a.s) (length a.room.now)) l.result (ltb a.own a.s.m) l.ensures c.admit-g.result c.admit-g.ensures c.in_default.is in
-    let opened : let a = c.args in Opened a.s a.p a.area.now =
-    let e = enters in
-    record { measures = e.0; step = omega arith; reading = omega arith; bytes = λ i. let b : Fits w8 (get_or c.args.area.now i 0) = search rules in b.fits; reads = e.3 } in
-    let long : let a = c.args in (leb (client_size a.s) (length (record_of a.p a.area.now)) && leb (room_size a.s) (length a.room.now)) ≡ true =
-    let a = c.args in both_long a.s a.own a.p a.area.now a.room.now ∙ enters.1 in
-    let a = c.args in
-    ends_three _ _ (update-picking a.s a.own a.p a.area.now opened enters.2 a.room.now long c.if-p-eq-RAISING.true)
+    let k = (goal.at.returns-in_default c).In_ok-admit in
+    let e = entered k in
+    ends_three _ _ (update_other a.s a.own a.p a.area.now e.opened e.within a.room.now (long k) (λ x. omega arith) (λ x. omega arith))
 
 pub returns : goal.returns
 returns c =
-    let enters : let a = c.args in (passes a.s ≡ true) × ((leb (area_size a.s) (length a.area.now) && leb (room_size a.s) (length a.room.now)) ≡ true) × (ltb a.own a.s.m ≡ true) × (is_some (read_client a.s (record_of a.p a.area.now)) ≡ true) =
     let a = c.args in
-    let l = c.area_and_room_long-enough in
-    gated_open a.s a.p a.area.now (leb (area_size a.s) (length a.area.now) && leb (room_size a.s) (length a.room.now)) l.result (ltb a.own a.s.m) l.ensures c.admit-g.result c.admit-g.ensures c.in_default.is in
-    let opened : let a = c.args in Opened a.s a.p a.area.now =
-    let e = enters in
-    record { measures = e.0; step = omega arith; reading = omega arith; bytes = λ i. let b : Fits w8 (get_or c.args.area.now i 0) = search rules in b.fits; reads = e.3 } in
-    let long : let a = c.args in (leb (client_size a.s) (length (record_of a.p a.area.now)) && leb (room_size a.s) (length a.room.now)) ≡ true =
-    let a = c.args in both_long a.s a.own a.p a.area.now a.room.now ∙ enters.1 in
-    let a = c.args in
-    rw c.refuse-2.ensures (ends_three _ _ (update_other a.s a.own a.p a.area.now opened enters.2 a.room.now long c.if-p-eq-UPDATING.false c.if-p-eq-RAISING.false))
+    let k = (goal.at.returns c).In_ok-admit in
+    let e = entered k in
+    elim c.match-p.branch [
+      | in-3 w ↦ rw w.step-is (ends_three _ _ (update-freezing a.s a.own a.p a.area.now e.opened e.within a.room.now (long k) w.in-3.is))
+      | in-5 w ↦ rw w.step-is (ends_three _ _ (update-picking a.s a.own a.p a.area.now e.opened e.within a.room.now (long k) w.in-5.is))
+    ]

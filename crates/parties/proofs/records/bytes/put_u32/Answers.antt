@@ -1,16 +1,7 @@
-use native.Mathlib.Omega.{arith}
-use lib.ListN.{length-set}
-use Rattle.parties.proofs.records.BytesLaws.{put_four}
+use Rattle.std.proofs.Math.Nat.{div-div-eq-div-mul}
+use Rattle.parties.specs.protocol.Format.{write_number}
 use Rattle.parties.proofs.records.bytes.put_u32.Goals as goal
 
-pub bounds-t-at-2 : goal.bounds-t-at-2
-bounds-t-at-2 c = simp length-set (omega arith)
-
-pub bounds-t-at-3 : goal.bounds-t-at-3
-bounds-t-at-3 c = simp length-set (omega arith)
-
-pub bounds-t-at-4 : goal.bounds-t-at-4
-bounds-t-at-4 c = simp length-set (omega arith)
-
 pub returns : goal.returns
-returns c = put_four _ _ _ c.requires
+unfolding write_number
+returns c = simp div-div-eq-div-mul (rw c.to_be_bytes.ensures at c.copy.ensures)

@@ -1,82 +1,43 @@
-use Prim.Native.Nat.{◌/◌, ◌%◌}
-use native.Mathlib.Omega.{arith}
-use lib.ListN.{drop}
-use Rattle.parties.specs.protocol.Directory.{Field}
+use mathlib.Core.Path.{sym, subst}
 use Rattle.parties.proofs.protocol.formats.MeasureLaws.{passed}
-use Rattle.parties.specs.records.Form.{pointer_by, after}
-use Rattle.parties.proofs.records.FormLaws.{Goes, formed_sound, formed_broken}
+use Rattle.parties.specs.records.Form.{pointer_by, Parted}
+use Rattle.parties.proofs.records.FormLaws.{formed_sound, formed_broken}
 use Rattle.parties.proofs.records.RecordLaws.{broken-written, broken-frozen, broken-indices, broken-index}
 use Rattle.parties.proofs.records.form.field_ends.Goals as goal
 
-pub returns-in_default : goal.returns-in_default
-returns-in_default c =
+pub returns-in_err-written : goal.returns-in_err-written
+returns-in_err-written c =
     let a = c.args in
-    broken-written a.s (pointer_by a.s a.rule) a.t.now a.at a.map (formed_broken _ _ _ _ c.pointers_if.ensures c.in_default.is)
+    subst (Parted a.s.measures a.rule a.t.now a.at a.map) (sym c.from_residual.ensures)
+    (broken-written a.s.measures (pointer_by a.s.measures a.rule) a.t.now a.at a.map (formed_broken _ _ _ _ c.pointers_if.ensures c.in_err-written.was))
 
-pub pointers_if-requires-2 : goal.pointers_if-requires-2
-pointers_if-requires-2 c =
-    let one : let a = c.args in Goes a.t.now a.at c.in-Sound.written (after (pointer_by a.s a.rule) (Field.pointers 1) (a.map % 2) (drop a.at a.t.now)) =
-    formed_sound _ _ _ _ _ c.pointers_if.ensures c.in-Sound.is in
-    (c.requires.0, one.to)
-
-pub returns-in_default-pointers_if : goal.returns-in_default-pointers_if
-returns-in_default-pointers_if c =
-    let one : let a = c.args in Goes a.t.now a.at c.in-Sound.written (after (pointer_by a.s a.rule) (Field.pointers 1) (a.map % 2) (drop a.at a.t.now)) =
-    formed_sound _ _ _ _ _ c.pointers_if.ensures c.in-Sound.is in
+pub returns-in_err-frozen : goal.returns-in_err-frozen
+returns-in_err-frozen c =
     let a = c.args in
-    broken-frozen a.s (pointer_by a.s a.rule) a.t.now a.at a.map c.in-Sound.written one.left (formed_broken _ _ _ _ c.pointers_if-2.ensures c.in_default-pointers_if.is)
+    let one = formed_sound _ _ _ _ _ c.pointers_if.ensures c.in_ok-written.was in
+    subst (Parted a.s.measures a.rule a.t.now a.at a.map) (sym c.from_residual-in_err-frozen.ensures)
+    (broken-frozen a.s.measures (pointer_by a.s.measures a.rule) a.t.now a.at a.map _ one.left (formed_broken _ _ _ _ c.pointers_if-2.ensures c.in_err-frozen.was))
 
 pub indices_if-requires : goal.indices_if-requires
 indices_if-requires c =
-    let two : let a = c.args in let at = c.in-Sound.written in Goes a.t.now at c.in-Sound-pointers_if.frozen (after (pointer_by a.s a.rule) (Field.pointers a.s.m) (a.map / 2 % 2) (drop at a.t.now)) =
-    formed_sound _ _ _ _ _ c.pointers_if-2.ensures c.in-Sound-pointers_if.is in
-    ((passed c.args.s c.requires.0).clients.1, two.to)
+    let two = formed_sound _ _ _ _ _ c.pointers_if-2.ensures c.in_ok-frozen.was in ((passed c.args.s.measures c.args.s.pass).clients.1, two.to)
 
-pub returns-in_default-indices_if : goal.returns-in_default-indices_if
-returns-in_default-indices_if c =
-    let one : let a = c.args in Goes a.t.now a.at c.in-Sound.written (after (pointer_by a.s a.rule) (Field.pointers 1) (a.map % 2) (drop a.at a.t.now)) =
-    formed_sound _ _ _ _ _ c.pointers_if.ensures c.in-Sound.is in
-    let two : let a = c.args in let at = c.in-Sound.written in Goes a.t.now at c.in-Sound-pointers_if.frozen (after (pointer_by a.s a.rule) (Field.pointers a.s.m) (a.map / 2 % 2) (drop at a.t.now)) =
-    formed_sound _ _ _ _ _ c.pointers_if-2.ensures c.in-Sound-pointers_if.is in
+pub returns-in_err-indices : goal.returns-in_err-indices
+returns-in_err-indices c =
     let a = c.args in
-    broken-indices a.s (pointer_by a.s a.rule) a.t.now a.at a.map c.in-Sound.written c.in-Sound-pointers_if.frozen one.left two.left (formed_broken _ _ _ _ (c.indices_if.ensures _) c.in_default-indices_if.is)
+    let one = formed_sound _ _ _ _ _ c.pointers_if.ensures c.in_ok-written.was in
+    let two = formed_sound _ _ _ _ _ c.pointers_if-2.ensures c.in_ok-frozen.was in
+    subst (Parted a.s.measures a.rule a.t.now a.at a.map) (sym c.from_residual-in_err-indices.ensures)
+    (broken-indices a.s.measures (pointer_by a.s.measures a.rule) a.t.now a.at a.map _ _ one.left two.left
+    (formed_broken _ _ _ _ (c.indices_if.ensures (pointer_by a.s.measures a.rule)) c.in_err-indices.was))
 
-pub indices_if-requires-2 : goal.indices_if-requires-2
-indices_if-requires-2 c =
-    let three : let a = c.args in let at = c.in-Sound-pointers_if.frozen in Goes a.t.now at c.in-Sound-indices_if.indices (after (pointer_by a.s a.rule) (Field.indices a.s.m) (a.map / 2 / 2 % 2) (drop at a.t.now)) =
-    formed_sound _ _ _ _ _ (c.indices_if.ensures _) c.in-Sound-indices_if.is in
-    (omega arith, three.to)
-
-pub returns-in_default-indices_if-2 : goal.returns-in_default-indices_if-2
-returns-in_default-indices_if-2 c =
-    let one : let a = c.args in Goes a.t.now a.at c.in-Sound.written (after (pointer_by a.s a.rule) (Field.pointers 1) (a.map % 2) (drop a.at a.t.now)) =
-    formed_sound _ _ _ _ _ c.pointers_if.ensures c.in-Sound.is in
-    let two : let a = c.args in let at = c.in-Sound.written in Goes a.t.now at c.in-Sound-pointers_if.frozen (after (pointer_by a.s a.rule) (Field.pointers a.s.m) (a.map / 2 % 2) (drop at a.t.now)) =
-    formed_sound _ _ _ _ _ c.pointers_if-2.ensures c.in-Sound-pointers_if.is in
-    let three : let a = c.args in let at = c.in-Sound-pointers_if.frozen in Goes a.t.now at c.in-Sound-indices_if.indices (after (pointer_by a.s a.rule) (Field.indices a.s.m) (a.map / 2 / 2 % 2) (drop at a.t.now)) =
-    formed_sound _ _ _ _ _ (c.indices_if.ensures _) c.in-Sound-indices_if.is in
+pub returns-in_err-index : goal.returns-in_err-index
+returns-in_err-index c =
     let a = c.args in
-    broken-index a.s (pointer_by a.s a.rule) a.t.now a.at a.map c.in-Sound.written c.in-Sound-pointers_if.frozen c.in-Sound-indices_if.indices one.left two.left three.left
-    (formed_broken _ _ _ _ (c.indices_if-2.ensures _) c.in_default-indices_if-2.is)
-
-pub returns : goal.returns
-returns c =
-    let one : let a = c.args in Goes a.t.now a.at c.in-Sound.written (after (pointer_by a.s a.rule) (Field.pointers 1) (a.map % 2) (drop a.at a.t.now)) =
-    formed_sound _ _ _ _ _ c.pointers_if.ensures c.in-Sound.is in
-    let two : let a = c.args in let at = c.in-Sound.written in Goes a.t.now at c.in-Sound-pointers_if.frozen (after (pointer_by a.s a.rule) (Field.pointers a.s.m) (a.map / 2 % 2) (drop at a.t.now)) =
-    formed_sound _ _ _ _ _ c.pointers_if-2.ensures c.in-Sound-pointers_if.is in
-    let three : let a = c.args in let at = c.in-Sound-pointers_if.frozen in Goes a.t.now at c.in-Sound-indices_if.indices (after (pointer_by a.s a.rule) (Field.indices a.s.m) (a.map / 2 / 2 % 2) (drop at a.t.now)) =
-    formed_sound _ _ _ _ _ (c.indices_if.ensures _) c.in-Sound-indices_if.is in
-    let four : let a = c.args in let at = c.in-Sound-indices_if.indices in Goes a.t.now at c.in-Sound-indices_if-2.index (after (pointer_by a.s a.rule) (Field.indices 1) (a.map / 2 / 2 / 2 % 2) (drop at a.t.now)) =
-    formed_sound _ _ _ _ _ (c.indices_if-2.ensures _) c.in-Sound-indices_if-2.is in
-    let g = one in
-    let h = two in
-    let i = three in
-    let j = four in
-    record {
-      written = g.left;
-      frozen = h.left;
-      indices = i.left;
-      index = j.left;
-      ordered = (g.from, h.from, i.from, j.from, j.to);
-    }
+    let p = pointer_by a.s.measures a.rule in
+    let one = formed_sound _ _ _ _ _ c.pointers_if.ensures c.in_ok-written.was in
+    let two = formed_sound _ _ _ _ _ c.pointers_if-2.ensures c.in_ok-frozen.was in
+    let three = formed_sound _ _ _ _ _ (c.indices_if.ensures p) c.in_ok-indices.was in
+    subst (Parted a.s.measures a.rule a.t.now a.at a.map) (sym c.from_residual-in_err-index.ensures)
+    (broken-index a.s.measures p a.t.now a.at a.map _ _ _ one.left two.left three.left
+    (formed_broken _ _ _ _ (c.indices_if-2.ensures p) c.in_err-index.was))

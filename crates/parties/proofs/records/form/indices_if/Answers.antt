@@ -11,15 +11,6 @@ use Rattle.parties.proofs.records.FormLaws.{fixed_fits, fixed_short}
 use Rattle.parties.proofs.records.RecordLaws.{fixed_indices}
 use Rattle.parties.proofs.records.form.indices_if.Goals as goal
 
-pub returns-then-not-stands : goal.returns-then-not-stands
-returns-then-not-stands c = λ p.
-    let a = c.args in
-    let u = drop a.at a.t.now in
-    record {
-      told = sym (ap (λ (b : Bool). cond b (rest (read_content p (Field.indices a.n) u)) (some u)) (c.if-not-stands.true));
-      within = (omega arith, c.requires.1);
-    }
-
 pub returns-then-t-at : goal.returns-then-t-at
 returns-then-t-at c = λ p.
     let a = c.args in

@@ -13,7 +13,7 @@ pub returns-then-left-lt7 : goal.returns-then-left-lt7
 returns-then-left-lt7 c =
     let a = c.args in
     record {
-      told = sym (pointer-short a.s a.rule (drop a.at a.t.now) (omega (arith, length-drop a.at a.t.now)));
+      told = sym (pointer-short a.s.measures a.rule (drop a.at a.t.now) (omega (arith, length-drop a.at a.t.now)));
       within = tt;
     }
 
@@ -37,7 +37,7 @@ returns-then-not-allowed c =
     let p = c.allowed in
     let r = c.if-left-lt7.false in
     record {
-      told = sym (pointer_improper a.s a.rule a.t.now a.at v.result m.result r (version-read a.t.now a.at v.result v.ensures (omega arith)) m.ensures
+      told = sym (pointer_improper a.s.measures a.rule a.t.now a.at v.result m.result r (version-read a.t.now a.at v.result v.ensures (omega arith)) m.ensures
           (sym p.ensures ∙ c.if-not-allowed.true));
       within = tt;
     }
@@ -51,7 +51,7 @@ returns-then-left-size c =
     let r = c.if-left-lt7.false in
     let e : c.count-nodes.result ≡ count m.result = c.count-nodes.ensures in
     record {
-      told = sym (pointer-long a.s a.rule a.t.now a.at v.result m.result r (version-read a.t.now a.at v.result v.ensures (omega arith)) m.ensures
+      told = sym (pointer-long a.s.measures a.rule a.t.now a.at v.result m.result r (version-read a.t.now a.at v.result v.ensures (omega arith)) m.ensures
           (sym p.ensures ∙ c.if-not-allowed.false) (omega arith));
       within = tt;
     }
@@ -66,7 +66,7 @@ returns c =
     let e : c.count-nodes.result ≡ count m.result = c.count-nodes.ensures in
     record {
       told = ap (λ (k : ℕ). some (drop (a.at + (7 + 32 * k)) a.t.now)) e
-          ∙ sym (pointer-sound a.s a.rule a.t.now a.at v.result m.result r (version-read a.t.now a.at v.result v.ensures (omega arith)) m.ensures
+          ∙ sym (pointer-sound a.s.measures a.rule a.t.now a.at v.result m.result r (version-read a.t.now a.at v.result v.ensures (omega arith)) m.ensures
           (sym p.ensures ∙ c.if-not-allowed.false) (omega arith));
       within = (omega arith, omega arith);
     }

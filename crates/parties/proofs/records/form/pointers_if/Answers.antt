@@ -1,21 +1,11 @@
 use mathlib.Core.Path.{sym, ap, ◌∙◌}
 use mathlib.Core.Bool.{Bool, cond}
 use mathlib.Core.Option.{some}
-use native.Mathlib.Omega.{arith}
 use lib.ListN.{drop}
 use Rattle.parties.specs.protocol.Directory.{Field, read_content}
 use Rattle.parties.specs.records.Form.{rest, pointer_by}
 use Rattle.parties.proofs.records.RecordLaws.{rest-pointers}
 use Rattle.parties.proofs.records.form.pointers_if.Goals as goal
-
-pub returns-then-not-stands : goal.returns-then-not-stands
-returns-then-not-stands c =
-    let a = c.args in
-    let u = drop a.at a.t.now in
-    record {
-      told = sym (ap (λ (b : Bool). cond b (rest (read_content (pointer_by a.s a.rule) (Field.pointers a.n) u)) (some u)) (c.if-not-stands.true));
-      within = (omega arith, c.requires.1);
-    }
 
 pub returns : goal.returns
 returns c =
@@ -23,6 +13,6 @@ returns c =
     let u = drop a.at a.t.now in
     let f = c.pointers.ensures in
     record {
-      told = f.told ∙ sym (ap (λ (b : Bool). cond b (rest (read_content (pointer_by a.s a.rule) (Field.pointers a.n) u)) (some u)) (c.if-not-stands.false) ∙ rest-pointers (pointer_by a.s a.rule) a.n u);
+      told = f.told ∙ sym (ap (λ (b : Bool). cond b (rest (read_content (pointer_by a.s.measures a.rule) (Field.pointers a.n) u)) (some u)) (c.if-not-stands.false) ∙ rest-pointers (pointer_by a.s.measures a.rule) a.n u);
       within = f.within;
     }

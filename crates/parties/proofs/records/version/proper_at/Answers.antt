@@ -2,9 +2,6 @@ use mathlib.Core.Path.{◌∙◌}
 use Rattle.parties.proofs.records.PlaceLaws.{proper-told}
 use Rattle.parties.proofs.records.version.proper_at.Goals as goal
 
-pub proper-requires : goal.proper-requires
-proper-requires c = tt
-
 pub returns : goal.returns
 returns c =
     let a = c.args in

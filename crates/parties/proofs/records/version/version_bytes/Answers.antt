@@ -3,4 +3,4 @@ use Rattle.parties.proofs.records.PlaceLaws.{version-five}
 use Rattle.parties.proofs.records.version.version_bytes.Goals as goal
 
 pub returns : goal.returns
-returns c = version-five c.args.v (omega arith)
+returns c = version-five c.args.v (omega arith) c.to_be_bytes.result c.to_be_bytes.ensures

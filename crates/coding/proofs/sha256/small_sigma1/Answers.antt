@@ -1,4 +1,0 @@
-use Rattle.coding.proofs.sha256.small_sigma1.Goals as goal
-
-pub returns : goal.returns
-returns c = cc

@@ -1,7 +1,0 @@
-use Rattle.title.proofs.FreshMemoryLaws.{table_put}
-use Rattle.title.proofs.fresh.put_table.Goals as goal
-
-pub returns : goal.returns
-returns c =
-    let a = c.args in
-    let p = c.requires in table_put a.s p.0 a.memory.now a.at a.to p.2 p.1 _ c.fresh_table.ensures.1
