@@ -11,7 +11,7 @@ use native.Mathlib.Decide.{dec_lt}
 use native.Mathlib.Omega.{arith}
 use lib.ListN.{length, take, drop, length-append, length-take, length-drop}
 use lib.Seq.{take_all}
-use Rattle.std.specs.Prelude.{Ok}
+use Rattle.std.specs.Prelude.{Result, Ok, Err}
 use Rattle.std.specs.Prelude.{nat_lt, ◌==◌}
 use Rattle.std.specs.Ordering.{ord_min, nat_cmp, is_lt}
 use Rattle.std.specs.declared.cmp.Ordering.TheVariants.{Less, Equal, Greater}
@@ -26,6 +26,7 @@ use Rattle.parties.specs.protocol.Answer.{ClientAnswer as Answer, refused, waits
 use Rattle.parties.specs.protocol.ClientEvents.{room_size, message_to}
 use Rattle.parties.proofs.protocol.formats.MeasureLaws.{passed}
 use Rattle.parties.specs.declared.ClientAnswer.{ClientAnswer}
+use Rattle.parties.specs.declared.Refusal.{Refusal}
 use Rattle.parties.specs.client.Answer.{answered}
 use Rattle.parties.proofs.records.SpliceLaws.{many-append}
 use Rattle.runs.specs.Parcels.{Parcel, write_parcel, write_parcels, Appended}
@@ -102,17 +103,26 @@ sized-deposited s a v len z e = rw e at z
 -- ---- a call
 
 -- the answers that are no call
-pub no_call : (c : ℕ) (a : ClientAnswer) (room : List ℕ) → a ≢ ClientAnswer.Scan → ((len : ℕ) → a ≢ ClientAnswer.Update len) → [] ≡ call_by c (answered (Ok a)) room
-no_call c ClientAnswer.Waits room k u = refl
-no_call c ClientAnswer.Scan room k u = absurd (k refl)
-no_call c (ClientAnswer.Update len) room k u = absurd (u len refl)
-no_call c (ClientAnswer.Stores v len) room k u = refl
-no_call c (ClientAnswer.Requests v nodes) room k u = refl
-no_call c (ClientAnswer.Deposited v len) room k u = refl
-no_call c ClientAnswer.Empty room k u = refl
-no_call c (ClientAnswer.Page v len) room k u = refl
-no_call c ClientAnswer.Spent room k u = refl
-no_call c ClientAnswer.Failed room k u = refl
+pub no_call : (c : ℕ) (a : Result ClientAnswer Refusal) (room : List ℕ) → a ≢ Ok ClientAnswer.Scan → ((len : ℕ) → a ≢ Ok (ClientAnswer.Update len))
+    → [] ≡ call_by c (answered a) room
+no_call c (Err r) room k u = refl
+no_call c (Ok ClientAnswer.Waits) room k u = refl
+no_call c (Ok ClientAnswer.Scan) room k u = absurd (k refl)
+no_call c (Ok (ClientAnswer.Update len)) room k u = absurd (u len refl)
+no_call c (Ok (ClientAnswer.Stores v len)) room k u = refl
+no_call c (Ok (ClientAnswer.Requests v nodes)) room k u = refl
+no_call c (Ok (ClientAnswer.Deposited v len)) room k u = refl
+no_call c (Ok ClientAnswer.Empty) room k u = refl
+no_call c (Ok (ClientAnswer.Page v len)) room k u = refl
+no_call c (Ok ClientAnswer.Spent) room k u = refl
+no_call c (Ok ClientAnswer.Failed) room k u = refl
+
+abbrev answer_in : Result ClientAnswer Refusal → ClientAnswer
+answer_in (Ok a) = a
+answer_in (Err r) = ClientAnswer.Waits
+
+pub ok_same : (a b : ClientAnswer) → ◌≡◌ {A = Result ClientAnswer Refusal} (Ok a) (Ok b) → a ≡ b
+ok_same a b e = ap answer_in e
 
 -- ---- a message
 
@@ -128,19 +138,20 @@ module _ (s : Measures) (c i : ℕ) (a : ClientAnswer) (room : List ℕ) where
   no_request v nodes b e g t = rw (e, ← g, t) refl
 
 -- the answers with no message
-pub no_message : (s : Measures) (c i : ℕ) (a : ClientAnswer) (room : List ℕ) → ((v : Version) (len : ℕ) → a ≢ ClientAnswer.Stores v len)
-    → ((v : Version) (nodes : ℕ) → a ≢ ClientAnswer.Requests v nodes) → ((v : Version) (len : ℕ) → a ≢ ClientAnswer.Deposited v len)
-    → [] ≡ message_in c i (message_to s (answered (Ok a)) room i)
-no_message s c i ClientAnswer.Waits room k q d = refl
-no_message s c i ClientAnswer.Scan room k q d = refl
-no_message s c i (ClientAnswer.Update len) room k q d = refl
-no_message s c i (ClientAnswer.Stores v len) room k q d = absurd (k v len refl)
-no_message s c i (ClientAnswer.Requests v nodes) room k q d = absurd (q v nodes refl)
-no_message s c i (ClientAnswer.Deposited v len) room k q d = absurd (d v len refl)
-no_message s c i ClientAnswer.Empty room k q d = refl
-no_message s c i (ClientAnswer.Page v len) room k q d = refl
-no_message s c i ClientAnswer.Spent room k q d = refl
-no_message s c i ClientAnswer.Failed room k q d = refl
+pub no_message : (s : Measures) (c i : ℕ) (a : Result ClientAnswer Refusal) (room : List ℕ)
+    → ((v : Version) (len : ℕ) → a ≢ Ok (ClientAnswer.Stores v len)) → ((v : Version) (nodes : ℕ) → a ≢ Ok (ClientAnswer.Requests v nodes))
+    → ((v : Version) (len : ℕ) → a ≢ Ok (ClientAnswer.Deposited v len)) → [] ≡ message_in c i (message_to s (answered a) room i)
+no_message s c i (Err r) room k q d = refl
+no_message s c i (Ok ClientAnswer.Waits) room k q d = refl
+no_message s c i (Ok ClientAnswer.Scan) room k q d = refl
+no_message s c i (Ok (ClientAnswer.Update len)) room k q d = refl
+no_message s c i (Ok (ClientAnswer.Stores v len)) room k q d = absurd (k v len refl)
+no_message s c i (Ok (ClientAnswer.Requests v nodes)) room k q d = absurd (q v nodes refl)
+no_message s c i (Ok (ClientAnswer.Deposited v len)) room k q d = absurd (d v len refl)
+no_message s c i (Ok ClientAnswer.Empty) room k q d = refl
+no_message s c i (Ok (ClientAnswer.Page v len)) room k q d = refl
+no_message s c i (Ok ClientAnswer.Spent) room k q d = refl
+no_message s c i (Ok ClientAnswer.Failed) room k q d = refl
 
 -- ---- how long they are
 

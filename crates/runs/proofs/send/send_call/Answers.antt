@@ -1,8 +1,9 @@
+use Rattle.std.specs.Prelude.{Ok}
 use native.Mathlib.Omega.{arith}
 use lib.ListN.{length, length-take}
 use Rattle.runs.proofs.PostLaws.{appended_none}
 use Rattle.runs.proofs.SentLaws.{row_within, rows-small}
-use Rattle.runs.proofs.SendLaws.{as_sent, no_call, smaller, sized-update}
+use Rattle.runs.proofs.SendLaws.{as_sent, no_call, ok_same, smaller, sized-update}
 use Rattle.runs.proofs.send.send_call.Goals as goal
 
 pub append-requires-in-Update : goal.append-requires-in-Update
@@ -16,4 +17,4 @@ append-requires-in-Update c =
 
 pub returns-in_default : goal.returns-in_default
 returns-in_default c =
-    let a = c.args in as_sent (no_call a.c a.a a.room.now c.in_default.not-Scan c.in_default.not-Update) (appended_none _ _ (omega arith))
+    let a = c.args in as_sent (no_call a.c (Ok a.a) a.room.now (λ e. c.in_default.not-Scan (ok_same _ _ e)) (λ len e. c.in_default.not-Update len (ok_same _ _ e))) (appended_none _ _ (omega arith))

@@ -1,10 +1,11 @@
+use Rattle.std.specs.Prelude.{Ok}
 use Prim.Native.Nat.{◌+◌, ◌-◌, ◌*◌}
 use native.Mathlib.Omega.{arith}
 use lib.ListN.{length, length-take}
 use Rattle.parties.proofs.records.NodesLaws.{has_is}
 use Rattle.runs.proofs.PostLaws.{appended_none}
 use Rattle.runs.proofs.SentLaws.{room_small}
-use Rattle.runs.proofs.SendLaws.{as_sent, stores-sent, no_request, no_message, parts_fit, area_small, smaller, sized-stores, sized-deposited}
+use Rattle.runs.proofs.SendLaws.{as_sent, stores-sent, no_request, no_message, ok_same, parts_fit, area_small, smaller, sized-stores, sized-deposited}
 use Rattle.runs.proofs.send.send_message.Goals as goal
 
 pub append-requires : goal.append-requires
@@ -42,4 +43,4 @@ returns-else-has_node c =
 
 pub returns-in_default : goal.returns-in_default
 returns-in_default c =
-    let a = c.args in as_sent (no_message a.s.measures a.c a.i a.a a.room.now c.in_default.not-Stores c.in_default.not-Requests c.in_default.not-Deposited) (appended_none _ _ (omega arith))
+    let a = c.args in as_sent (no_message a.s.measures a.c a.i (Ok a.a) a.room.now (λ v len e. c.in_default.not-Stores v len (ok_same _ _ e)) (λ v nodes e. c.in_default.not-Requests v nodes (ok_same _ _ e)) (λ v len e. c.in_default.not-Deposited v len (ok_same _ _ e))) (appended_none _ _ (omega arith))
