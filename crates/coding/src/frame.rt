@@ -6,10 +6,15 @@ ghost use Rattle.coding.specs.Frame.{frame_byte};
 pub fn frame_byte(page: &[u8], p: usize) -> u8
     ensures { result ≡ frame_byte page.now p }
 {
-    if p < 4 {
-        return page.len().to_be_bytes()[4 + p];
+    let n = page.len();
+    // No `to_be_bytes`: its array would have other than sixteen numbers.
+    match p {
+        0 => (n / 256 / 256 / 256 % 256) as u8,
+        1 => (n / 256 / 256 % 256) as u8,
+        2 => (n / 256 % 256) as u8,
+        3 => (n % 256) as u8,
+        _ => page.get(p - 4).copied().unwrap_or(0),
     }
-    page.get(p - 4).copied().unwrap_or(0)
 }
 
 // 16 bytes of the page, k apart.

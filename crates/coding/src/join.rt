@@ -140,6 +140,11 @@ fn join_columns(
     ensures { (outcome result ≡ (page_end (page_of (length nodes.now) (joined f room.now nodes.now columns)) out.old).outcome)
         × (out.new ≡ (page_end (page_of (length nodes.now) (joined f room.now nodes.now columns)) out.old).out) }
 {
+    // Before the grid is inverted, which takes longer than all else of a short frame.
+    let size = columns * nodes.len();
+    if size < 4 {
+        return Err(Refusal::Form);
+    }
     let frame = Frame {
         nodes,
         f,
@@ -147,10 +152,6 @@ fn join_columns(
         room,
         grid: invert(nodes),
     };
-    let size = frame.size();
-    if size < 4 {
-        return Err(Refusal::Form);
-    }
     let len = frame.page_length();
     if size - 4 < len || nodes.len() <= size - 4 - len || !frame.zero_from(4 + len) {
         return Err(Refusal::Form);

@@ -13,15 +13,21 @@ pub returns-then-size-lt4 : goal.returns-then-size-lt4
 returns-then-size-lt4 c =
     let a = c.args in
     let fr : List ℕ = joined a.f a.room.now a.nodes.now a.columns in
-    let n : c.size-size.result ≡ length fr = c.size-size.ensures in
+    let n : a.columns * length a.nodes.now ≡ length fr = sym (length-joined a.f a.room.now a.nodes.now a.columns) in
     rw (page-short (length a.nodes.now) fr (omega arith)) (refl, refl)
+
+pub page_length-len-requires : goal.page_length-len-requires
+page_length-len-requires c = let a = c.args in omega (arith, length-joined a.f a.room.now a.nodes.now a.columns)
+
+pub zero_from-requires : goal.zero_from-requires
+zero_from-requires c = let a = c.args in omega (arith, length-joined a.f a.room.now a.nodes.now a.columns)
 
 pub returns-then-size-len : goal.returns-then-size-len
 returns-then-size-len c =
     let a = c.args in
     let k = length a.nodes.now in
     let fr : List ℕ = joined a.f a.room.now a.nodes.now a.columns in
-    let n : c.size-size.result ≡ length fr = c.size-size.ensures in
+    let n : a.columns * k ≡ length fr = sym (length-joined a.f a.room.now a.nodes.now a.columns) in
     let e : c.page_length-len.result ≡ from_four fr = c.page_length-len.ensures in
     elim c.then-size-len.branch [
       | then-size-len-via-then-size-len w ↦ rw (page-long k fr (omega arith) (omega (arith, w.if-size-len.true))) (refl, refl)
@@ -39,7 +45,6 @@ write_page-requires c =
     let a = c.args in
     let k = length a.nodes.now in
     let m : a.columns * k ≤ k * a.f = rw (mul_comm k a.f) (mul-le-mul_right k c.requires.3) in
-    let n : c.size-size.result ≡ a.columns * k = c.size-size.ensures ∙ length-joined a.f a.room.now a.nodes.now a.columns in
     omega arith
 
 pub returns : goal.returns
@@ -47,8 +52,7 @@ returns c =
     let a = c.args in
     let k = length a.nodes.now in
     let fr : List ℕ = joined a.f a.room.now a.nodes.now a.columns in
-    let n : c.size-size.result ≡ length fr = c.size-size.ensures in
-    let z : length fr ≡ a.columns * k = length-joined a.f a.room.now a.nodes.now a.columns in
+    let n : a.columns * k ≡ length fr = sym (length-joined a.f a.room.now a.nodes.now a.columns) in
     let e : c.page_length-len.result ≡ from_four fr = c.page_length-len.ensures in
     let m : a.columns * k ≤ k * a.f = rw (mul_comm k a.f) (mul-le-mul_right k c.requires.3) in
     let l : length (take (from_four fr) (drop 4 fr)) ≡ from_four fr = length-take-le (from_four fr) (drop 4 fr) (omega (arith, length-drop 4 fr)) in
