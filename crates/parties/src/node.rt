@@ -13,7 +13,7 @@ use crate::message::{free_sound, store_sound};
 use crate::protocol::measures::Passed;
 use crate::protocol::tags::{FREE, FREED, REPLY, REQUEST, STORE, STORED};
 use crate::protocol::version::NONE;
-use crate::records::bytes::{clear, copy, put_u16, u16_at, zero_run};
+use crate::records::bytes::{clear, copy, move_down, move_up, put_u16, u16_at, zero_run};
 use crate::records::places::{seek, stands};
 use crate::records::version::{proper_at, version_alone, version_at};
 use crate::{Measures, Refusal, Version};
@@ -109,7 +109,7 @@ fn insert(s: Measures, t: &mut [u8], count: usize, at: usize, b: &[u8])
     ensures { t.new ≡ inserted s t.old at (2 + count * place_size s) (brought_by b.now) (count + 1) }
 {
     let z = 7 + s.f;
-    t.copy_within(at..2 + count * z, at + z);
+    move_up(t, at, 2 + count * z, z);
     put_place(s, t, at, b);
     put_u16(t, 0, (count + 1) as u16);
 }
@@ -194,7 +194,7 @@ fn list_names(v: Version, b: &[u8], at: usize, listed: usize) -> bool
     0 < listed && version_at(b, at) == v
 }
 
-// A place goes down; most often it stays where it is.
+// Places go down; those before the first that is dropped stay where they are.
 fn lower(t: &mut [u8], from: usize, to: usize, z: usize)
     requires { (to ≤ from) × (from + z ≤ length t.old) }
     ensures { t.new ≡ splice t.old to (take z (drop from t.old)) }
@@ -202,11 +202,12 @@ fn lower(t: &mut [u8], from: usize, to: usize, z: usize)
     if from == to {
         return;
     }
-    t.copy_within(from..from + z, to);
+    move_down(t, from, from + z, from - to);
 }
 
-// Places that are not listed go down over those that are. Places and list ascend: one walk goes along both. The loop is a `while`, since
-// a step goes on along the list or along the places, and a `for` over either would need another loop inside.
+// Places that are not listed go down over those that are, each run of them by one move: those from `run` on are still to go down to `to`.
+// Places and list ascend: one walk goes along both. The loop is a `while`, since a step goes on along the list or along the places, and a
+// `for` over either would need another loop inside.
 fn release(s: Measures, t: &mut [u8], b: &[u8], count: usize, listed: usize) -> usize
     requires { Listed s t.old b.now count listed }
     ensures { Released s t.old b.now count listed t.new result }
@@ -215,6 +216,7 @@ fn release(s: Measures, t: &mut [u8], b: &[u8], count: usize, listed: usize) -> 
     let mut left = count;
     let mut at = 1;
     let mut more = listed;
+    let mut run = 2;
     let mut to = 2;
     let mut kept = 0;
     while 0 < left {
@@ -225,16 +227,18 @@ fn release(s: Measures, t: &mut [u8], b: &[u8], count: usize, listed: usize) -> 
             at += 5;
             more -= 1;
         } else if list_names(v, b, at, more) {
+            lower(t, run, to, from - run);
+            to += from - run;
             from += z;
+            run = from;
             left -= 1;
         } else {
-            lower(t, from, to, z);
-            to += z;
             kept += 1;
             from += z;
             left -= 1;
         }
     }
+    lower(t, run, to, from - run);
     kept
 }
 

@@ -1,11 +1,12 @@
 // Parcels under way, one after the other at the front of a lent slice: calls, their answers, and messages.
-ghost use Rattle.std.specs.Prelude.{◌≡◌, List, [], ◌∷◌, ◌++◌, ◌+◌, ◌-◌, ◌<◌, ◌≤◌, eqb, true, false, ◌&&◌, length, take, get_or};
+ghost use Rattle.std.specs.Prelude.{◌≡◌, List, [], ◌∷◌, ◌++◌, ◌+◌, ◌-◌, ◌<◌, ◌≤◌, eqb, true, false, ◌&&◌, length, take, drop, get_or};
+ghost use Rattle.std.proofs.Math.Option.{some};
+ghost use Rattle.std.proofs.Math.Seq.{paste};
 ghost use Rattle.parties.specs.protocol.Measures.{passes};
-ghost use Rattle.parties.specs.protocol.Format.{write_number};
+ghost use Rattle.parties.specs.protocol.Format.{read_number, write_number};
 ghost use Rattle.runs.specs.Parcels.{Parcel, kind_of, ReadsKind, proper_key, Heads, Looks, Follows, Sounds, Appended, Removed};
 
 use parties::protocol::measures::Passed;
-use parties::records::bytes::{copy, put_u32, u32_at};
 use parties::{Measures, Refusal};
 use std::ops::Range;
 
@@ -108,6 +109,15 @@ pub fn key_at(s: Measures, post: &[u8], at: usize) -> Result<Key, Refusal>
     Ok(key)
 }
 
+// The length that the parcel at a place says.
+fn length_at(post: &[u8], at: usize) -> usize
+    requires { at + 7 ≤ length post.now }
+    ensures { read_number 4 (drop (at + 3) post.now) ≡ some (record { value = result; rest = drop (at + 7) post.now }) }
+{
+    let p = at + 3;
+    u32::from_be_bytes([post[p], post[p + 1], post[p + 2], post[p + 3]]) as usize
+}
+
 // Where the parcel at a place ends.
 fn next(s: Passed, post: &[u8], used: usize, at: usize) -> Result<usize, Refusal>
     requires { (at < used) × (used ≤ length post.now) }
@@ -117,7 +127,7 @@ fn next(s: Passed, post: &[u8], used: usize, at: usize) -> Result<usize, Refusal
         return Err(Refusal::Form);
     }
     key_at(s.measures, post, at)?;
-    let len = u32_at(post, at + 3) as usize;
+    let len = length_at(post, at);
     if used - at - HEADING < len {
         return Err(Refusal::Form);
     }
@@ -162,6 +172,14 @@ pub fn remove(post: &mut [u8], used: usize, place: Range<usize>) -> usize
     used - (place.end - place.start)
 }
 
+// Bytes over those at a place.
+fn put(post: &mut [u8], at: usize, bytes: &[u8])
+    requires { at + length bytes.now ≤ length post.old }
+    ensures { post.new ≡ paste post.old at bytes.now (length bytes.now) }
+{
+    post[at..at + bytes.len()].copy_from_slice(bytes);
+}
+
 // A parcel's first seven bytes.
 fn put_heading(post: &mut [u8], used: usize, key: Key, len: u32)
     requires { used + 7 ≤ length post.old }
@@ -170,7 +188,7 @@ fn put_heading(post: &mut [u8], used: usize, key: Key, len: u32)
     post[used] = u8::from(key.kind);
     post[used + 1] = (key.client % 256) as u8;
     post[used + 2] = (key.node % 256) as u8;
-    put_u32(post, used + 3, len);
+    put(post, used + 3, &len.to_be_bytes());
 }
 
 // A parcel more, its bytes in two parts.
@@ -181,7 +199,8 @@ pub fn append(post: &mut [u8], used: usize, key: Key, front: &[u8], rest: &[u8])
     let first = front.len();
     let len = first + rest.len();
     put_heading(post, used, key, len as u32);
-    copy(post, used + HEADING, front, 0, first);
-    copy(post, used + HEADING + first, rest, 0, rest.len());
-    used + HEADING + len
+    let at = used + HEADING;
+    put(post, at, front);
+    put(post, at + first, rest);
+    at + len
 }

@@ -1,7 +1,7 @@
 // What the programs that execute vectors have in common: bytes to work on, sums of them, and printing.
 #![tactic(auto)]
 
-ghost use Rattle.std.specs.Prelude.{◌≡◌, ◌+◌, ◌<◌, ◌++◌, ◌≤◌, length, take, drop, Option, None, IfSome, IfOk, OnOk, OnErr, codes, decimal};
+ghost use Rattle.std.specs.Prelude.{◌≡◌, ◌+◌, ◌<◌, ◌++◌, ◌≤◌, length, take, drop, replicate, Option, None, IfSome, IfOk, OnOk, OnErr, codes, decimal};
 ghost use Rattle.std.specs.Io.KnownBytes.{Appends, Consumes, IsAtEnd};
 ghost use Rattle.std.specs.Int.{from_be_bytes, w16, w32, w64};
 ghost use Rattle.vectors.specs.Bytes.{poison_of, checksum_from, chained_from, hex_pair, few_of};
@@ -36,34 +36,39 @@ pub fn chained(sum: usize, s: &[u8]) -> usize
     (sum % 4294967296 * 31 + checksum(s)) % 4294967296
 }
 
-// The N bytes from a place on.
+// The N bytes from a place on; zeros, where a slice has fewer there.
 fn bytes<const N: usize>(s: &[u8], at: usize) -> [u8; N]
-    requires { at + N ≤ length s.now }
-    ensures { result ≡ take N (drop at s.now) }
+    ensures there { at + N ≤ length s.now → result ≡ take N (drop at s.now) }
+    ensures short { length s.now < at + N → result ≡ replicate N 0 }
 {
-    *s[at..].first_chunk().unwrap()
+    if at <= s.len() {
+        if let Some(bytes) = s[at..].first_chunk() {
+            return *bytes;
+        }
+    }
+    [0; N]
 }
 
-// The number that so many bytes from a place on are, high byte first.
+// The number that so many bytes from a place on are, high byte first; 0, where a slice has fewer there.
 pub fn two(s: &[u8], at: usize) -> usize
-    requires { at + 2 ≤ length s.now }
-    ensures value { result ≡ from_be_bytes w16 (take 2 (drop at s.now)) }
+    ensures value { at + 2 ≤ length s.now → result ≡ from_be_bytes w16 (take 2 (drop at s.now)) }
+    ensures short { length s.now < at + 2 → result ≡ 0 }
     ensures bound { result < 65536 }
 {
     usize::from(u16::from_be_bytes(bytes(s, at)))
 }
 
 pub fn four(s: &[u8], at: usize) -> usize
-    requires { at + 4 ≤ length s.now }
-    ensures value { result ≡ from_be_bytes w32 (take 4 (drop at s.now)) }
+    ensures value { at + 4 ≤ length s.now → result ≡ from_be_bytes w32 (take 4 (drop at s.now)) }
+    ensures short { length s.now < at + 4 → result ≡ 0 }
     ensures bound { result < 4294967296 }
 {
     u32::from_be_bytes(bytes(s, at)) as usize
 }
 
 pub fn eight(s: &[u8], at: usize) -> usize
-    requires { at + 8 ≤ length s.now }
-    ensures value { result ≡ from_be_bytes w64 (take 8 (drop at s.now)) }
+    ensures value { at + 8 ≤ length s.now → result ≡ from_be_bytes w64 (take 8 (drop at s.now)) }
+    ensures short { length s.now < at + 8 → result ≡ 0 }
 {
     usize::from_be_bytes(bytes(s, at))
 }

@@ -1,12 +1,12 @@
 -- Kept places go down over dropped ones: the invariant of that walk, one law for each turn.
-use mathlib.Core.Path.{◌≡◌, sym, ap, ◌∙◌}
+use mathlib.Core.Path.{◌≡◌, refl, sym, ap, subst, ◌∙◌}
 use mathlib.Core.Bool.{true, false}
 use mathlib.Core.List.{List, [], ◌++◌, append_assoc, append-nil}
 use Prim.Native.Nat.{ℕ, suc, ◌+◌, ◌-◌, ◌*◌, ◌<◌, ◌≤◌}
 use native.Mathlib.Nat.{zero-mul}
 use native.Mathlib.Omega.{arith}
-use lib.ListN.{length, get_or, take, drop, length-append}
-use lib.Seq.{take_at, drop_at, drop-drop, get_or-drop, length-take-le}
+use lib.ListN.{length, get_or, take, drop, length-append, length-drop}
+use lib.Seq.{take_at, drop_at, drop-drop, get_or-drop, length-take-le, take-add}
 use Rattle.coding.specs.Bytes.{Bytes}
 use Rattle.coding.proofs.BytesLaws.{stride}
 use Rattle.parties.specs.declared.Measures.{Measures}
@@ -18,9 +18,9 @@ use Rattle.parties.specs.protocol.NodeTable.{Held, in_order}
 use Rattle.parties.specs.protocol.Node.{release}
 use Rattle.parties.specs.records.Places.{version_at, held_at, held_from, sound_at, every, splice, place_of}
 use Rattle.parties.specs.node.ToNode.{versions_from}
-use Rattle.parties.specs.node.NodeCode.{list_behind, list_names, Released}
+use Rattle.parties.specs.node.NodeCode.{list_behind, list_names, Listed, Released}
 use Rattle.parties.proofs.records.PositionLaws.{from-none, every_first, one_less}
-use Rattle.parties.proofs.records.SpliceLaws.{length-splice}
+use Rattle.parties.proofs.records.SpliceLaws.{length-splice, splice-next, splice_self}
 use Rattle.parties.proofs.node.ShownLaws.{place_bytes, place_fits, place_size_lem}
 use Rattle.parties.proofs.node.DropLaws.{next-order, next-ascends, walk_behind, walk_named, walk_kept}
 
@@ -190,4 +190,131 @@ module _ (s : Measures) (t₀ b : List ℕ) (n m : ℕ) (t : List ℕ) (from lef
           each = next-each;
           order = next-order z t₀ b from left at more h i.order;
           ascends = i.ascends;
+        }
+
+-- ---- a run of kept places
+
+-- the bytes from `run` to `from` are still to go down to `to`
+abbrev pub lowered_run : List ℕ → ℕ → ℕ → ℕ → List ℕ
+lowered_run t from run to = splice t to (take (from - run) (drop run t))
+
+-- the walk, once the run is down
+pub record Pending (s : Measures) (t₀ b : List ℕ) (n m : ℕ) (t : List ℕ) (from left at more run to kept : ℕ) : Type 0 where
+  pub freeing : Freeing s t₀ b n m (lowered_run t from run to) from left at more (to + (from - run)) kept
+  pub down : to ≤ run
+  pub begun : run ≤ from
+  pub behind : drop run t ≡ drop run t₀
+  pub long : length t ≡ length t₀
+
+-- no bytes
+splice-none : (t x : List ℕ) (at k : ℕ) → k ≡ 0 → splice t at (take k x) ≡ t
+splice-none t x at k e = ap (λ (j : ℕ). splice t at (take j x)) e ∙ sym (splice_self t at 0)
+
+-- before the first turn
+pub pending_first : (s : Measures) (t₀ b : List ℕ) (n m : ℕ) → Listed s t₀ b n m → Pending s t₀ b n m t₀ 2 n 1 m 2 2 0
+pending_first s t₀ b n m l =
+    record {
+      freeing =
+          subst (λ (u : List ℕ). Freeing s t₀ b n m u 2 n 1 m 2 0) (splice_self t₀ 2 0)
+          record {
+            same = refl;
+            place = omega (arith, zero-mul (place_size s));
+            lower = omega arith;
+            fewer = omega arith;
+            stop = refl;
+            inside = l.places;
+            listed = l.list;
+            rest = refl;
+            front = refl;
+            many = omega arith;
+            each = l.each;
+            order = l.order;
+            ascends = l.ascends;
+          };
+      down = omega arith;
+      begun = omega arith;
+      behind = refl;
+      long = refl;
+    }
+
+module _ (s : Measures) (t₀ b : List ℕ) (n m : ℕ) (t : List ℕ) (from left at more run to kept : ℕ) (i : Pending s t₀ b n m t from left at more run to kept) where
+  abbrev u : List ℕ
+  u = lowered_run t from run to
+
+  beyond : drop from t ≡ drop from t₀
+  beyond =
+      let e : from ≡ run + (from - run) = omega (arith, i.begun) in
+      rw e (sym (drop-drop (from - run) run t) ∙ ap (drop (from - run)) i.behind ∙ drop-drop (from - run) run t₀)
+
+  -- the code reads the table in which the run is still to go down
+  same-version : version_at t from ≡ version_at u from
+  same-version = version-same t u from (beyond ∙ sym i.freeing.rest)
+
+  pub pending_fits : from ≤ length t
+  pending_fits = omega (arith, i.freeing.stop, i.freeing.inside, i.long)
+
+  pub pending_end : left ≤ 0 → (w : List ℕ) → w ≡ lowered_run t from run to → Released s t₀ b n m w kept
+  pending_end h w e =
+      subst (λ (x : List ℕ). Released s t₀ b n m x kept) (sym e)
+      (freeing_end s t₀ b n m u from left at more (to + (from - run)) kept i.freeing h)
+
+  module _ (h : 0 < left) where
+    pub pending_behind : (v : Version) → v ≡ version_at t from → list_behind v b at more ≡ true
+        → (0 < more) × Pending s t₀ b n m t from left (at + 5) (more - 1) run to kept
+    pending_behind v e q =
+        let f = freeing_behind s t₀ b n m u from left at more (to + (from - run)) kept i.freeing h v (e ∙ same-version) q in
+        (f.0, record { freeing = f.1; down = i.down; begun = i.begun; behind = i.behind; long = i.long })
+
+    pub pending_named : (v : Version) → v ≡ version_at t from → list_names v b at more ≡ true → (w : List ℕ) → w ≡ lowered_run t from run to
+        → Pending s t₀ b n m w (from + place_size s) (left - 1) at more (from + place_size s) (to + (from - run)) kept
+    pending_named v e q w ew =
+        let next = from + place_size s in
+        let k : next - next ≡ 0 = omega arith in
+        let f = freeing_named s t₀ b n m u from left at more (to + (from - run)) kept i.freeing h v (e ∙ same-version) q in
+        let end : to + (from - run) ≡ to + (from - run) + (next - next) = omega arith in
+        record {
+          freeing =
+              subst (λ (x : ℕ). Freeing s t₀ b n m (lowered_run w next next (to + (from - run))) next (left - 1) at more x kept) end
+              (subst (λ (x : List ℕ). Freeing s t₀ b n m x next (left - 1) at more (to + (from - run)) kept)
+              (sym (splice-none w (drop next w) (to + (from - run)) (next - next) k ∙ ew)) f);
+          down = omega (arith, i.down, i.begun);
+          begun = omega arith;
+          behind = ap (drop next) ew ∙ f.rest;
+          long = ap length ew ∙ f.same;
+        }
+
+    pub pending_kept : Bytes t₀ → (v : Version) → v ≡ version_at t from → list_behind v b at more ≡ false → list_names v b at more ≡ false
+        → Pending s t₀ b n m t (from + place_size s) (left - 1) at more run to (kept + 1)
+    pending_kept bs v e p q =
+        let z = place_size s in
+        let r = drop run t in
+        let here : from ≡ run + (from - run) = omega (arith, i.begun) in
+        let fits : from + z ≤ length t =
+        omega (arith, i.long, place_inside s t₀ b n m u from left at more (to + (from - run)) kept i.freeing h)
+        in
+        let size : from + z - run ≡ from - run + z = omega (arith, i.begun) in
+        let rest : drop (from - run) r ≡ drop from t = drop-drop (from - run) run t ∙ ap (λ (x : ℕ). drop x t) (sym here) in
+        let piece : take z (drop (from - run) r) ≡ take z (drop from u) =
+        ap (take z) (rest ∙ beyond ∙ sym i.freeing.rest)
+        in
+        let first : length (take (from - run) r) ≡ from - run = length-take-le (from - run) r (omega (arith, length-drop run t, fits)) in
+        let last : length (take z (drop (from - run) r)) ≡ z =
+        length-take-le z (drop (from - run) r) (omega (arith, length-drop (from - run) r, length-drop run t, fits, i.begun))
+        in
+        let down : lowered_run t (from + z) run to ≡ splice u (to + (from - run)) (take z (drop from u)) =
+        ap (λ (x : ℕ). splice t to (take x r)) size
+        ∙ ap (splice t to) (take-add (from - run) z r)
+        ∙ sym (splice-next t to (take (from - run) r) (take z (drop (from - run) r)) (to + (from - run)) (omega (arith, first)) (omega (arith, last, fits, i.down, i.begun)))
+        ∙ ap (splice u (to + (from - run))) piece
+        in
+        let end : to + (from - run) + z ≡ to + (from + z - run) = omega (arith, size) in
+        record {
+          freeing =
+              subst (λ (x : ℕ). Freeing s t₀ b n m (lowered_run t (from + z) run to) (from + z) (left - 1) at more x (kept + 1)) end
+              (freeing_kept s t₀ b n m u from left at more (to + (from - run)) kept i.freeing h bs v (e ∙ same-version) p q
+              (lowered_run t (from + z) run to) down);
+          down = i.down;
+          begun = omega (arith, i.begun);
+          behind = i.behind;
+          long = i.long;
         }

@@ -1,20 +1,23 @@
 -- Laws of bytes in a lent slice: numbers, runs of zeros, copies and moves.
-use mathlib.Core.Path.{◌≡◌, refl, sym, ap, ◌∙◌}
+use mathlib.Core.Path.{◌≡◌, refl, sym, ap, ap₂, ◌∙◌}
 use mathlib.Core.Bool.{Bool, true, false, ◌&&◌}
 use mathlib.Core.List.{List, [], ◌∷◌, ◌++◌, append_assoc}
 use mathlib.Core.Option.{Option, some}
-use Prim.Native.Nat.{ℕ, suc, ◌+◌, ◌-◌, ◌*◌, ◌/◌, ◌%◌, ◌<◌, ◌≤◌}
-use native.Mathlib.Nat.{add-zero}
+use Prim.Native.Nat.{ℕ, zero, suc, ◌+◌, ◌-◌, ◌*◌, ◌/◌, ◌%◌, ◌<◌, ◌≤◌}
+use native.Mathlib.Nat.{add-zero, zero-mul, suc-mul}
 use native.Mathlib.Decide.{ℕ_discrete}
 use native.Mathlib.Omega.{arith}
 use borrow.Author.Tests.{eq-eqb, ne_eqb}
 use lib.Bits.{bit_or, or_add_and, and_le_l, and_le_r}
 use lib.Dec.{eqb}
 use Rattle.std.specs.List.{fold}
-use lib.ListN.{length, get_or, take, drop, set, length-drop}
-use lib.Seq.{drop-cons, take-add, drop-drop, get_or-drop, sets-eq, paste, paste-zero, paste-suc, length-paste, take-paste, drop-paste}
+use lib.ListN.{length, get_or, take, drop, set, length-drop, take-append-drop}
+use lib.Seq.{drop-cons, take-add, take-take, take-append-le, drop-drop, drop_at, get_or-drop, length-take-le, sets-eq, paste, paste-zero, paste-suc, length-paste, take-paste, drop-paste}
 use Rattle.coding.specs.Nodes.{all}
-use Rattle.coding.proofs.BytesLaws.{paste_ext, paste-after, Pasted, pasted_none, pasted_more, pasted_length, pasted_all}
+use Rattle.std.proofs.Common.{slice_index_or}
+use Rattle.std.specs.Simd.{first_chunks}
+use Rattle.coding.proofs.NodesLaws.{all_append}
+use Rattle.coding.proofs.BytesLaws.{stride, paste_ext, paste-before, paste-after, Pasted, pasted_none, pasted_more, pasted_length, pasted_all}
 use Rattle.coding.proofs.PageLaws.{some_eq}
 use Rattle.parties.specs.protocol.Format.{Read, bind, read_byte, read_number, write_number}
 
@@ -90,6 +93,27 @@ or_all a (b ∷ l) = or_all (bit_or a b) l ∙ ap (λ (x : Bool). x && all (λ b
 pub ored_zero : (l : List ℕ) → eqb (fold bit_or 0 l) 0 ≡ all (λ b. eqb b 0) l
 ored_zero l = or_all 0 l
 
+-- ---- blocks of zeros
+
+-- a block among those that stand behind each other
+block_at : (n k i : ℕ) (l : List ℕ) → i < k → slice_index_or (first_chunks n k l) i [] ≡ take n (drop (i * n) l)
+block_at n zero i l h = absurd (omega arith)
+block_at n (suc k) zero l h = let e : 0 * n ≡ 0 = zero-mul n in rw e refl
+block_at n (suc k) (suc i) l h =
+    let e : n + i * n ≡ suc i * n = omega (arith, suc-mul i n) in
+    block_at n k i (drop n l) (omega arith) ∙ ap (take n) (drop-drop (i * n) n l ∙ ap (λ (x : ℕ). drop x l) e)
+
+-- the bytes from a block on are zero if the block is and those after it are
+module _ (n k i : ℕ) (l : List ℕ) (h : i < k) (b : Bool) (e : b ≡ all (λ b. eqb b 0) (slice_index_or (first_chunks n k l) i [])) where
+  pub zeros_block : all (λ b. eqb b 0) (drop (i * n) l) ≡ (b && all (λ b. eqb b 0) (drop ((i + 1) * n) l))
+  zeros_block =
+      let f : i * n + n ≡ (i + 1) * n = omega (arith, stride i n) in
+      ap (all (λ b. eqb b 0)) (sym (take-append-drop n (drop (i * n) l)))
+      ∙ all_append (λ b. eqb b 0) (take n (drop (i * n) l)) (drop n (drop (i * n) l))
+      ∙ ap₂ (λ (x : Bool) (y : List ℕ). x && all (λ b. eqb b 0) y)
+      (ap (all (λ b. eqb b 0)) (sym (block_at n k i l h)) ∙ sym e)
+      (drop-drop n (i * n) l ∙ ap (λ (x : ℕ). drop x l) f)
+
 -- ---- numbers written
 
 pub put_four : (t : List ℕ) (at n : ℕ) → at + 4 ≤ length t
@@ -105,6 +129,25 @@ put_four t at n h =
 -- ---- pastes, one beside the other
 
 module _ (t : List ℕ) (q : ℕ) (s : List ℕ) (m n : ℕ) (ht : q + m + n ≤ length t) (hs : m + n ≤ length s) where
+  -- the bytes before what was pasted are pasted too
+  paste_low : paste (paste t (q + m) (drop m s) n) q s m ≡ paste t q s (m + n)
+  paste_low =
+      let a : length (take (q + m) t) ≡ q + m = length-take-le (q + m) t (omega arith) in
+      let x : take q (paste t (q + m) (drop m s) n) ≡ take q t =
+      ap (take q) (append_assoc (take (q + m) t) (take n (drop m s)) (drop (q + m + n) t))
+      ∙ take-append-le q (take (q + m) t) (take n (drop m s) ++ drop (q + m + n) t) (omega arith)
+      ∙ take-take q (q + m) t (omega arith)
+      in
+      let y : drop (q + m) (paste t (q + m) (drop m s) n) ≡ take n (drop m s) ++ drop (q + m + n) t =
+      ap (drop (q + m)) (append_assoc (take (q + m) t) (take n (drop m s)) (drop (q + m + n) t))
+      ∙ drop_at (take (q + m) t) (take n (drop m s) ++ drop (q + m + n) t) (q + m) a
+      in
+      let z : q + m + n ≡ q + (m + n) = omega arith in
+      (λ i. x i ++ take m s ++ y i)
+      ∙ sym (append_assoc (take q t ++ take m s) (take n (drop m s)) (drop (q + m + n) t))
+      ∙ ap (λ (l : List ℕ). l ++ drop (q + m + n) t) (append_assoc (take q t) (take m s) (take n (drop m s)))
+      ∙ (λ i. take q t ++ sym (take-add m n s) i ++ drop (z i) t)
+
   -- the bytes after what was pasted
   paste-high : paste (paste t q s m) (q + m) (drop m s) n ≡ paste t q s (m + n)
   paste-high =
@@ -162,6 +205,61 @@ paste_one t at s ht hs =
     let z : at + 0 ≡ at = omega arith in
     (λ i. set (paste-zero t at s i) (sym z i) (get_or s 0 0)) ∙ paste-suc t at s 0 0 (omega arith) hs
 
+-- a block that was read whole
+pub block_moved : (t s : List ℕ) (from at : ℕ) (v : List ℕ) → v ≡ take 512 (drop from s) → paste t at v 512 ≡ paste t at (drop from s) 512
+block_moved t s from at v e =
+    ap (λ (l : List ℕ). take at t ++ l ++ drop (at + 512) t) (ap (take 512) e ∙ take-take 512 512 (drop from s) (omega arith))
+
+-- the bytes from p on have gone up
+pub record MovedUp (t : List ℕ) (from to by : ℕ) (u : List ℕ) (p : ℕ) : Type 0 where
+  pub after : from ≤ p
+  pub within : p ≤ to
+  pub moved : u ≡ paste t (p + by) (drop p t) (to - p)
+
+pub up_none : (t : List ℕ) (from to by : ℕ) → from ≤ to → MovedUp t from to by t to
+up_none t from to by h =
+    let z : to - to ≡ 0 = omega arith in record { after = h; within = omega arith; moved = rw z (paste-zero t (to + by) (drop to t)) }
+
+module _ (t : List ℕ) (from to by : ℕ) (ht : to + by ≤ length t) (u : List ℕ) (p : ℕ) (s : MovedUp t from to by u p) where
+  up_fits : to - p ≤ length (drop p t)
+  up_fits = omega (arith, length-drop p t, s.within)
+
+  pub up_length : length u ≡ length t
+  up_length = ap length s.moved ∙ length-paste t (p + by) (drop p t) (to - p) (omega (arith, s.within)) up_fits
+
+  -- m bytes more; they were still as at the start
+  pub up_more : (q m : ℕ) → q + m ≡ p → from ≤ q → (w : List ℕ) → w ≡ paste u (q + by) (drop q u) m → MovedUp t from to by w q
+  up_more q m e f w g =
+      let b : p ≤ to = s.within in
+      let n : length u ≡ length t = up_length in
+      let k : (i : ℕ) → i < m → get_or (drop q u) i 0 ≡ get_or (drop q t) i 0 =
+      λ i h.
+      get_or-drop q u i 0
+      ∙ ap (λ (l : List ℕ). get_or l (q + i) 0) s.moved
+      ∙ paste-before t (p + by) (drop p t) (to - p) 0 (omega arith) up_fits (q + i) (omega arith)
+      ∙ sym (get_or-drop q t i 0)
+      in
+      let x : p + by ≡ q + by + m = omega arith in
+      let y : drop p t ≡ drop m (drop q t) = ap (λ (i : ℕ). drop i t) (sym e) ∙ sym (drop-drop m q t) in
+      let z : m + (to - p) ≡ to - q = omega arith in
+      record {
+        after = f;
+        within = omega arith;
+        moved =
+            g
+            ∙ paste_ext u (q + by) (drop q u) (drop q t) m (omega (arith, length-drop q u)) (omega (arith, length-drop q t)) k
+            ∙ ap (λ (l : List ℕ). paste l (q + by) (drop q t) m) (s.moved ∙ (λ i. paste t (x i) (y i) (to - p)))
+            ∙ paste_low t (q + by) (drop q t) m (to - p) (omega arith) (omega (arith, length-drop q t))
+            ∙ ap (λ (i : ℕ). paste t (q + by) (drop q t) i) z;
+      }
+
+  -- the rest at once
+  pub up_rest : (w : List ℕ) → w ≡ paste u (from + by) (drop from u) (p - from) → MovedUp t from to by w from
+  up_rest w e = up_more from (p - from) (omega (arith, s.after)) (omega arith) w e
+
+  pub up_all : p ≤ from → u ≡ paste t (from + by) (drop from t) (to - from)
+  up_all h = let e : p ≡ from = omega (arith, s.after) in rw e at s.moved
+
 -- the bytes before p have gone down
 pub record MovedDown (t : List ℕ) (from to by : ℕ) (u : List ℕ) (p : ℕ) : Type 0 where
   pub after : from ≤ p
@@ -212,6 +310,10 @@ module _ (t : List ℕ) (from to by : ℕ) (hb : by ≤ from) (ht : to ≤ lengt
       down_more (p + 1) 1 refl (omega arith) (set u (p - by) (get_or u p 0))
       (ap (set u (p - by)) (ap (λ (i : ℕ). get_or u i 0) (sym z) ∙ sym (get_or-drop p u 0 0))
       ∙ paste_one u (p - by) (drop p u) (omega arith) (omega (arith, length-drop p u)))
+
+  -- the rest at once
+  pub down_rest : (w : List ℕ) → w ≡ paste u (p - by) (drop p u) (to - p) → MovedDown t from to by w to
+  down_rest w e = down_more to (to - p) (omega (arith, s.within)) (omega arith) w e
 
   pub down_all : to ≤ p → u ≡ paste t (from - by) (drop from t) (to - from)
   down_all h = let e : p ≡ to = omega (arith, s.within) in rw e at s.moved

@@ -64,13 +64,19 @@ version-there t at v y g e =
     (l, ap (λ (r : Read Version). r.value) (some_eq (sym (read-version t at l) ∙ ap read_version e ∙ format_version.back v g y)))
 
 -- a version's five bytes, one by one
-pub version-five : (v : Version) → v.client < 256 → (b : List ℕ) → b ≡ to_be_bytes w32 v.sequence.0
-    → get_or b 0 0 ∷ get_or b 1 0 ∷ get_or b 2 0 ∷ get_or b 3 0 ∷ v.client ∷ [] ≡ write_version v
+pub version-five : (v : Version) → v.client < 256
+    → v.sequence.0 / 256 / 256 / 256 % 256 ∷ v.sequence.0 / 256 / 256 % 256 ∷ v.sequence.0 / 256 % 256 ∷ v.sequence.0 % 256 ∷ v.client ∷ []
+    ≡ write_version v
 unfolding write_version write_number
-version-five v h b e =
+version-five v h =
     let q = v.sequence.0 in
     let m : v.client ≡ v.client % 256 = omega arith in
-    rw e (simp div-div-eq-div-mul (ap (λ (c : ℕ). q / 16777216 % 256 ∷ q / 65536 % 256 ∷ q / 256 % 256 ∷ q % 256 ∷ c ∷ []) m))
+    ap (λ (c : ℕ). q / 256 / 256 / 256 % 256 ∷ q / 256 / 256 % 256 ∷ q / 256 % 256 ∷ q % 256 ∷ c ∷ []) m
+
+-- the same, where the library gave four of them
+pub version_given : (v : Version) → v.client < 256 → (b : List ℕ) → b ≡ to_be_bytes w32 v.sequence.0
+    → get_or b 0 0 ∷ get_or b 1 0 ∷ get_or b 2 0 ∷ get_or b 3 0 ∷ v.client ∷ [] ≡ write_version v
+version_given v h b e = rw e (simp div-div-eq-div-mul at version-five v h)
 
 -- ---- a place
 

@@ -9,5 +9,5 @@ pub returns : goal.returns
 returns c =
     let a = c.args in
     insert_put a.s a.t.now a.at (2 + a.count * place_size a.s) (brought_by a.b.now) (a.count + 1) (omega arith) (omega arith)
-    _ _ _ c.copy_within.ensures.after
+    _ _ _ c.move_up.ensures
     c.put_place.ensures c.put_u16.ensures

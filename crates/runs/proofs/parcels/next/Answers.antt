@@ -16,4 +16,4 @@ returns-in_err-key_at c =
 
 pub returns-then-used-at : goal.returns-then-used-at
 returns-then-used-at c =
-    let a = c.args in (refl, none-long a.s.measures c.args.s.pass a.used a.post.now c.requires.1 a.at _ _ (omega arith) c.u32_at-len.ensures c.if-used-at.true)
+    let a = c.args in (refl, none-long a.s.measures c.args.s.pass a.used a.post.now c.requires.1 a.at _ _ (omega arith) c.length_at-len.ensures c.if-used-at.true)
