@@ -102,7 +102,7 @@ fn liar<W: Write>(writer: &mut W, x: Run, i: usize) -> io::Result<Run> {
 // A node's table; after a `config` the memory has it.
 fn table<W: Write>(writer: &mut W, s: Measures, i: usize, memory: &[u8]) -> io::Result<()> {
     match table_part(s, i, memory.len()) {
-        Ok(part) => report::holds(writer, i, &memory[part], s.f),
+        Ok(part) => report::holds(writer, i, &memory[part.start..part.end], s.f),
         Err(_) => Ok(()),
     }
 }

@@ -1,11 +1,11 @@
 -- Where a part of the memory stands, as the code finds it.
 use Rattle.std.specs.Prelude.{◌≡◌, true, false, ℕ, ◌+◌, ◌<◌, ◌≤◌, Result, Ok, Err}
-use Rattle.std.specs.declared.ops.Range.{Range}
 use Rattle.parties.specs.declared.Refusal.{Refusal}
 use Rattle.parties.specs.declared.Measures.{Measures}
 use Rattle.parties.specs.protocol.Measures.{passes}
 use Rattle.parties.specs.records.Answer.{number}
 use Rattle.title.specs.Memory.{memory_size}
+use Rattle.title.specs.declared.memory.Part.{Part}
 
 -- a memory of so many bytes is refused with this number
 pub data Refuses (s : Measures) (len : ℕ) : ℕ → Type 0 where
@@ -25,6 +25,6 @@ abbrev pub Fits : {A : Type 0} → Measures → ℕ → Result A Refusal → Typ
 Fits s len (Ok x) = (passes s ≡ true) × (memory_size s ≤ len)
 Fits s len (Err r) = Refuses s len (number r)
 
-abbrev pub Placed : Measures → ℕ → ℕ → ℕ → Result (Range ℕ) Refusal → Type 0
+abbrev pub Placed : Measures → ℕ → ℕ → ℕ → Result Part Refusal → Type 0
 Placed s len at size (Ok part) = Stands s len at size part.start part.end
 Placed s len at size (Err r) = Refuses s len (number r)

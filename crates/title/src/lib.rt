@@ -4,4 +4,4 @@ pub mod fresh;
 mod memory;
 pub mod title;
 
-pub use memory::table_part;
+pub use memory::{Part, table_part};

@@ -8,7 +8,13 @@ ghost use Rattle.title.specs.Part.{Fits, Placed};
 
 use parties::protocol::measures::Passed;
 use parties::{Measures, Refusal, sizes};
-use std::ops::Range;
+
+// The place of a table or a record in the memory.
+#[derive(Clone, Copy, Debug, PartialEq, Eq)]
+pub struct Part {
+    pub start: usize,
+    pub end: usize,
+}
 
 // The sizes of measures that pass.
 fn directory_size(s: Passed) -> usize
@@ -87,30 +93,33 @@ fn fits(s: Measures, len: usize) -> Result<(), Refusal>
 }
 
 // The directory in a memory of so many bytes.
-pub fn directory_part(s: Measures, len: usize) -> Result<Range<usize>, Refusal>
+pub fn directory_part(s: Measures, len: usize) -> Result<Part, Refusal>
     ensures { Placed s len 0 (directory_size s) result }
 {
     fits(s, len)?;
     let s = Passed { measures: s };
-    Ok(0..directory_size(s))
+    let end = directory_size(s);
+    Ok(Part { start: 0, end })
 }
 
 // Node i's table, likewise.
-pub fn table_part(s: Measures, i: usize, len: usize) -> Result<Range<usize>, Refusal>
+pub fn table_part(s: Measures, i: usize, len: usize) -> Result<Part, Refusal>
     ensures { Placed s len (table_at s i) (table_size s) result }
 {
     fits(s, len)?;
     let s = Passed { measures: s };
-    let at = table_at(s, i);
-    Ok(at..at + table_size(s))
+    let start = table_at(s, i);
+    let end = start + table_size(s);
+    Ok(Part { start, end })
 }
 
 // Client c's record, likewise.
-pub fn record_part(s: Measures, c: usize, len: usize) -> Result<Range<usize>, Refusal>
+pub fn record_part(s: Measures, c: usize, len: usize) -> Result<Part, Refusal>
     ensures { Placed s len (record_at s c) (client_size s) result }
 {
     fits(s, len)?;
     let s = Passed { measures: s };
-    let at = record_at(s, c);
-    Ok(at..at + record_size(s))
+    let start = record_at(s, c);
+    let end = start + record_size(s);
+    Ok(Part { start, end })
 }

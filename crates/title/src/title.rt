@@ -28,7 +28,7 @@ pub fn deposit(
         × Deposits s c page.now memory.old memory.new }
 {
     let part = record_part(s, c, memory.len())?;
-    start_deposit(s, c, &mut memory[part], page)
+    start_deposit(s, c, &mut memory[part.start..part.end], page)
 }
 
 // The start of a reading at client c.
@@ -43,7 +43,7 @@ pub fn read(
         × (room.new ≡ (start_reading s c (record_in s c memory.old) room.old).room) }
 {
     let part = record_part(s, c, memory.len())?;
-    start_reading(s, c, &mut memory[part], room)
+    start_reading(s, c, &mut memory[part.start..part.end], room)
 }
 
 // The directory's acknowledgement of client c's update, handed to the client.
@@ -58,7 +58,7 @@ pub fn updated(
         × (room.new ≡ (update_answer s c (record_in s c memory.old) room.old).room) }
 {
     let part = record_part(s, c, memory.len())?;
-    update_answer(s, c, &mut memory[part], room)
+    update_answer(s, c, &mut memory[part.start..part.end], room)
 }
 
 // The rows of client c's scan, handed to the client.
@@ -74,7 +74,7 @@ pub fn scanned(
         × (room.new ≡ (scan_answer s c (record_in s c memory.old) rows.now room.old).room) }
 {
     let part = record_part(s, c, memory.len())?;
-    scan_answer(s, c, &mut memory[part], rows, room)
+    scan_answer(s, c, &mut memory[part.start..part.end], rows, room)
 }
 
 // A message from node i to client c.
@@ -93,7 +93,15 @@ pub fn to_client(
         × (out.new ≡ (client_message s c i (record_in s c memory.old) message.now room.old out.old).out) }
 {
     let part = record_part(s, c, memory.len())?;
-    client_message(s, c, i, &mut memory[part], message, room, out)
+    client_message(
+        s,
+        c,
+        i,
+        &mut memory[part.start..part.end],
+        message,
+        room,
+        out,
+    )
 }
 
 // Client c's update, carried out at the directory.
@@ -102,7 +110,7 @@ pub fn update(s: Measures, c: usize, memory: &mut [u8], fields: &[u8]) -> Result
         × Updates s c fields.now memory.old memory.new }
 {
     let part = directory_part(s, memory.len())?;
-    directory_update(s, c, &mut memory[part], fields)
+    directory_update(s, c, &mut memory[part.start..part.end], fields)
 }
 
 // A scan of the directory.
@@ -111,7 +119,7 @@ pub fn scan(s: Measures, memory: &[u8], room: &mut [u8]) -> Result<usize, Refusa
         × (room.new ≡ (directory_scan s (directory_in s memory.now) room.old).room) }
 {
     let part = directory_part(s, memory.len())?;
-    directory_scan(s, &memory[part], room)
+    directory_scan(s, &memory[part.start..part.end], room)
 }
 
 // A message to node i.
@@ -127,5 +135,5 @@ pub fn to_node(
         × (room.new ≡ (node_message s i (table_in s i memory.old) message.now room.old).room) }
 {
     let part = table_part(s, i, memory.len())?;
-    node_message(s, i, &mut memory[part], message, room)
+    node_message(s, i, &mut memory[part.start..part.end], message, room)
 }

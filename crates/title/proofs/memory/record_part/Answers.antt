@@ -5,15 +5,15 @@ use Rattle.title.specs.Memory.{record_at}
 use Rattle.title.proofs.MemoryLaws.{memory_bound, record_within, stands}
 use Rattle.title.proofs.memory.record_part.Goals as goal
 
-pub overflow_add-result : goal.overflow_add-result
-overflow_add-result c =
+pub overflow_add-end : goal.overflow_add-end
+overflow_add-end c =
     let a = c.args in
     let h = c.in_ok-fits.ensures.0 in
-    omega (arith, memory_bound a.s h, record_within a.s h a.c, c.record_at-at.ensures, c.record_size.ensures)
+    omega (arith, memory_bound a.s h, record_within a.s h a.c, c.record_at-start.ensures, c.record_size.ensures)
 
 pub returns : goal.returns
 returns c =
     let a = c.args in
     let h = c.in_ok-fits.ensures in
-    let at = c.record_at-at.ensures in
+    let at = c.record_at-start.ensures in
     stands a.s a.len (record_at a.s a.c) (client_size a.s) h.0 h.1 (record_within a.s h.0 a.c) _ _ at (λ j. at j + c.record_size.ensures j)

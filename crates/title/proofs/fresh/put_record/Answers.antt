@@ -1,0 +1,7 @@
+use Rattle.title.proofs.FreshMemoryLaws.{record_put}
+use Rattle.title.proofs.fresh.put_record.Goals as goal
+
+pub returns : goal.returns
+returns c =
+    let a = c.args in
+    let p = c.requires in record_put a.s.measures a.s.pass a.memory.now a.at a.to p.1 p.0 _ c.fresh.ensures.1
