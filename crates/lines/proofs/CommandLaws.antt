@@ -1,21 +1,21 @@
 -- Laws of what a line of `stand` asks for.
 use mathlib.Core.Path.{◌≡◌, refl, sym, ap, ◌∙◌}
-use mathlib.Core.Bool.{Bool, true, false}
+use mathlib.Core.Bool.{Bool, true, false, cond, not, ◌&&◌}
 use mathlib.Core.List.{List, [], ◌∷◌}
 use mathlib.Core.Option.{Option, none, some}
 use Prim.Native.Nat.{ℕ, zero, suc, ◌<◌}
 use native.Mathlib.Omega.{arith}
 use native.Mathlib.Decide.{ℕ_discrete}
 use borrow.Author.Tests.{eq-eqb, ne_eqb}
-use lib.Dec.{eqb}
+use lib.Dec.{ltb, eqb}
 use lib.ListN.{length, get_or}
 use Rattle.std.specs.Prelude.{Option as Told, Some, None}
 use Rattle.lines.specs.declared.read.Line.{Line}
-use Rattle.lines.specs.Words.{words, first, later, final, every, odd, same, decimal, number_of, hex_value, hex_bytes, page_of, pack_from, packed}
+use Rattle.lines.specs.Words.{words, first, later, final, every, void, odd, same, limit, digit, decimal, number_of, hex_value, hex_bytes, page_of, pack_from, packed}
 use Rattle.lines.specs.Line.{as_told, numbers_of, PageIs, LineOf}
 use Rattle.lines.specs.Ascii.{ascii}
 use Rattle.lines.specs.Command.{config, read, deposit, other, config_of, read_of, deposit_of, word, config_asked, read_asked, deposit_asked, asked, stand_line, Asks}
-use Rattle.lines.specs.Command.{config_told, read_told, deposit_told, config_from, read_from, deposit_from, verb_of, asked_of}
+use Rattle.lines.specs.Command.{number_told, number, config_told, read_told, deposit_told, config_from, read_from, deposit_from, verb_of, asked_of}
 use Rattle.lines.proofs.WordsLaws.{same_eq, small, packed_injective}
 
 -- ---- the numbers of a line
@@ -30,6 +30,17 @@ number_at (suc n) (suc i) (w ∷ ws) h l = number_at n i ws (omega arith) (omega
 later_at : (i : ℕ) (ws : List (List ℕ)) → i < 6 → suc i < length ws → get_or (numbers_of 6 (later ws)) i None ≡ as_told (number_of (word ws (suc i)))
 later_at i [] h l = absurd (omega arith)
 later_at i (w ∷ ws) h l = number_at 6 i ws h (omega arith)
+
+-- a word's number is below 2 ^ 32
+number-kept : (w : List ℕ) → number_told (as_told (number_of w)) ≡ as_told (number_of w)
+unfolding number_of
+number-kept w = go (not (void w)) (every digit w) (ltb (decimal 0 w) limit) (decimal 0 w) refl
+  where
+    go : (a b t : Bool) (d : ℕ) → ltb d limit ≡ t → number_told (as_told (cond (a && b && t) (some d) none)) ≡ as_told (cond (a && b && t) (some d) none)
+    go false b t d e = refl
+    go true false t d e = refl
+    go true true false d e = refl
+    go true true true d e = simp e
 
 -- ---- each form, of the numbers and the page that a line has
 
@@ -68,8 +79,11 @@ module _ (p page : List ℕ) (l : Line) (o : LineOf p page l) where
   words-differ : (n : ℕ) → n < 8 → (l.words ≡ n → ⊥) → eqb (length (words p)) n ≡ false
   words-differ n h e = ne_eqb (length (words p)) n (λ q. e (omega (arith, o.count)))
 
-  told : (i : ℕ) → i < 6 → suc i < length (words p) → get_or l.numbers i None ≡ as_told (number_of (word (words p) (suc i)))
-  told i h k = ap (λ (v : List (Told ℕ)). get_or v i None) o.given ∙ later_at i (words p) h k
+  told : (i : ℕ) → i < 6 → suc i < length (words p) → number l i ≡ as_told (number_of (word (words p) (suc i)))
+  told i h k =
+      ap (λ (v : List (Told ℕ)). number_told (get_or v i None)) o.given
+      ∙ ap number_told (later_at i (words p) h k)
+      ∙ number-kept (word (words p) (suc i))
 
   config-line : Asks (config_asked (words p)) page (config_from l)
   unfolding config_asked

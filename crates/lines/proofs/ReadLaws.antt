@@ -15,7 +15,7 @@ use Rattle.lines.specs.declared.read.Reading.{Reading}
 use Rattle.lines.specs.Words.{words, first, later, last_from, final, every, void, odd, same, limit, digit, decimal, number_of, hex_value, hex_digit, hex_bytes, empty_word, page_of, pack_from, packed}
 use Rattle.std.specs.Prelude.{Option, Some, None}
 use Rattle.lines.specs.Line.{as_told, numbers_of, Kept, PageIs, LineOf}
-use Rattle.lines.specs.Read.{counted, packed_with, capped, value_with, name_from, number_from, numbers_with, bytes_with, page_with, page_from}
+use Rattle.lines.specs.Read.{counted, packed_with, capped, value_with, name_from, number_from, numbers_with, puts, bytes_with, page_with, page_from}
 use Rattle.lines.specs.Read.{begun, space_of, letter_of, next_of, next_page, ended_of, value_of, high_from, Paired, Read}
 use Rattle.lines.proofs.WordsLaws.{and_left, and_right, words_space, words_letter, every_more, odd-more, same_eq, decimal-more, high-more, high-below, hex-more, small, pack_more, room, pack_below, packed_injective}
 
@@ -137,6 +137,12 @@ numbers-told (v ∷ ws) w k n numbers e f q = go (dec_lt (length ws) 6)
 number_of_lem : (w : List ℕ) (len : ℕ) (value : Option ℕ) → len ≡ min 8 (length w) → value ≡ value_of w → number_from len value ≡ as_told (number_of w)
 number_of_lem w len value a b = (λ i. number_from (a i) (b i)) ∙ number-told w
 
+-- ---- what the code keeps and hands on, part by part
+
+module _ (odd : Bool) (high n bytes : ℕ) (page : List ℕ) where
+  pub put_none : puts odd high n bytes (length page) ≡ false → (bytes ≡ bytes_with odd high n bytes (length page)) × (page ≡ page_with odd high n bytes page)
+  put_none e = rw e (refl, refl)
+
 -- ---- what is kept, from the start and with each byte more
 
 pub begun-read : (page : List ℕ) → Read [] begun page
@@ -244,6 +250,10 @@ next-read p r b page u o = go (ℕ_discrete b 32)
     go (no e) = rw (ne_eqb b 32 e) (letter_read p r b page u e o)
 
 -- ---- the line's end
+
+pub page-short : (r : Reading) → (r.word ≡ 1535139411065 → ⊥) → r.hex ≡ true → r.odd ≡ false → r.len ≡ 0 → None ≡ page_from r
+unfolding packed pack_from
+page-short r a b c d = sym (simp (ne_eqb r.word 1535139411065 a, b, c, eq-eqb r.len 0 d))
 
 void-length : (w : List ℕ) → eqb (min 8 (length w)) 0 ≡ void w
 void-length [] = refl

@@ -6,6 +6,7 @@ use Rattle.lines.specs.declared.command.Command.{Command}
 use Rattle.lines.specs.declared.command.Verb.{Verb}
 use Rattle.lines.specs.Words.{words, first, same, number_of, page_of, packed}
 use Rattle.lines.specs.Line.{Kept}
+use Rattle.lines.specs.Read.{capped}
 use Rattle.lines.specs.Ascii.{ascii}
 
 pub data Asked : Type 0 where
@@ -80,9 +81,14 @@ Asks other page None = Unit {0}
 
 -- ---- what the code makes of a line that it was handed, whatever it says
 
+-- from 2 ^ 32 on a number is none
+abbrev pub number_told : Told ℕ → Told ℕ
+number_told None = None
+number_told (Some n) = capped n
+
 -- the number at a place among those after the first word
 abbrev pub number : Line → ℕ → Told ℕ
-number l i = get_or l.numbers i None
+number l i = number_told (get_or l.numbers i None)
 
 abbrev pub config_told : Told ℕ → Told ℕ → Told ℕ → Told ℕ → Told ℕ → Told Command
 config_told None n k t f = None

@@ -1,8 +1,8 @@
 // What a line of `stand` asks for.
 ghost use Rattle.std.specs.Prelude.{◌≡◌};
-ghost use Rattle.lines.specs.Command.{verb_of, config_from, read_from, deposit_from, asked_of};
+ghost use Rattle.lines.specs.Command.{number_told, verb_of, config_from, read_from, deposit_from, asked_of};
 
-use crate::read::Line;
+use crate::read::{LIMIT, Line};
 
 #[derive(Clone, Copy, Debug, PartialEq, Eq)]
 pub enum Command {
@@ -40,6 +40,17 @@ fn verb_named(name: u64) -> Option<Verb>
     }
 }
 
+// A line that no bytes give may have any number: from 2^32 on it is none.
+pub fn number(n: Option<u64>) -> Option<usize>
+    ensures { result ≡ number_told n }
+{
+    let n = n?;
+    if LIMIT <= n {
+        return None;
+    }
+    Some(n as usize)
+}
+
 // All words after the first are numbers.
 fn config(l: Line) -> Option<Command>
     ensures { result ≡ config_from l }
@@ -48,13 +59,7 @@ fn config(l: Line) -> Option<Command>
         return None;
     }
     let [m, n, k, t, f, _] = l.numbers;
-    Some(Command::Config(
-        m? as usize,
-        n? as usize,
-        k? as usize,
-        t? as usize,
-        f? as usize,
-    ))
+    Some(Command::Config(number(m)?, number(n)?, number(k)?, number(t)?, number(f)?))
 }
 
 fn read(l: Line) -> Option<Command>
@@ -63,7 +68,7 @@ fn read(l: Line) -> Option<Command>
     if l.words != 2 {
         return None;
     }
-    Some(Command::Read(l.numbers[0]? as usize))
+    Some(Command::Read(number(l.numbers[0])?))
 }
 
 fn deposit(l: Line) -> Option<Command>
@@ -72,7 +77,7 @@ fn deposit(l: Line) -> Option<Command>
     if l.words != 3 {
         return None;
     }
-    Some(Command::Deposit(l.numbers[0]? as usize, l.page?))
+    Some(Command::Deposit(number(l.numbers[0])?, l.page?))
 }
 
 // None for a line of another form.

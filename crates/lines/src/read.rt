@@ -3,6 +3,9 @@ ghost use Rattle.std.specs.Prelude.{◌≡◌, ◌&&◌, ltb, length};
 ghost use Rattle.lines.specs.Words.{hex_value};
 ghost use Rattle.lines.specs.Read.{counted, packed_with, value_with, bytes_with, page_with, name_from, number_from, numbers_with, begun, space_of, letter_of, next_of, next_page, page_from, ended_of};
 
+// A word's number is below it.
+pub(crate) const LIMIT: u64 = 1 << 32;
+
 // What was read of a line so far.
 #[derive(Clone, Copy, Debug, PartialEq, Eq)]
 pub struct Reading {
@@ -11,13 +14,13 @@ pub struct Reading {
     // The first word, packed, once it ended; else 0. `LineOf` says it of a line, and programs have names of their own.
     pub name: u64,
     // The 2nd to the 7th word as numbers, once ended; none for any other word, and until then.
-    pub numbers: [Option<u32>; 6],
+    pub numbers: [Option<u64>; 6],
     // The word under way, packed.
     pub word: u64,
     // Its bytes; 8 for more than 7.
     pub len: usize,
     // Its value, if it is digits alone and below 2^32.
-    pub value: Option<u32>,
+    pub value: Option<u64>,
     // It is hex digits alone.
     pub hex: bool,
     // Their number is odd.
@@ -33,7 +36,7 @@ pub struct Reading {
 pub struct Line {
     pub words: usize,
     pub name: u64,
-    pub numbers: [Option<u32>; 6],
+    pub numbers: [Option<u64>; 6],
     // The last word as a page: so many bytes at the front of the slice.
     pub page: Option<usize>,
 }
@@ -62,13 +65,17 @@ fn packed_with(word: u64, len: usize, b: u8) -> u64
 }
 
 // A value with one digit more; none where it is no digit, and where it is too big.
-fn value_with(value: Option<u32>, b: u8) -> Option<u32>
+fn value_with(value: Option<u64>, b: u8) -> Option<u64>
     ensures { result ≡ value_with value b }
 {
     let b'0'..=b'9' = b else {
         return None;
     };
-    value?.checked_mul(10)?.checked_add(u32::from(b - b'0'))
+    let v = value?.checked_mul(10)?.checked_add(u64::from(b - b'0'))?;
+    if LIMIT <= v {
+        return None;
+    }
+    Some(v)
 }
 
 // A hex digit's value; 16 for any other byte. No option: a caller's state has any `high`, so that `put` would test it for 16 besides.
@@ -125,7 +132,7 @@ fn name_from(words: usize, name: u64, word: u64) -> u64
 }
 
 // A word of no bytes is no number.
-fn number_from(len: usize, value: Option<u32>) -> Option<u32>
+fn number_from(len: usize, value: Option<u64>) -> Option<u64>
     ensures { result ≡ number_from len value }
 {
     if len == 0 {
@@ -135,7 +142,7 @@ fn number_from(len: usize, value: Option<u32>) -> Option<u32>
 }
 
 // The number of the word that ended goes to its place.
-fn numbers_with(words: usize, numbers: [Option<u32>; 6], n: Option<u32>) -> [Option<u32>; 6]
+fn numbers_with(words: usize, numbers: [Option<u64>; 6], n: Option<u64>) -> [Option<u64>; 6]
     ensures { result ≡ numbers_with words numbers n }
 {
     if words < 2 {

@@ -1,5 +1,5 @@
 // What a line of a script asks for.
-use lines::command::{Command as StandCommand, asked as asked_of_stand};
+use lines::command::{Command as StandCommand, asked as asked_of_stand, number};
 use lines::read::Line;
 use parties::Measures;
 use std::fmt;
@@ -67,15 +67,15 @@ const NO_BYTES: u64 = 0x01;
 
 // What `stand` does not know: so many words, the first one too.
 fn other(l: Line) -> Option<Command> {
-    let x = l.numbers[0]? as usize;
+    let x = number(l.numbers[0])?;
     match (l.words, l.name) {
         (2, CARRY) => Some(Command::Event(Event::Carry(x))),
         (2, HAND) => Some(Command::Event(Event::Hand(x))),
         (2, LIAR) => Some(Command::Liar(x)),
         (2, SHOW) => Some(Command::Show(x)),
-        (3, BRING) => Some(Command::Event(Event::Bring(x, l.numbers[1]? as usize))),
-        (3, DELIVER) => Some(Command::Event(Event::Deliver(x, l.numbers[1]? as usize))),
-        (4, LIE) => Some(Command::Event(Event::Lie(x, l.numbers[1]? as usize, l.page?))),
+        (3, BRING) => Some(Command::Event(Event::Bring(x, number(l.numbers[1])?))),
+        (3, DELIVER) => Some(Command::Event(Event::Deliver(x, number(l.numbers[1])?))),
+        (4, LIE) => Some(Command::Event(Event::Lie(x, number(l.numbers[1])?, l.page?))),
         _ => None,
     }
 }

@@ -1,12 +1,14 @@
 // `replay`: a script of single events from standard input, one a line, and after each what happened.
 #![tactic(auto)]
 
+use crate::buffered::Buffered;
 use crate::run::{Run, line, start};
 use crate::space::Space;
 use lines::read::{Reading, begin, ended, next};
 use std::io;
 use std::io::{Read, Write};
 
+mod buffered;
 mod command;
 mod report;
 mod run;
@@ -19,13 +21,14 @@ struct Script {
     reading: Reading,
 }
 
-// A byte of the script.
+// A byte of the script. What a line prints is out before the next is read.
 fn feed<W: Write>(writer: &mut W, x: Script, b: u8, space: &mut Space) -> io::Result<Script> {
     if b != b'\n' {
         let reading = next(x.reading, b, &mut space.page);
         return Ok(Script { reading, ..x });
     }
     let run = line(writer, x.run, ended(x.reading), space)?;
+    writer.flush()?;
     Ok(Script {
         run,
         reading: begin(),
@@ -67,7 +70,7 @@ fn feed_input<R: Read, W: Write>(
 
 fn main(rt: HostRuntime) -> io::Result<()> {
     let reader = &mut rt.stdin();
-    let writer = &mut rt.stdout();
+    let writer = &mut Buffered::new(rt.stdout());
     let mut space = Space::new();
     let mut input = [0u8; 4096];
     let x = Script {

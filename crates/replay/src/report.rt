@@ -1,8 +1,11 @@
 // What happened, in words on standard output.
-ghost use Rattle.std.specs.Prelude.{◌<◌, ◌≤◌};
+ghost use Rattle.std.specs.Prelude.{◌<◌, ◌≤◌, OnOk, length};
+ghost use Rattle.std.specs.Io.KnownBytes.{Appends};
+ghost use Rattle.lines.specs.Text.{hex_of};
 
 use crate::command::Event;
 use crate::space::Shown;
+use lines::text::hex;
 use parties::protocol::tags::{FREED, STORED};
 use parties::records::nodes::has_node;
 use parties::{ClientAnswer, Measures, Refusal, Version};
@@ -59,6 +62,16 @@ fn stamp_at(b: &[u8], from: usize) -> Stamp
     }
 }
 
+// At most 64 bytes in hexadecimal.
+fn digits<W: Write>(writer: &mut W, b: &[u8]) -> io::Result<()>
+    requires { length b.now ≤ 64 }
+    ensures { OnOk result (Appends (W.contents writer.old) (W.contents writer.new) (hex_of b.now)) }
+{
+    let mut text = [0; 128];
+    let n = hex(&mut text, 0, b);
+    writer.write_all(&text[..n])
+}
+
 // Bytes from a place on, so many at most, or `empty`.
 fn shown<W: Write>(writer: &mut W, b: &[u8], from: usize, n: usize) -> io::Result<()> {
     let at = from.min(b.len());
@@ -66,8 +79,8 @@ fn shown<W: Write>(writer: &mut W, b: &[u8], from: usize, n: usize) -> io::Resul
     if to <= at {
         return write!(writer, "empty");
     }
-    for x in &b[at..to] {
-        write!(writer, "{x:02X}")?;
+    for part in b[at..to].chunks(64) {
+        digits(writer, part)?;
     }
     Ok(())
 }
