@@ -2,6 +2,7 @@
 use mathlib.Core.Path.{◌≡◌, refl, sym, ap, ◌∙◌}
 use mathlib.Core.Bool.{Bool, true, false, cond}
 use mathlib.Core.List.{List, [], ◌∷◌, ◌++◌}
+use mathlib.Core.Logic.{◌≢◌}
 use Prim.Native.Nat.{ℕ, ◌-◌, ◌*◌, ◌<◌, ◌≤◌, min}
 use native.Mathlib.Decide.{dec_le}
 use native.Mathlib.Nat.{mul-le-mul}
@@ -42,7 +43,7 @@ use Rattle.session.specs.declared.session.Session.{Session}
 use Rattle.session.specs.declared.session.Lengths.{Lengths}
 use Rattle.session.specs.declared.settle.Settled.{Settled}
 use Rattle.session.specs.Settle.{Desk, desk, Settles}
-use Rattle.session.specs.Session.{Held, new_line, desk_of, asks, small, slices_long, lengths, Reply, refuses, opens, first_reply, first_measures, Replies}
+use Rattle.session.specs.Session.{Held, new_line, desk_of, asks, small, slices_long, lengths, Reply, refuses, opens, first_reply, first_measures, Replies, First}
 use Rattle.session.specs.Session.{Reads, Deposits as StartsDeposit, Operates, Refuses, Later, Ends, within, taken}
 use Rattle.session.proofs.SessionLaws.{fresh-long}
 
@@ -155,6 +156,24 @@ kept-starts s c used n bytes page x y result k h = go (ltb (s.k * s.f - 4) (leng
     go : (b : Bool) → ltb (s.k * s.f - 4) (length page) ≡ b → StartsDeposit s c used (cond b bytes (take (length page) bytes)) x y result
     go true q = by bytes (whole (ltb-true (s.k * s.f - 4) (length page) q) (dec_le (length bytes) (length page)))
     go false q = by (take (length page) bytes) part
+
+-- ---- a line that asks for something else
+
+-- a first line that is no `config`
+pub first-other : (r : Told Command) (page : List ℕ) (x : Measures) (l : Lengths) (memory text memory' text' : List ℕ) (y : Session) (len : ℕ)
+    → ((m n k t f : ℕ) → r ≢ Some (Command.Config m n k t f)) → Replies (refuses 4 memory) x text memory' text' y len → First (given r page) x l memory text memory' text' y len
+first-other (Some (Command.Config m n k t f)) page x l memory text memory' text' y len o w = absurd (o m n k t f refl)
+first-other (Some (Command.Read c)) page x l memory text memory' text' y len o w = w
+first-other (Some (Command.Deposit c n)) page x l memory text memory' text' y len o w = w
+first-other None page x l memory text memory' text' y len o w = w
+
+-- a later line that starts no operation
+pub later-other : (r : Told Command) (page : List ℕ) (s : Measures) (x y : Desk) → ((c : ℕ) → r ≢ Some (Command.Read c)) → ((c n : ℕ) → r ≢ Some (Command.Deposit c n))
+    → Refuses 4 x y → Later (given r page) s x y
+later-other (Some (Command.Config m n k t f)) page s x y o d z = z
+later-other (Some (Command.Read c)) page s x y o d z = absurd (o c refl)
+later-other (Some (Command.Deposit c n)) page s x y o d z = absurd (d c n refl)
+later-other None page s x y o d z = z
 
 module _ (s : Measures) (x y : Desk) where
   later-line : (a : Asked) (page : List ℕ) (r : Told Command) → Asks a page r → Later (given r page) s x y → Later (within s page a) s x y

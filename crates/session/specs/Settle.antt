@@ -1,5 +1,6 @@
 -- An operation of `stand`: after its start, parcels are handed over one by one, oldest first.
-use Rattle.std.specs.Prelude.{◌≡◌, cond, ◌⊎◌, List, ℕ, ◌+◌, ◌≤◌, ltb}
+use Rattle.std.specs.Prelude.{◌≡◌, cond, ◌⊎◌, List, ℕ, ◌+◌, ◌<◌, ◌≤◌, ltb, length, slice_index}
+use Rattle.std.specs.Borrow.{MutBor}
 use Rattle.parties.specs.declared.Measures.{Measures}
 use Rattle.parties.specs.protocol.Run.{deliver}
 use Rattle.parties.specs.protocol.Claim.{Lent as Given}
@@ -26,13 +27,21 @@ lend memory post room out = record { memory = memory; post = post; room = room; 
 abbrev pub lent_of : Slices → Lent
 lent_of s = lend s.memory.now s.post.now s.room.now s.out.now
 
--- they are the same slices, whatever stands in them
+abbrev pub Bytes : List ℕ → Type 0
+Bytes s = (i : ℕ) → slice_index s i < 256
+
+-- it is the same slice, as long, and of bytes if it was: of a slice in a struct that is lent the prover knows neither
+pub record SameSlice (x y : MutBor (List ℕ)) : Type 0 where
+  pub name : y.ghost_name ≡ x.ghost_name
+  pub long : length y.now ≡ length x.now
+  pub bytes : Bytes x.now → Bytes y.now
+
 pub record SameSlices (x y : Slices) : Type 0 where
-  pub memory : y.memory.ghost_name ≡ x.memory.ghost_name
-  pub room : y.room.ghost_name ≡ x.room.ghost_name
-  pub out : y.out.ghost_name ≡ x.out.ghost_name
-  pub post : y.post.ghost_name ≡ x.post.ghost_name
-  pub text : y.text.ghost_name ≡ x.text.ghost_name
+  pub memory : SameSlice x.memory y.memory
+  pub room : SameSlice x.room y.room
+  pub out : SameSlice x.out y.out
+  pub post : SameSlice x.post y.post
+  pub text : SameSlice x.text y.text
 
 abbrev pub desk : Lent → ℕ → List ℕ → ℕ → Desk
 desk lent used text len = record { lent = lent; used = used; text = text; len = len }

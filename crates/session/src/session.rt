@@ -5,7 +5,7 @@ ghost use Rattle.lines.specs.Read.{ended_of};
 ghost use Rattle.lines.specs.Command.{asked_of, given};
 ghost use Rattle.lines.specs.Text.{written, put_line};
 ghost use Rattle.lines.specs.Sentences.{refused_line};
-ghost use Rattle.session.specs.Settle.{lend, lent_of, SameSlices, desk};
+ghost use Rattle.session.specs.Settle.{lend, lent_of, Bytes, SameSlices, desk};
 ghost use Rattle.session.specs.Session.{Runs, Live, new_line, started, held_in, small as fits, slices_long as suffice, opens, Replies, First, Reads, Deposits, Operates, Later, Ends, Feeds, Closes};
 
 use crate::settle::settle;
@@ -91,6 +91,7 @@ fn at_stage(stage: u8, measures: Measures, used: usize, len: usize) -> Answer
 fn refuse(x: usize, stage: u8, s: Measures, used: usize, text: &mut [u8]) -> Answer
     ensures line { written text.new result.len ≡ put_line text.old (refused_line x) }
     ensures next { result.session ≡ new_line stage s used }
+    ensures bytes { Bytes text.new }
 {
     let n = refused(text, x);
     at_stage(stage, s, used, n)
@@ -132,8 +133,9 @@ fn slices_long(s: Measures, l: Lengths) -> bool
 
 // Measures out of bounds come before those that are too big.
 fn config(s: Measures, l: Lengths, memory: &mut [u8], text: &mut [u8]) -> Answer
-    ensures { ((post page : List ℕ) → Live result.session memory.new post page)
+    ensures goes { ((post page : List ℕ) → Live result.session memory.new post page)
         × Replies (opens s l memory.old) s text.old memory.new text.new result.session result.len }
+    ensures bytes { Bytes memory.new × Bytes text.new }
 {
     if !s.pass() {
         return refuse(1, OVER, s, 0, text);
@@ -155,8 +157,9 @@ fn config(s: Measures, l: Lengths, memory: &mut [u8], text: &mut [u8]) -> Answer
 
 // The first line.
 fn first(x: Session, l: Lengths, memory: &mut [u8], text: &mut [u8]) -> Answer
-    ensures { ((post page : List ℕ) → Live result.session memory.new post page)
+    ensures goes { ((post page : List ℕ) → Live result.session memory.new post page)
         × ((page : List ℕ) → First (given (asked_of (ended_of x.reading)) page) x.measures l memory.old text.old memory.new text.new result.session result.len) }
+    ensures bytes { Bytes memory.new × Bytes text.new }
 {
     match asked(ended(x.reading)) {
         Some(Command::Config(m, n, k, t, f)) => {
@@ -179,11 +182,12 @@ fn read(
     post: &mut [u8],
     text: &mut [u8],
 ) -> Answer
-    ensures { ((page : List ℕ) (x : Session) → x.measures ≡ s → x.used ≡ used → Runs x memory.old post.old → Live result.session memory.new post.new page)
+    ensures goes { ((page : List ℕ) (x : Session) → x.measures ≡ s → x.used ≡ used → Runs x memory.old post.old → Live result.session memory.new post.new page)
         × Operates s c (Reads s c used (lend memory.old post.old room.old out.old))
         (desk (lend memory.old post.old room.old out.old) used text.old 0)
         (desk (lend memory.new post.new room.new out.new) result.session.used text.new result.len)
         × (result.session ≡ new_line 1 s result.session.used) }
+    ensures bytes { Bytes memory.new × Bytes room.new × Bytes out.new × Bytes post.new × Bytes text.new }
 {
     let result = reading(s, c, memory, room, post, used);
     let e = settle(s, c, result, memory, room, out, post, text);
@@ -202,11 +206,12 @@ fn put(
     page: &[u8],
     text: &mut [u8],
 ) -> Answer
-    ensures { ((sheet : List ℕ) (x : Session) → x.measures ≡ s → x.used ≡ used → Runs x memory.old post.old → Live result.session memory.new post.new sheet)
+    ensures goes { ((sheet : List ℕ) (x : Session) → x.measures ≡ s → x.used ≡ used → Runs x memory.old post.old → Live result.session memory.new post.new sheet)
         × Operates s c (Deposits s c used (take bytes page.now) (lend memory.old post.old room.old out.old))
         (desk (lend memory.old post.old room.old out.old) used text.old 0)
         (desk (lend memory.new post.new room.new out.new) result.session.used text.new result.len)
         × (result.session ≡ new_line 1 s result.session.used) }
+    ensures bytes { Bytes memory.new × Bytes room.new × Bytes out.new × Bytes post.new × Bytes text.new }
 {
     let n = bytes.min(page.len());
     let result = deposit(s, c, memory, &page[..n], post, used);

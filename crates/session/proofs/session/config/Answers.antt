@@ -8,16 +8,16 @@ use Rattle.session.proofs.LineLaws.{opens-measures, opens_big, opens_scarce, ope
 use Rattle.session.proofs.SessionLaws.{new_live, fresh-runs}
 use Rattle.session.proofs.session.config.Goals as goal
 
-pub returns-then-not-pass : goal.returns-then-not-pass
-returns-then-not-pass c =
+pub returns-then-not-pass-clause-goes : goal.returns-then-not-pass-clause-goes
+returns-then-not-pass-clause-goes c =
     let a = c.refuse.ensures in
     let no = sym c.pass.ensures ∙ c.if-not-pass.true in (
       λ post page. new_live _ _ _ _ _ post page a.next (λ e. absurd (omega arith)),
       replied _ _ _ _ _ _ _ _ _ (opens-measures _ _ _ no) a.line refl refl a.next,
     )
 
-pub returns-then-not-small : goal.returns-then-not-small
-returns-then-not-small c =
+pub returns-then-not-small-clause-goes : goal.returns-then-not-small-clause-goes
+returns-then-not-small-clause-goes c =
     let passing : passes c.args.s ≡ true =
     sym c.pass.ensures ∙ c.if-not-pass.false in
     let a = c.refuse-then-not-small.ensures in
@@ -32,8 +32,8 @@ slices_long-requires c =
     sym c.pass.ensures ∙ c.if-not-pass.false in
     passing
 
-pub returns-then-not-slices_long : goal.returns-then-not-slices_long
-returns-then-not-slices_long c =
+pub returns-then-not-slices_long-clause-goes : goal.returns-then-not-slices_long-clause-goes
+returns-then-not-slices_long-clause-goes c =
     let passing : passes c.args.s ≡ true =
     sym c.pass.ensures ∙ c.if-not-pass.false in
     let fitting : small c.args.s ≡ true =
@@ -44,8 +44,8 @@ returns-then-not-slices_long c =
       replied _ _ _ _ _ _ _ _ _ (opens_scarce _ _ _ passing fitting no) a.line refl refl a.next,
     )
 
-pub returns-in-Err : goal.returns-in-Err
-returns-in-Err c =
+pub returns-in-Err-clause-goes : goal.returns-in-Err-clause-goes
+returns-in-Err-clause-goes c =
     let passing : passes c.args.s ≡ true =
     sym c.pass.ensures ∙ c.if-not-pass.false in
     let fitting : small c.args.s ≡ true =
@@ -60,8 +60,8 @@ returns-in-Err c =
       replied _ _ _ _ _ _ _ _ _ o.0 a.line (f.ensures.1 ∙ o.1) refl a.next,
     )
 
-pub returns-in-Ok : goal.returns-in-Ok
-returns-in-Ok c =
+pub returns-in-Ok-clause-goes : goal.returns-in-Ok-clause-goes
+returns-in-Ok-clause-goes c =
     let passing : passes c.args.s ≡ true =
     sym c.pass.ensures ∙ c.if-not-pass.false in
     let fitting : small c.args.s ≡ true =

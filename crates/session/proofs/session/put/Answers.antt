@@ -7,8 +7,8 @@ use Rattle.session.proofs.LineLaws.{deposits}
 use Rattle.session.proofs.SessionLaws.{new_live, new_same, front_bytes, operation-runs}
 use Rattle.session.proofs.session.put.Goals as goal
 
-pub returns : goal.returns
-returns c =
+pub returns-clause-goes : goal.returns-clause-goes
+returns-clause-goes c =
     let a = c.at_stage.ensures in
     let o = c.deposit-result.ensures in
     let e = c.settle-e.ensures in

@@ -6,8 +6,8 @@ use Rattle.session.proofs.LineLaws.{reads}
 use Rattle.session.proofs.SessionLaws.{new_live, new_same, operation-runs}
 use Rattle.session.proofs.session.read.Goals as goal
 
-pub returns : goal.returns
-returns c =
+pub returns-clause-goes : goal.returns-clause-goes
+returns-clause-goes c =
     let a = c.at_stage.ensures in
     let o = c.reading-result.ensures in
     let e = c.settle-e.ensures in (
