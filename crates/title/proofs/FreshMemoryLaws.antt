@@ -12,7 +12,9 @@ use lib.Seq.{take_at, drop-append-add}
 use Rattle.parties.specs.declared.Measures.{Measures}
 use Rattle.parties.specs.protocol.Format.{write_many}
 use Rattle.parties.specs.protocol.Measures.{passes}
-use Rattle.parties.specs.protocol.Answer.{refuses, serves}
+use Rattle.parties.specs.declared.Refusal.{Refusal}
+use Rattle.parties.specs.records.Answer.{number}
+use Rattle.parties.specs.protocol.Answer.{refuses, serves, refused, waits}
 use Rattle.parties.specs.protocol.Directory.{write_directory, fresh_directory}
 use Rattle.parties.specs.protocol.NodeTable.{write_table}
 use Rattle.parties.specs.protocol.Client.{client_size, write_client, fresh_client}
@@ -51,6 +53,20 @@ module _ (s : Measures) (h : passes s ≡ true) (t : List ℕ) (at to : ℕ) (l 
       let n : to - at ≡ client_size s = omega arith in
       let r = y ∙ client-fresh s h (take (to - at) (drop at t)) (length-lent t at to l ∙ n) in
       splice-back t new at (to - at) (ap length r ∙ client-long s h ∙ sym n) ∙ ap (splice t at) r
+
+-- none of them is refused, since the measures pass and what was lent is long enough: the answer that its writer drops tells nothing
+module _ (s : Measures) (h : passes s ≡ true) (t : List ℕ) (r : Refusal) where
+  pub directory_written : directory_size s ≤ length t → refuses (number r) ≡ (directory_fresh s t).answer → ⊥
+  unfolding directory_fresh
+  directory_written l e = let f : refuses (number r) ≡ serves 0 = e ∙ simp (h, le-leb (directory_size s) (length t) l) in cc
+
+  pub table_written : table_size s ≤ length t → refuses (number r) ≡ (node_fresh s t).answer → ⊥
+  unfolding node_fresh
+  table_written l e = let f : refuses (number r) ≡ serves 0 = e ∙ simp (h, le-leb (table_size s) (length t) l) in cc
+
+  pub record_written : client_size s ≤ length t → refused (number r) ≡ (client_fresh s t).answer → ⊥
+  unfolding client_fresh
+  record_written l e = let f : refused (number r) ≡ waits = e ∙ simp (h, le-leb (client_size s) (length t) l) in cc
 
 -- ---- so many parts
 
